@@ -1,0 +1,13 @@
+-- The checksum of a UBX frame: the 8-bit Fletcher algorithm. u-blox interface description, UBX checksum.
+use Rattle.std.specs.Prelude.{ℕ, ◌+◌, ◌%◌, List, fold}
+use Rattle.ubx_frame.specs.declared.checksum.Sums.{Sums}
+
+-- the byte is added to the first sum, and then the first sum to the second, both modulo 256
+abbrev pub after_byte : Sums → ℕ → Sums
+after_byte sums byte =
+    let a = (sums.a + byte) % 256
+    in record { a = a; b = (sums.b + a) % 256 }
+
+-- both sums begin at 0
+unfoldable pub sums_of : List ℕ → Sums
+sums_of covered = fold after_byte (record { a = 0; b = 0 }) covered

@@ -5,9 +5,27 @@
 #![tactic(auto)]
 
 mod bytes;
+mod civil;
+mod fields;
+mod iso;
 mod no_memory;
+mod numeral;
+mod ratio;
+mod scaled;
 mod stamp;
+#[cfg(test)]
+mod tests;
+mod text;
+mod utc;
 
 pub use bytes::Bytes;
+pub use civil::day_of;
+pub use fields::{le_i32, le_u16, le_u32};
+pub use iso::{iso_text, push_iso};
 pub use no_memory::NoMemory;
+pub use numeral::{Numeral, read_numeral};
+pub use ratio::nearest_ratio;
+pub use scaled::{read_digits, read_magnitude, read_scaled};
 pub use stamp::Stamp;
+pub use text::{push_decimal, push_digits, push_scaled, write_scaled};
+pub use utc::utc_of;

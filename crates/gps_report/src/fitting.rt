@@ -40,7 +40,9 @@ fn is_of_frame(satellite: &Satellite) -> bool
 fn all_fit(satellites: &[Satellite]) -> bool
     ensures { result ≡ list_all is_satellite satellites.now }
 {
-    satellites.iter().all(|s| is_of_sentence(s) || is_of_frame(s))
+    satellites
+        .iter()
+        .all(|s| is_of_sentence(s) || is_of_frame(s))
 }
 
 fn are_ids(ids: &[u32]) -> bool

@@ -2,10 +2,9 @@ ghost use Rattle.std.specs.Prelude.{◌≡◌, ◌∷◌, ◌++◌, [], IfOk, On
 ghost use Rattle.std.specs.Cmp.{partial_equiv_from_equiv};
 ghost use Rattle.std.specs.Cmp.Lexicographic.{nat_list_eq_equiv, pointwise};
 
+use gps_fixed::NoMemory;
 use std::alloc::Global;
 use std::marker::Model;
-
-use gps_fixed::NoMemory;
 
 /// The ids of the satellites that a GSA says are used, in order.
 #[derive(Debug, Drop)]

@@ -4,10 +4,9 @@ ghost use Rattle.std.specs.Cmp.Lexicographic.{nat_list_eq_equiv, pointwise};
 ghost use Rattle.std.specs.List.{list_all};
 ghost use Rattle.gps_report.specs.Name.{is_name_byte, is_name};
 
+use gps_fixed::{Bytes, NoMemory};
 use std::alloc::Global;
 use std::marker::Model;
-
-use gps_fixed::{Bytes, NoMemory};
 
 /// The name of a device: 1 to 64 printable ASCII bytes without space, `"`, `\` and `=`, so that it needs
 /// no escape in JSON and stands before the `=` of a device word.
@@ -103,4 +102,62 @@ impl PartialEq for Name {
 
 impl Eq for Name {
     ghost laws = { nat_list_eq_equiv };
+}
+
+#[cfg(test)]
+mod tests {
+    use super::*;
+    use crate::{CommandFault, Names, Policy};
+    use std::process::Abort;
+    use std::test::Fail;
+
+    fn name(rt: &(impl Abort + Alloc<A = Global>), text: &[u8]) -> Name {
+        Name::of(rt.alloc(), text).expect(rt, "a name")
+    }
+
+    #[test]
+    fn texts_are_names_or_not(rt: HostRuntime) -> Result<(), Fail> {
+        for text in [b"g".as_slice(), b"a;b", b"!~", [b'x'; 64].as_slice()] {
+            assert_eq!(rt; name(&rt, text).as_slice(), text);
+        }
+        for text in [
+            b"".as_slice(),
+            b"a b",
+            b"a\"b",
+            b"a\\b",
+            b"a=b",
+            b"\x7F",
+            [b'x'; 65].as_slice(),
+        ] {
+            assert_eq!(rt; Name::of(rt.alloc(), text).err(), Some(NameFault::BadName));
+        }
+        Ok(())
+    }
+
+    #[test]
+    fn lists_are_names_or_not(rt: HostRuntime) -> Result<(), Fail> {
+        let mut list = Vec::new(rt.alloc());
+        for text in [b"a", b"b", b"c", b"d", b"e", b"f", b"g", b"h"] {
+            list.push(name(&rt, text))?;
+        }
+        assert!(rt; Names::of(list).is_some());
+        let twice = vec![in rt.alloc(); name(&rt, b"a"), name(&rt, b"b"), name(&rt, b"a")]?;
+        assert!(rt; Names::of(twice).is_none());
+        Ok(())
+    }
+
+    #[test]
+    fn a_policy_is_copied(rt: HostRuntime) -> Result<(), Fail> {
+        let policy = Policy {
+            enable: true,
+            json: false,
+            nmea: true,
+            raw: 2,
+            pps: false,
+            device: Some(name(&rt, b"g")),
+        };
+        assert!(rt; policy.copy()? == policy);
+        assert_ne!(rt; CommandFault::Unknown, CommandFault::TooLong);
+        Ok(())
+    }
 }

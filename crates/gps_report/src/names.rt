@@ -3,9 +3,8 @@ ghost use Rattle.std.specs.List.{list_any};
 ghost use Rattle.std.specs.Cmp.Lexicographic.{pointwise};
 ghost use Rattle.gps_report.specs.Name.{are_distinct, are_names};
 
-use std::marker::Model;
-
 use crate::Name;
+use std::marker::Model;
 
 /// The names of the devices, in the order of their numbers: at most eight, no two of them equal.
 #[derive(Debug, Drop)]

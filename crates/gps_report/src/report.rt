@@ -67,3 +67,68 @@ impl Report {
         })
     }
 }
+
+#[cfg(test)]
+mod tests {
+    use super::*;
+    use crate::{Note, NoteKind, PacketKind, Sats, fits};
+    use gps_fixed::Bytes;
+    use std::alloc::Global;
+    use std::test::Fail;
+
+    const AT: Stamp = Stamp {
+        sec: 9_999_999_999,
+        nsec: 999_999_999,
+    };
+
+    fn copied(body: Body) -> Result<Body, NoMemory> {
+        let report = Report { device: 7, body };
+        Ok(report.copy()?.body)
+    }
+
+    #[test]
+    fn packets_are_copied(rt: HostRuntime) -> Result<(), Fail> {
+        let bytes = Bytes::from_slice(rt.alloc(), b"$GP")?;
+        let kind = PacketKind::Nmea;
+        match copied(Body::Packet(Packet {
+            kind,
+            at: AT,
+            bytes,
+        }))? {
+            Body::Packet(packet) => assert_eq!(rt; packet.bytes.as_slice(), b"$GP".as_slice()),
+            _ => return Err(Fail::from("a packet")),
+        }
+        Ok(())
+    }
+
+    #[test]
+    fn skies_are_copied(rt: HostRuntime) -> Result<(), Fail> {
+        let sky = Sky {
+            time: Some(AT),
+            pdop: None,
+            hdop: None,
+            vdop: Some(99),
+            sats: Sats::new(rt.alloc()),
+        };
+        match copied(Body::Sky(sky))? {
+            Body::Sky(sky) => assert_eq!(rt; sky.vdop, Some(99)),
+            _ => return Err(Fail::from("a sky")),
+        }
+        Ok(())
+    }
+
+    fn dated(alloc: Global, day: i32) -> Note {
+        Note {
+            day: Some(day),
+            ..Note::empty(alloc, NoteKind::Zda)
+        }
+    }
+
+    #[test]
+    fn a_note_has_a_known_day(rt: HostRuntime) -> Result<(), Fail> {
+        for (day, fit) in [(-1, false), (0, true), (47_482, true), (47_483, false)] {
+            assert_eq!(rt; fits(&dated(rt.alloc(), day)), fit);
+        }
+        Ok(())
+    }
+}

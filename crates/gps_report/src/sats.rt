@@ -1,8 +1,7 @@
-use std::alloc::Global;
-use std::marker::Model;
-
 use crate::Satellite;
 use gps_fixed::NoMemory;
+use std::alloc::Global;
+use std::marker::Model;
 
 /// Satellites in view, in order.
 #[derive(Debug, Drop)]

@@ -1,11 +1,10 @@
 -- What `shape_of` says stays true under more bytes: a Whole and a No stay, and what is Pending is short.
-use Rattle.std.proofs.Common.{◌≡◌, ℕ, ◌+◌, ◌*◌, ◌<◌, ◌≤◌, Bool, true, false, cond, List, [], ◌∷◌, ◌++◌, length, take, drop, refl, sym, ap, ◌∙◌, subst, arith, length-append, length-drop}
+use Rattle.std.proofs.Common.{◌≡◌, ℕ, ◌+◌, ◌*◌, ◌<◌, ◌≤◌, Bool, true, false, cond, List, [], ◌∷◌, ◌++◌, length, take, drop, refl, sym, ◌∙◌, subst, arith, length-append, length-drop}
 use Rattle.std.specs.Prelude.{nat_lt, ◌==◌}
 use Rattle.std.proofs.lemmas.List.{take-append-le, drop-append-le}
 use Rattle.std.proofs.lemmas.Bool.{ltb-true, ltb-false, le-ltb}
 use Rattle.ubx_frame.specs.declared.frame.Shape.{Shape}
 use Rattle.ubx_frame.specs.declared.frame.Shape.TheVariants.{Whole, Pending, No}
-use Rattle.ubx_frame.specs.Checksum.{sums_of}
 use Rattle.ubx_frame.specs.Scan.{is_right, shape_of_length, shape_behind_sync, shape_behind_first, shape_of}
 
 -- more bytes change nothing
@@ -27,16 +26,16 @@ is_right_stays covered (ck_a ∷ []) more h = absurd (omega arith)
 is_right_stays covered (ck_a ∷ ck_b ∷ ends) more h = refl
 
 settled_right : (len : ℕ) (rest more : List ℕ) → len + 6 ≤ length rest
-  → is_right (take (len + 4) (rest ++ more)) (drop (len + 4) (rest ++ more)) ≡ is_right (take (len + 4) rest) (drop (len + 4) rest)
+    → is_right (take (len + 4) (rest ++ more)) (drop (len + 4) (rest ++ more)) ≡ is_right (take (len + 4) rest) (drop (len + 4) rest)
 settled_right len rest more long =
     let reach : len + 4 ≤ length rest = omega arith in
     rw (take-append-le (len + 4) rest more reach, drop-append-le (len + 4) rest more reach)
     (is_right_stays (take (len + 4) rest) (drop (len + 4) rest) more (omega (arith, length-drop (len + 4) rest)))
 
 settled_known : (len : ℕ) (rest more : List ℕ) (short : Bool) → nat_lt (length rest) (len + 6) ≡ short
-  → IsSettled (cond short Pending (cond (is_right (take (len + 4) rest) (drop (len + 4) rest)) (Whole (len + 8)) No))
-  → cond (nat_lt (length (rest ++ more)) (len + 6)) Pending (cond (is_right (take (len + 4) (rest ++ more)) (drop (len + 4) (rest ++ more))) (Whole (len + 8)) No)
-  ≡ cond short Pending (cond (is_right (take (len + 4) rest) (drop (len + 4) rest)) (Whole (len + 8)) No)
+    → IsSettled (cond short Pending (cond (is_right (take (len + 4) rest) (drop (len + 4) rest)) (Whole (len + 8)) No))
+    → cond (nat_lt (length (rest ++ more)) (len + 6)) Pending (cond (is_right (take (len + 4) (rest ++ more)) (drop (len + 4) (rest ++ more))) (Whole (len + 8)) No)
+    ≡ cond short Pending (cond (is_right (take (len + 4) rest) (drop (len + 4) rest)) (Whole (len + 8)) No)
 settled_known len rest more true is h = absurd h
 settled_known len rest more false is h =
     let long : len + 6 ≤ length rest = ltb-false (length rest) (len + 6) is in
@@ -82,7 +81,7 @@ no_stays bytes more is = settled bytes more (subst IsSettled (sym is) tt) ∙ is
 
 -- the lengths
 fits_known : (len : ℕ) (rest : List ℕ) (wide short right : Bool) → nat_lt 2048 len ≡ wide → nat_lt (length rest) (len + 6) ≡ short
-  → FitsLength (cond wide No (cond short Pending (cond right (Whole (len + 8)) No))) (length rest + 2)
+    → FitsLength (cond wide No (cond short Pending (cond right (Whole (len + 8)) No))) (length rest + 2)
 fits_known len rest true short right is_wide is_short = tt
 fits_known len rest false true right is_wide is_short =
     omega (arith, ltb-false 2048 len is_wide, ltb-true (length rest) (len + 6) is_short)

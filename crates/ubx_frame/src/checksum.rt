@@ -1,8 +1,15 @@
 //! The two sums that end a frame.
+//!
+//! A list may begin like a long frame at each of its bytes, so the sums are made quickly: the bytes are taken as rows of sixteen, whose
+//! columns are added side by side. A byte counts in the second sum once for each byte from it to the end, so sixteen times for each row
+//! behind its own, and in its own row by its place.
 
-ghost use Rattle.std.specs.Prelude.{◌≡◌};
-ghost use Rattle.ubx_frame.specs.Checksum.{sums_of};
+ghost use Rattle.std.specs.Prelude.{◌≡◌, ◌+◌, ◌*◌, ◌%◌, fold};
+ghost use Rattle.std.specs.Simd.Lanes.{sum_l};
+ghost use Rattle.ubx_frame.specs.Checksum.{after_byte, sums_of, weighted};
 ghost use Rattle.ubx_frame.specs.Scan.{is_right};
+
+use std::simd::prelude::*;
 
 /// The two sums of a frame, each modulo 256.
 #[derive(Clone, Copy, PartialEq, Eq)]
@@ -13,14 +20,52 @@ pub struct Sums {
     pub b: u8,
 }
 
+/// How many bytes are added at once.
+const LANES: usize = 16;
+
+/// How often each byte of a row counts in the second sum at the end of that row.
+const WEIGHTS: [u8; LANES] = [16, 15, 14, 13, 12, 11, 10, 9, 8, 7, 6, 5, 4, 3, 2, 1];
+
 /// The sums of the bytes that a frame's checksum covers.
-#[tactic(auto, unfolding(crate::specs::Checksum::sums_of))]
 fn sum_up(covered: &[u8]) -> Sums
     ensures { result ≡ sums_of covered.now }
 {
-    covered.iter().fold(Sums { a: 0, b: 0 }, |sums, byte| {
+    let mut columns = u8x16::splat(0);
+    let mut earlier = u8x16::splat(0);
+    let mut at = 0;
+    while covered.len() - at >= LANES {
+        earlier += columns;
+        columns += u8x16::from_slice(&covered[at..]);
+        at += LANES;
+    }
+    add_each(join(columns, earlier), &covered[at..])
+}
+
+/// The sums of rows, from the sums of their columns and of those after each row but the last.
+fn join(columns: u8x16, earlier: u8x16) -> Sums
+    ensures a { result.a ≡ sum_l columns % 256 }
+    ensures b { result.b ≡ (16 * sum_l earlier + weighted columns) % 256 }
+{
+    let counted = columns * u8x16::from_array(WEIGHTS);
+    Sums {
+        a: columns.reduce_sum(),
+        b: earlier
+            .reduce_sum()
+            .wrapping_mul(16)
+            .wrapping_add(counted.reduce_sum()),
+    }
+}
+
+/// The sums after further bytes, one by one.
+fn add_each(sums: Sums, bytes: &[u8]) -> Sums
+    ensures { result ≡ fold after_byte sums bytes.now }
+{
+    bytes.iter().fold(sums, |sums, byte| {
         let a = sums.a.wrapping_add(*byte);
-        Sums { a, b: sums.b.wrapping_add(a) }
+        Sums {
+            a,
+            b: sums.b.wrapping_add(a),
+        }
     })
 }
 

@@ -1,4 +1,5 @@
-ghost use Rattle.std.specs.Prelude.{◌≡◌, ◌≤◌};
+ghost use Rattle.std.specs.Prelude.{◌≡◌, ℕ, ◌≤◌, ◌↔◌, length, take};
+ghost use Rattle.ubx_frame.specs.Frame.{IsFrame, IsProperPrefix};
 ghost use Rattle.ubx_frame.specs.Scan.{shape_of, shape_behind_sync, shape_of_length};
 
 use crate::checksum::is_right;
@@ -17,10 +18,19 @@ pub enum Shape {
     No,
 }
 
-/// What the list begins with.
-#[tactic(auto, unfolding(crate::specs::Scan::shape_of, crate::specs::Scan::shape_behind_first))]
+/// Whether the list begins with a frame, may still become one, or neither. Takes no memory.
 pub fn frame_at(bytes: &[u8]) -> Shape
     ensures shape { result ≡ shape_of bytes.now }
+    ensures whole { (n : ℕ) → (result ≡ Shape.Whole n) ↔ ((n ≤ length bytes.now) × IsFrame (take n bytes.now)) }
+    ensures pending { (result ≡ Shape.Pending) ↔ IsProperPrefix bytes.now }
+{
+    shape_at(bytes)
+}
+
+/// The same, by its bytes from the first on.
+#[tactic(auto, unfolding(crate::specs::Scan::shape_of, crate::specs::Scan::shape_behind_first))]
+fn shape_at(bytes: &[u8]) -> Shape
+    ensures { result ≡ shape_of bytes.now }
 {
     match bytes {
         [0xB5, 0x62, rest @ ..] => shape_behind_sync(rest),
@@ -35,7 +45,10 @@ fn shape_behind_sync(rest: &[u8]) -> Shape
     ensures { result ≡ shape_behind_sync rest.now }
 {
     match rest {
-        [_, _, low, high, ..] => shape_of_length(usize::from(*low) + 256 * usize::from(*high), rest),
+        [_, _, low, high, ..] => shape_of_length(
+            usize::from(*low) + 256 * usize::from(*high),
+            rest,
+        ),
         _ => Shape::Pending,
     }
 }

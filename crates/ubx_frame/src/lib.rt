@@ -9,4 +9,7 @@ mod frame;
 mod laws;
 
 pub use frame::{Shape, frame_at};
-pub use laws::shapes_are_stable;
+pub use laws::{parts_are_read, shapes_are_stable};
+
+#[cfg(test)]
+mod tests;

@@ -1,0 +1,153 @@
+#!/usr/bin/env python3
+"""Measures `gpsrelay decode` on made inputs, and gpsd's `gpsdecode` on the same bytes where it is installed.
+
+    python3 bench/bench.py [PROGRAM] [ROUNDS]
+
+PROGRAM is the built program (default crates/gpsrelay/out/gpsrelay, which `rt run` leaves). The inputs are made
+by a fixed seed, so they are the same bytes everywhere. For each input the two programs run by turns, ROUNDS
+times (default 3), from a file to /dev/null; the best round counts. Printed: megabytes a second, nanoseconds a
+packet, processor seconds and peak memory, and the ratio where both ran. Only ratios of one run compare programs.
+"""
+import os
+import random
+import shutil
+import struct
+import sys
+import tempfile
+import time
+
+MB = 1_000_000
+
+
+def sentence(body, error=0):
+    total = error
+    for byte in body:
+        total ^= byte
+    return b"$%s*%02X\r\n" % (body, total)
+
+
+def frame(kind, number, payload):
+    inner = bytes([kind, number]) + struct.pack("<H", len(payload)) + payload
+    a = b = 0
+    for byte in inner:
+        a = (a + byte) & 255
+        b = (b + a) & 255
+    return b"\xb5\x62" + inner + bytes([a, b])
+
+
+def nmea_second(rng, t):
+    clock = b"%02d%02d%02d.00" % (t // 3600 % 24, t // 60 % 60, t % 60)
+    date = b"%02d0624" % (1 + t // 86400 % 28)
+    where = b"4807.%05d,N,01131.%05d,E" % (rng.randrange(100_000), rng.randrange(100_000))
+    yield b"GPRMC,%s,A,%s,%d.%03d,084.40,%s,,,A" % (clock, where, rng.randrange(40), rng.randrange(1000), date)
+    yield b"GPVTG,084.40,T,,M,0.500,N,0.926,K,A"
+    yield b"GPGGA,%s,%s,1,08,0.94,545.4,M,46.9,M,," % (clock, where)
+    yield b"GPGSA,A,3,01,02,12,14,15,18,22,25,,,,,1.83,0.94,1.57"
+    for n in range(3):
+        group = b"".join(b",%02d,%02d,%03d,%02d" % (4 * n + k + 1, rng.randrange(91), rng.randrange(360), rng.randrange(50))
+                         for k in range(4))
+        yield b"GPGSV,3,%d,12%s" % (n + 1, group)
+    yield b"GPGLL,%s,%s,A,A" % (where, clock)
+
+
+def nmea(size, error=0):
+    rng, out, t, count = random.Random(1), bytearray(), 0, 0
+    while len(out) < size:
+        for body in nmea_second(rng, t):
+            out += sentence(body, error)
+            count += 1
+        t += 1
+    return bytes(out), count
+
+
+def ubx(size):
+    rng, out, t, count = random.Random(2), bytearray(), 0, 0
+    while len(out) < size:
+        itow = 1000 * t
+        day = 1 + t // 86400 % 28
+        pvt = struct.pack("<IHBBBBBBIiBBBBiiiiIIiiiiiIIHHIihH", itow, 2024, 6, day, t // 3600 % 24, t // 60 % 60, t % 60, 7,
+                          50, rng.randrange(1000), 3, 1, 0, 12, 115_166_667 + rng.randrange(10_000),
+                          481_173_000 + rng.randrange(10_000), 592_300, 545_400, 900, 1_400, 10, 20, -30, 22,
+                          8_440_000, 300, 90_000, 183, 0, 0, 0, 0, 0)
+        sat = struct.pack("<IBBH", itow, 1, 12, 0) + b"".join(
+            struct.pack("<BBBbhhI", 0, n + 1, rng.randrange(50), rng.randrange(91), rng.randrange(360), 0, 8 * (n % 2))
+            for n in range(12))
+        dop = struct.pack("<IHHHHHHH", itow, 200, 183, 90, 157, 94, 60, 70)
+        for message in (frame(1, 7, pvt), frame(1, 0x35, sat), frame(1, 4, dop), frame(1, 0x61, struct.pack("<I", itow))):
+            out += message
+            count += 1
+        t += 1
+    return bytes(out), count
+
+
+def junk(size):
+    return bytes(random.Random(3).randbytes(size)), 0
+
+
+def dollars(size):
+    return b"$" * size, 0
+
+
+def bad_sums(size):
+    return nmea(size, error=1)[0], 0
+
+
+def false_heads(size):
+    return bytes.fromhex("b56200000008") * (size // 6), 0
+
+
+INPUTS = [("nmea, 16 MB", lambda: nmea(16 * MB)), ("ubx, 16 MB", lambda: ubx(16 * MB)),
+          ("junk, 4 MB", lambda: junk(4 * MB)), ("$ without end, 4 MB", lambda: dollars(4 * MB)),
+          ("bad sums, 4 MB", lambda: bad_sums(4 * MB)), ("false frame heads, 4 MB", lambda: false_heads(4 * MB))]
+
+
+def run(command, path):
+    """One run: wall seconds, processor seconds, peak kilobytes, status."""
+    start = time.monotonic()
+    pid = os.fork()
+    if pid == 0:
+        source, sink = os.open(path, os.O_RDONLY), os.open("/dev/null", os.O_WRONLY)
+        os.dup2(source, 0)
+        os.dup2(sink, 1)
+        os.dup2(sink, 2)
+        os.execv(command[0], command)
+    _, status, usage = os.wait4(pid, 0)
+    wall = time.monotonic() - start
+    return wall, usage.ru_utime + usage.ru_stime, usage.ru_maxrss, os.waitstatus_to_exitcode(status)
+
+
+def line(name, best, size, packets):
+    wall, cpu, peak, status = best
+    each = f"{1e9 * wall / packets:7.0f} ns/packet" if packets else " " * 17
+    return f"  {name:<10} {size / MB / wall:8.1f} MB/s {each} {cpu:7.3f} s cpu {peak / 1000:7.1f} MB peak, status {status}"
+
+
+def main():
+    top = os.path.dirname(os.path.dirname(os.path.abspath(__file__)))
+    program = sys.argv[1] if len(sys.argv) > 1 else os.path.join(top, "crates/gpsrelay/out/gpsrelay")
+    rounds = int(sys.argv[2]) if len(sys.argv) > 2 else 3
+    commands = {"gpsrelay": [program, "decode", "--history", "33554432"]}
+    other = shutil.which("gpsdecode") or shutil.which("gpsdecode", path="/usr/bin:/usr/sbin")
+    if other:
+        commands["gpsdecode"] = [other]
+    print(f"{os.cpu_count()} processors; best of {rounds} rounds, programs by turns")
+    with tempfile.TemporaryDirectory() as folder:
+        for name, make in INPUTS:
+            data, packets = make()
+            path = os.path.join(folder, "input")
+            with open(path, "wb") as file:
+                file.write(data)
+            results = {each: [] for each in commands}
+            for _ in range(rounds):
+                for each, command in commands.items():
+                    results[each].append(run(command, path))
+            print(f"{name} ({len(data):,} bytes, {packets:,} packets)")
+            for each in commands:
+                print(line(each, min(results[each]), len(data), packets))
+            if other:
+                ratio = min(results["gpsdecode"])[0] / min(results["gpsrelay"])[0]
+                print(f"  ratio      {ratio:8.1f}")
+
+
+if __name__ == "__main__":
+    main()

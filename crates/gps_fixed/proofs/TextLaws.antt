@@ -1,0 +1,56 @@
+-- Digits of numbers, as they are written one by one.
+use Rattle.std.proofs.Common.{◌≡◌, ℕ, zero, suc, ◌+◌, ◌-◌, ◌/◌, ◌%◌, ◌^◌, ◌<◌, ◌≤◌, refl, sym, ap, ◌∙◌, arith, List, [], ◌∷◌, ◌++◌, length, drop, take, map, append_assoc, zero-add, take_all}
+use Rattle.std.proofs.lemmas.Nat.{div-add-mod'}
+use Rattle.std.proofs.Math.Nat.{mod-lt, div-le_self, one-le-pow, pow-le-pow_right}
+use Rattle.std.proofs.lemmas.List.{map-append}
+use Rattle.std.specs.Fmt.{decimal}
+use Rattle.std.specs.Int.Digits.{digits_of}
+use Rattle.std.proofs.lemmas.Fmt.{decimal_digit, decimal-digits_of}
+use Rattle.std.proofs.lemmas.Int.Digits.{digits_of_step}
+use Rattle.gps_fixed.specs.Text.{digits_in}
+
+-- one more digit behind the others
+pub decimal_more : (n : ℕ) → n < 2 ^ 64 → 10 ≤ n → decimal n ≡ decimal (n / 10) ++ (48 + n % 10) ∷ []
+decimal_more n h ten =
+    let some : 0 < n = omega (arith, ten) in
+    let ten_some : 0 < 10 = omega arith in
+    let front : 0 < n / 10 = omega (arith, ten, div-add-mod' n 10, mod-lt n ten_some) in
+    let small : n / 10 < 2 ^ 64 = omega (arith, h, div-le_self n 10) in
+    decimal-digits_of n some h
+    ∙ (ap (map (λ d. 48 + d)) (digits_of_step 10 n (omega arith) some)
+    ∙ (map-append (λ d. 48 + d) (digits_of 10 (n / 10)) (n % 10 ∷ [])
+    ∙ ap (λ ds. ds ++ (48 + n % 10) ∷ []) (sym (decimal-digits_of (n / 10) front small))))
+
+pub digits_dropped : (j k n : ℕ) → drop j (digits_in (j + k) n) ≡ digits_in k n
+digits_dropped zero k n = ap (λ m. digits_in m n) (zero-add k)
+digits_dropped (suc j) k n =
+    let more : suc j + k ≡ suc (j + k) = omega arith in
+    ap (λ m. drop (suc j) (digits_in m n)) more ∙ digits_dropped j k n
+
+length-digits_in : (k n : ℕ) → length (digits_in k n) ≡ k
+length-digits_in zero n = refl
+length-digits_in (suc k) n = ap suc (length-digits_in k n)
+
+-- the last of nine digits
+pub last_digits : (k n : ℕ) → k ≤ 9 → take (9 - (9 - k)) (drop (9 - k) (digits_in 9 n)) ≡ digits_in k n
+last_digits k n h =
+    let parts : 9 ≡ (9 - k) + k = omega (arith, h) in
+    ap (take (9 - (9 - k))) (ap (λ m. drop (9 - k) (digits_in m n)) parts ∙ digits_dropped (9 - k) k n)
+    ∙ take_all (9 - (9 - k)) (digits_in k n) (omega (arith, h, length-digits_in k n))
+
+pub decimal_one : (n : ℕ) → n < 10 → decimal n ≡ (48 + n) ∷ []
+decimal_one n h = decimal_digit n h
+
+-- a power of ten as a divisor
+pub unit_some : (k unit : ℕ) → unit ≡ 10 ^ k → 0 < unit
+unit_some k unit e = omega (arith, e, one-le-pow k 10 (omega arith))
+
+pub rest_small : (k unit n : ℕ) → unit ≡ 10 ^ k → k ≤ 9 → n % unit < 2 ^ 32
+rest_small k unit n e h =
+    let few = pow-le-pow_right {n = 10} (omega arith) h in
+    omega (arith, e, few, mod-lt n (unit_some k unit e))
+
+-- what a number's text is, given the text of its front and its last digit
+pub written : (n : ℕ) (old front new : List ℕ) → n < 2 ^ 64 → 10 ≤ n → front ≡ old ++ decimal (n / 10) → new ≡ front ++ (48 + n % 10) ∷ [] → new ≡ old ++ decimal n
+written n old front new h ten f e =
+    e ∙ (ap (λ t. t ++ (48 + n % 10) ∷ []) f ∙ (append_assoc old (decimal (n / 10)) ((48 + n % 10) ∷ []) ∙ ap (λ t. old ++ t) (sym (decimal_more n h ten))))

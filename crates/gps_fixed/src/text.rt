@@ -1,0 +1,86 @@
+ghost use Rattle.std.specs.Prelude.{◌≡◌, ◌+◌, ◌%◌, ◌≤◌, ◌++◌, OnOk, IfOk};
+ghost use Rattle.std.specs.Fmt.{decimal};
+ghost use Rattle.gps_fixed.specs.Text.{digits_in, unsigned_text, scaled_text};
+
+use crate::{Bytes, NoMemory};
+use std::alloc::Global;
+
+/// Adds a whole number, in decimal digits without leading zeros.
+#[tactic(auto, using(crate::proofs::TextLaws::decimal_one, crate::proofs::TextLaws::written))]
+pub fn push_decimal(out: &mut Bytes, n: u64) -> Result<(), NoMemory>
+    ensures { OnOk result (out.new ≡ out.old ++ decimal n) }
+{
+    if n < 10 {
+        return out.push(b'0' + n as u8);
+    }
+    push_decimal(out, n / 10)?;
+    out.push(b'0' + (n % 10) as u8)
+}
+
+#[tactic(auto, using(crate::proofs::TextLaws::last_digits))]
+/// Adds the last `count` digits of a number, at most nine, with zeros in front where it has fewer.
+pub fn push_digits(out: &mut Bytes, n: u32, count: u8) -> Result<(), NoMemory>
+    requires { count ≤ 9 }
+    ensures { OnOk result (out.new ≡ out.old ++ digits_in count n) }
+{
+    let nine = nine_digits(n);
+    out.extend_from_slice(&nine[9 - count as usize..])
+}
+
+/// Adds `value / 10^decimals` with exactly so many decimals, 1 to 9: `-` only for a value below zero, no leading zeros.
+pub fn push_scaled(out: &mut Bytes, value: i64, decimals: u8) -> Result<(), NoMemory>
+    requires from { 1 ≤ decimals }
+    requires to { decimals ≤ 9 }
+    ensures { OnOk result (out.new ≡ out.old ++ scaled_text decimals value) }
+{
+    if value < 0 {
+        out.push(b'-')?;
+    }
+    push_unsigned(out, value.unsigned_abs(), decimals)
+}
+
+#[tactic(auto, using(crate::proofs::TextLaws::unit_some, crate::proofs::TextLaws::rest_small))]
+fn push_unsigned(out: &mut Bytes, magnitude: u64, decimals: u8) -> Result<(), NoMemory>
+    requires { decimals ≤ 9 }
+    ensures { OnOk result (out.new ≡ out.old ++ unsigned_text decimals magnitude) }
+{
+    let unit = 10u64.pow(decimals as u32);
+    push_decimal(out, magnitude / unit)?;
+    out.push(b'.')?;
+    push_digits(out, (magnitude % unit) as u32, decimals)
+}
+
+/// The text of [`push_scaled`].
+pub fn write_scaled(alloc: Global, value: i64, decimals: u8) -> Result<Bytes, NoMemory>
+    requires from { 1 ≤ decimals }
+    requires to { decimals ≤ 9 }
+    ensures { IfOk result (λ text. text ≡ scaled_text decimals value) }
+{
+    let mut out = Bytes::new(alloc);
+    out.reserve(24)?;
+    push_scaled(&mut out, value, decimals)?;
+    Ok(out)
+}
+
+/// The last digit of a number.
+pub(crate) fn digit(n: u32) -> u8
+    ensures { result ≡ 48 + n % 10 }
+{
+    b'0' + (n % 10) as u8
+}
+
+fn nine_digits(n: u32) -> [u8; 9]
+    ensures { result ≡ digits_in 9 n }
+{
+    [
+        digit(n / 100_000_000),
+        digit(n / 10_000_000),
+        digit(n / 1_000_000),
+        digit(n / 100_000),
+        digit(n / 10_000),
+        digit(n / 1_000),
+        digit(n / 100),
+        digit(n / 10),
+        digit(n),
+    ]
+}

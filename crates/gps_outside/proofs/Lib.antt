@@ -1,0 +1,5 @@
+pub mod Going
+pub mod Writing
+pub mod Streams
+pub mod Dials
+pub mod Turns

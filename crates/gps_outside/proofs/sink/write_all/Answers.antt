@@ -1,0 +1,10 @@
+use Rattle.std.proofs.Common.{arith}
+use Rattle.gps_outside.proofs.Writing.{written_more, not_empty}
+use Rattle.gps_outside.proofs.sink.write_all.Goals as goal
+
+pub writes-preserved : goal.writes-preserved
+writes-preserved g c = record {
+  bytes = written_more c.in-Wrote.n _ _ _ _ _ c.writes.invariant.bytes c.in-Wrote.ensures.bytes;
+  faults = omega (arith, c.in-Wrote.ensures.faults_stay);
+  empty = λ none. absurd (not_empty c.in-Wrote.n _ _ _ _ c.writes.invariant.bytes c.in-Wrote.ensures.fits none);
+}

@@ -1,0 +1,18 @@
+-- Counts of faults and quiets: what it is that one rose in a call. This project's own.
+use Rattle.std.specs.Prelude.{ℕ, ◌+◌, ◌-◌, ◌^◌, ◌≤◌, min}
+
+-- The count is greater by n or more, or it stands at the greatest value of a u64 or above.
+abbrev pub RoseBy : ℕ → ℕ → ℕ → Type 0
+RoseBy n before now = min (before + n) (2 ^ 64 - 1) ≤ now
+
+abbrev pub Rose : ℕ → ℕ → Type 0
+Rose before now = RoseBy 1 before now
+
+-- a u64 counter after one more: at its greatest value it stays there
+abbrev pub one_more : ℕ → ℕ
+one_more count = min (count + 1) (2 ^ 64 - 1)
+
+-- what a source counts
+pub record Tally : Type 0 where
+  pub faults : ℕ
+  pub quiets : ℕ

@@ -1,0 +1,10 @@
+pub mod Counts
+pub mod Told
+pub mod Reads
+pub mod Writes
+pub mod Ticks
+pub mod Plans
+pub mod ReadPlans
+pub mod WritePlans
+pub mod ClockPlans
+pub mod Turns

@@ -1,0 +1,7 @@
+-- A plan is followed entry by entry. This project's own.
+use Rattle.std.specs.Prelude.{List, [], ◌∷◌, Option, Some, None}
+
+-- the next entry of a plan; none after the plan
+abbrev pub first_of : {X : Type 0} → List X → Option X
+first_of [] = None
+first_of (entry ∷ plan) = Some entry

@@ -1,0 +1,93 @@
+ghost use Rattle.std.specs.Prelude.{◌≡◌, ◌≤◌, ◌<◌, length};
+ghost use Rattle.gps_outside.specs.declared.intake.IntakeStep.{IntakeStep};
+ghost use Rattle.gps_outside.specs.Counts.{Rose};
+ghost use Rattle.gps_outside.specs.Turns.{FitsRoom, GoesOn, Hands, Spends};
+
+use crate::{ReadStep, Source};
+use std::marker::Model;
+
+/// The quiet that ends a reading.
+const LAST_QUIET: u32 = 1_000;
+
+/// What one turn of a reading hands on, or how the reading ends.
+#[derive(Clone, Copy, Debug, PartialEq, Eq)]
+pub enum IntakeStep {
+    /// So many bytes, at least one, stand at the head of the buffer; the reading goes on.
+    Piece(usize),
+    /// Nothing came this time; the reading goes on.
+    Quiet,
+    /// The limit is passed: so many bytes at the head of the buffer, perhaps none, are the last within it, and what came
+    /// behind them was dropped. The reading is over.
+    Last(usize),
+    /// Nothing is left in the source. The reading is over.
+    End,
+    /// The source failed. The reading is over.
+    Failed,
+    /// Nothing came for the thousandth time in this reading, which is over.
+    TooQuiet,
+}
+
+/// A reading of a source to its end, turn by turn: how many bytes it may still take, and how often nothing came.
+///
+/// A loop over its turns ends: each turn that goes on hands on a byte or counts one of at most 1,000 quiets.
+#[derive(Drop)]
+pub struct Intake {
+    room: usize,
+    quiets: u32,
+}
+
+impl Model for Intake {
+    ghost use Rattle.std.specs.Prelude.{◌<◌};
+    ghost use Rattle.gps_outside.specs.Turns.{Budget};
+
+    ghost Value = { Budget };
+
+    ghost view = { λ s. record { room = s.room; quiets = s.quiets } };
+
+    ghost invariant = { λ s. s.quiets < 1000 };
+}
+
+impl Intake {
+    /// A reading of at most `limit` bytes.
+    pub fn new(limit: u32) -> Intake
+        ensures { result ≡ record { room = limit; quiets = 0 } }
+    {
+        Intake {
+            room: limit as usize,
+            quiets: 0,
+        }
+    }
+
+    /// Reads once.
+    pub fn step<S: Source>(&mut self, source: &mut S, buf: &mut [u8]) -> IntakeStep
+        requires { 0 < length buf.old }
+        ensures fits { FitsRoom result (length buf.old) }
+        ensures budget { Spends result self.old self.new }
+        ensures goes_on { GoesOn result self.old self.new }
+        ensures bytes { Hands result buf.new (S.content source.old) (S.content source.new) }
+        ensures faults_stay { S.faults source.old ≤ S.faults source.new }
+        ensures quiets_stay { S.quiets source.old ≤ S.quiets source.new }
+        ensures failed { result ≡ IntakeStep.Failed → Rose (S.faults source.old) (S.faults source.new) }
+        ensures quiet { result ≡ IntakeStep.Quiet → Rose (S.quiets source.old) (S.quiets source.new) }
+        ensures too_quiet { result ≡ IntakeStep.TooQuiet → Rose (S.quiets source.old) (S.quiets source.new) }
+    {
+        match source.read(buf) {
+            ReadStep::Got(n) if n <= self.room => {
+                self.room -= n;
+                IntakeStep::Piece(n)
+            }
+            ReadStep::Got(_) => {
+                let n = self.room;
+                self.room = 0;
+                IntakeStep::Last(n)
+            }
+            ReadStep::Quiet if self.quiets + 1 < LAST_QUIET => {
+                self.quiets += 1;
+                IntakeStep::Quiet
+            }
+            ReadStep::Quiet => IntakeStep::TooQuiet,
+            ReadStep::End => IntakeStep::End,
+            ReadStep::Failed => IntakeStep::Failed,
+        }
+    }
+}

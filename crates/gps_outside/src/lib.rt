@@ -1,0 +1,33 @@
+//! The outside of gpsrelay: where bytes come from, where they go, and what time it is.
+//!
+//! A source, a sink and a clock each have a form in memory, which follows a plan and tells its content, and an
+//! adapter over std, which tells none. Faults and quiets are counted, so that an answer can show its cause.
+#![tactic(auto)]
+
+mod clock;
+mod intake;
+mod memory_clock;
+mod memory_sink;
+mod memory_source;
+mod plan;
+mod real_clock;
+mod real_sink;
+mod real_source;
+mod sink;
+mod source;
+#[cfg(test)]
+mod tests;
+mod whole;
+
+pub use clock::Clock;
+pub use intake::{Intake, IntakeStep};
+pub use memory_clock::MemoryClock;
+pub use memory_sink::MemorySink;
+pub use memory_source::MemorySource;
+pub use plan::{AtEnd, ReadPlan, WritePlan};
+pub use real_clock::RealClock;
+pub use real_sink::RealSink;
+pub use real_source::RealSource;
+pub use sink::{Sink, WriteStep, write_all};
+pub use source::{ReadStep, Source};
+pub use whole::{Ending, read_all};

@@ -1,0 +1,37 @@
+ghost use Rattle.std.specs.Prelude.{◌≡◌, drop};
+ghost use Rattle.std.specs.Vec.Iter.{into_iter_items};
+ghost use Rattle.gps_outside.specs.Plans.{first_of};
+
+use std::vec::IntoIter;
+
+/// What the next read of a source in memory does.
+#[derive(Clone, Copy, Debug, PartialEq, Eq)]
+pub enum ReadPlan {
+    /// Gives at most so many bytes; 0 counts as 1.
+    Give(usize),
+    Quiet,
+    Fail,
+}
+
+/// What an object in memory answers where nothing is left.
+#[derive(Clone, Copy, Debug, PartialEq, Eq)]
+pub enum AtEnd {
+    End,
+    Quiet,
+}
+
+/// What the next write to a sink in memory does.
+#[derive(Clone, Copy, Debug, PartialEq, Eq)]
+pub enum WritePlan {
+    /// Takes at most so many bytes; 0 counts as 1.
+    Take(usize),
+    Fail,
+}
+
+/// Takes the next entry of a plan; none comes after it.
+pub(crate) fn next_entry<T>(plan: &mut IntoIter<T>) -> Option<T>
+    ensures entry { result ≡ first_of (into_iter_items plan.old) }
+    ensures rest { into_iter_items plan.new ≡ drop 1 (into_iter_items plan.old) }
+{
+    plan.next()
+}

@@ -1,0 +1,48 @@
+ghost use Rattle.std.specs.Prelude.{◌≤◌, IfOk};
+ghost use Rattle.gps_outside.specs.Turns.{HasCause, ReadsToEnd};
+
+use crate::{Intake, IntakeStep, Source};
+use gps_fixed::NoMemory;
+use std::alloc::Global;
+
+/// How the reading of a source to its end ended.
+#[derive(Clone, Copy, Debug, PartialEq, Eq)]
+pub enum Ending {
+    /// Nothing is left in the source.
+    AtEnd,
+    /// As many bytes as the limit allows were taken, and one more was read.
+    Full,
+    /// The source failed.
+    Failed,
+    /// Nothing came for the thousandth time.
+    TooQuiet,
+}
+
+/// Reads a source to its end, or to a limit of bytes: the bytes, and how it ended.
+pub fn read_all<S: Source>(
+    alloc: Global,
+    source: &mut S,
+    limit: u32,
+) -> Result<(Vec<u8>, Ending), NoMemory>
+    ensures bytes { IfOk result (λ read. ReadsToEnd read.1 limit read.0.items (S.content source.old) (S.content source.new)) }
+    ensures cause { IfOk result (λ read. HasCause read.1 (S.faults source.old) (S.faults source.new) (S.quiets source.old) (S.quiets source.new)) }
+    ensures faults_stay { S.faults source.old ≤ S.faults source.new }
+    ensures quiets_stay { S.quiets source.old ≤ S.quiets source.new }
+{
+    let mut bytes = Vec::new(alloc);
+    let mut intake = Intake::new(limit);
+    let mut buf = [0u8; 512];
+    'turns: loop {
+        match intake.step(source, &mut buf) {
+            IntakeStep::Piece(n) => bytes.extend_from_slice(&buf[..n])?,
+            IntakeStep::Quiet => {}
+            IntakeStep::Last(n) => {
+                bytes.extend_from_slice(&buf[..n])?;
+                return Ok((bytes, Ending::Full));
+            }
+            IntakeStep::End => return Ok((bytes, Ending::AtEnd)),
+            IntakeStep::Failed => return Ok((bytes, Ending::Failed)),
+            IntakeStep::TooQuiet => return Ok((bytes, Ending::TooQuiet)),
+        }
+    }
+}

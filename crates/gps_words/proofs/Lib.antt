@@ -1,0 +1,4 @@
+pub mod Given
+pub mod NumberTexts
+pub mod Readings
+pub mod Rows

@@ -1,0 +1,4 @@
+pub mod Asked
+pub mod Decode
+pub mod Numbers
+pub mod Options

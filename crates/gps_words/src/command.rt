@@ -1,0 +1,28 @@
+use std::alloc::AllocError;
+
+/// A command with its options.
+#[derive(Clone, Copy, Debug, PartialEq, Eq)]
+pub enum Command {
+    /// Reads device bytes and writes JSON lines; `history` is how many bytes are read at most.
+    Decode { history: u32 },
+}
+
+/// Why words ask for no command.
+#[derive(Clone, Copy, Debug, PartialEq, Eq)]
+pub enum WordsFault {
+    /// The first word is no command or is missing, `clap` finds a fault in the words, or the text of a
+    /// number is not 1 to 10 decimal digits with a value in range.
+    Refused,
+    NoMemory,
+}
+
+impl From<AllocError> for WordsFault {
+    ghost use Rattle.std.specs.Prelude.{◌≡◌};
+    ghost use Rattle.gps_words.specs.declared.command.WordsFault.TheVariants.{NoMemory};
+
+    ghost from_gives = { λ _ fault. fault ≡ NoMemory };
+
+    fn from(_refused: AllocError) -> WordsFault {
+        WordsFault::NoMemory
+    }
+}

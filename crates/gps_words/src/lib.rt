@@ -1,0 +1,12 @@
+//! The words that the program is called with, without its own name: which command they ask for, with which
+//! options. `clap` reads the words of each command, and numbers are 1 to 10 decimal digits in a range.
+#![tactic(auto)]
+
+mod choice;
+mod command;
+mod decode;
+mod numbers;
+mod options;
+
+pub use choice::asked;
+pub use command::{Command, WordsFault};

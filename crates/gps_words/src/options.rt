@@ -1,0 +1,49 @@
+ghost use Rattle.std.specs.Prelude.{◌≡◌, true, false, IfOk, map, string_bytes};
+ghost use Rattle.clap.specs.Faults.{is_simple_and_free};
+ghost use Rattle.clap.specs.Simple.{app_of, matches_of, with_rule};
+ghost use Rattle.clap.specs.Words.{found_of, rows_of};
+ghost use Rattle.gps_words.specs.Options.{are_taken, bare_app, option_rule};
+
+use crate::WordsFault;
+use clap::error::ErrorKind;
+use clap::{Arg, ArgAction, ArgMatches, Command};
+use std::alloc::{AllocError, Global};
+
+/// A command without options.
+pub(crate) fn bare<'a>(alloc: Global, name: &'a str) -> Command<'a>
+    ensures { app_of result ≡ bare_app name.entry.now }
+{
+    Command::new(alloc, name).disable_help_flag(true)
+}
+
+/// The command with one more option, which has a value.
+pub(crate) fn with_option<'a>(
+    command: Command<'a>,
+    alloc: Global,
+    name: &'a str,
+) -> Result<Command<'a>, AllocError>
+    ensures { IfOk result (λ r. app_of r ≡ with_rule (app_of command.entry) (option_rule name.entry.now)) }
+{
+    let option = Arg::new(alloc, name).long(name).action(ArgAction::Set);
+    command.arg(option)
+}
+
+/// What clap reads from a command's words, of which the first is the command's name.
+pub(crate) fn matches_in<'a>(
+    command: Command<'a>,
+    words: &'a [String],
+) -> Result<ArgMatches<'a>, WordsFault>
+    requires { is_simple_and_free (app_of command) ≡ true }
+    ensures taken { IfOk result (λ _. are_taken (app_of command.entry) (map string_bytes words.entry.now) ≡ true) }
+    ensures rows { IfOk result (λ m. rows_of (found_of m) ≡ matches_of (app_of command.entry) (map string_bytes words.entry.now)) }
+    ensures refused { result ≡ Err WordsFault.Refused
+        → are_taken (app_of command.entry) (map string_bytes words.entry.now) ≡ false }
+{
+    match command.try_get_matches_from(words) {
+        Ok(matches) => Ok(matches),
+        Err(error) => match error.kind() {
+            ErrorKind::OutOfMemory => Err(WordsFault::NoMemory),
+            _ => Err(WordsFault::Refused),
+        },
+    }
+}

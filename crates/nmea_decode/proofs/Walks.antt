@@ -1,0 +1,51 @@
+-- Walks over fields: one turn of each loop, and its end.
+use Rattle.std.proofs.Common.{◌≡◌, ℕ, zero, suc, ◌-◌, ◌<◌, refl, sym, ap, ◌∙◌, arith, List, [], ◌∷◌, ◌++◌, Option, append_assoc, append-nil}
+use Rattle.std.specs.Option.{option_to_list}
+use Rattle.gps_report.specs.declared.satellite.Satellite.{Satellite}
+use Rattle.nmea_decode.specs.Fields.{behind, field, skipped}
+use Rattle.nmea_decode.specs.Readings.{id_of}
+use Rattle.nmea_decode.specs.Satellites.{satellite_of, satellites_in, ids_in}
+
+one_less : (k : ℕ) → suc k - 1 ≡ k
+one_less k = omega arith
+
+pub skipped_turn : (n : ℕ) (rest next all : List ℕ) → 0 < n → next ≡ behind rest → skipped n rest ≡ all → skipped (n - 1) next ≡ all
+skipped_turn zero rest next all some step is = absurd (omega (arith, some))
+skipped_turn (suc k) rest next all some step is = ap (λ j. skipped j next) (one_less k) ∙ ap (skipped k) step ∙ is
+
+pub skipped_all : (n : ℕ) (rest all : List ℕ) → n ≡ 0 → skipped n rest ≡ all → rest ≡ all
+skipped_all n rest all done is = ap (λ j. skipped j rest) (sym done) ∙ is
+
+pub groups_turn : (n : ℕ) (system signal : Option ℕ) (rest next : List ℕ) (sats more all : List Satellite)
+    → 0 < n → next ≡ skipped 4 rest → more ≡ sats ++ option_to_list (satellite_of system signal rest)
+    → sats ++ satellites_in n system signal rest ≡ all → more ++ satellites_in (n - 1) system signal next ≡ all
+unfolding satellites_in
+groups_turn zero system signal rest next sats more all some step pushed is = absurd (omega (arith, some))
+groups_turn (suc k) system signal rest next sats more all some step pushed is =
+    ap (λ j. more ++ satellites_in j system signal next) (one_less k)
+    ∙ ap (λ t. more ++ satellites_in k system signal t) step
+    ∙ ap (λ m. m ++ satellites_in k system signal (skipped 4 rest)) pushed
+    ∙ append_assoc sats (option_to_list (satellite_of system signal rest)) (satellites_in k system signal (skipped 4 rest))
+    ∙ is
+
+pub groups_all : (n : ℕ) (system signal : Option ℕ) (rest : List ℕ) (sats all : List Satellite)
+    → n ≡ 0 → sats ++ satellites_in n system signal rest ≡ all → sats ≡ all
+unfolding satellites_in
+groups_all n system signal rest sats all done is =
+    sym (append-nil sats) ∙ ap (λ j. sats ++ satellites_in j system signal rest) (sym done) ∙ is
+
+pub ids_turn : (n : ℕ) (rest next : List ℕ) (ids more all : List ℕ)
+    → 0 < n → next ≡ behind rest → more ≡ ids ++ option_to_list (id_of (field rest))
+    → ids ++ ids_in n rest ≡ all → more ++ ids_in (n - 1) next ≡ all
+unfolding ids_in
+ids_turn zero rest next ids more all some step pushed is = absurd (omega (arith, some))
+ids_turn (suc k) rest next ids more all some step pushed is =
+    ap (λ j. more ++ ids_in j next) (one_less k)
+    ∙ ap (λ t. more ++ ids_in k t) step
+    ∙ ap (λ m. m ++ ids_in k (behind rest)) pushed
+    ∙ append_assoc ids (option_to_list (id_of (field rest))) (ids_in k (behind rest))
+    ∙ is
+
+pub ids_all : (n : ℕ) (rest ids all : List ℕ) → n ≡ 0 → ids ++ ids_in n rest ≡ all → ids ≡ all
+unfolding ids_in
+ids_all n rest ids all done is = sym (append-nil ids) ∙ ap (λ j. ids ++ ids_in j rest) (sym done) ∙ is

@@ -1,0 +1,103 @@
+ghost use Rattle.std.specs.Prelude.{◌≡◌};
+ghost use Rattle.std.specs.List.{list_all};
+ghost use Rattle.nmea_decode.specs.Kinds.{dim_of, is_address, is_upper, kind_named, kind_of, stated_system, talker_system};
+
+use gps_report::NoteKind;
+
+fn is_upper_case(text: &[u8]) -> bool
+    ensures { result ≡ list_all is_upper text.now }
+{
+    text.iter().all(|c| b'A' <= *c && *c <= b'Z')
+}
+
+fn is_read(address: &[u8]) -> bool
+    ensures { result ≡ is_address address.now }
+{
+    address.len() == 5 && is_upper_case(address) && address[0] != b'P'
+}
+
+fn kind_by_name(name: &[u8]) -> NoteKind
+    ensures { result ≡ kind_named name.now }
+{
+    if name == b"RMC".as_slice() {
+        NoteKind::Rmc
+    } else if name == b"GGA".as_slice() {
+        NoteKind::Gga
+    } else if name == b"GSV".as_slice() {
+        NoteKind::Gsv
+    } else if name == b"GSA".as_slice() {
+        NoteKind::Gsa
+    } else if name == b"VTG".as_slice() {
+        NoteKind::Vtg
+    } else if name == b"GLL".as_slice() {
+        NoteKind::Gll
+    } else if name == b"ZDA".as_slice() {
+        NoteKind::Zda
+    } else {
+        NoteKind::Other
+    }
+}
+
+/// The kind that an address names.
+#[tactic(auto, unfolding(crate::specs::Kinds::kind_of))]
+pub(crate) fn kind(address: &[u8]) -> NoteKind
+    ensures { result ≡ kind_of address.now }
+{
+    if is_read(address) {
+        kind_by_name(&address[2..])
+    } else {
+        NoteKind::Other
+    }
+}
+
+/// The system of a talker.
+#[tactic(auto, unfolding(crate::specs::Kinds::talker_system))]
+pub(crate) fn system_of_talker(talker: &[u8]) -> Option<u8>
+    ensures { result ≡ talker_system talker.now }
+{
+    if talker == b"GP".as_slice() {
+        Some(0)
+    } else if talker == b"GL".as_slice() {
+        Some(6)
+    } else if talker == b"GA".as_slice() {
+        Some(2)
+    } else if talker == b"GB".as_slice() {
+        Some(3)
+    } else {
+        None
+    }
+}
+
+/// The system that a GSA states.
+#[tactic(auto, unfolding(crate::specs::Kinds::stated_system))]
+pub(crate) fn system_stated(text: &[u8]) -> Option<u8>
+    ensures { result ≡ stated_system text.now }
+{
+    if text == b"1".as_slice() {
+        Some(0)
+    } else if text == b"2".as_slice() {
+        Some(6)
+    } else if text == b"3".as_slice() {
+        Some(2)
+    } else if text == b"4".as_slice() {
+        Some(3)
+    } else {
+        None
+    }
+}
+
+/// The dimensions of a GSA's fix: 1 none, 2 or 3.
+#[tactic(auto, unfolding(crate::specs::Kinds::dim_of))]
+pub(crate) fn dimensions(text: &[u8]) -> Option<u8>
+    ensures { result ≡ dim_of text.now }
+{
+    if text == b"1".as_slice() {
+        Some(1)
+    } else if text == b"2".as_slice() {
+        Some(2)
+    } else if text == b"3".as_slice() {
+        Some(3)
+    } else {
+        None
+    }
+}

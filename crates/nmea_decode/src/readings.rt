@@ -1,0 +1,208 @@
+ghost use Rattle.std.specs.Prelude.{◌≡◌, ◌*◌, ◌+◌, ◌^◌, ◌<◌, ◌≤◌, IfSome};
+ghost use Rattle.nmea_decode.specs.Readings.{above_nought, azimuth_of, clock, date_from, date_of, dated, day_ns, day_with, days_passed, dilution_of, elevation_of, full_year, height_of, id_of, later_by, long_date_of, number_up_to, plain_number, speed_of, strength_of, IsOfCentury, time_of, tod_of, track_of, up_to, within_right_angle};
+
+use gps_fixed::{day_of, nearest_ratio, read_digits, read_scaled};
+
+const SECOND: u64 = 1_000_000_000;
+
+const DAY: u64 = 86_400 * SECOND;
+
+/// A number of so many decimals, from 0 to `most`.
+#[tactic(auto, unfolding(crate::specs::Readings::number_up_to))]
+fn number(text: &[u8], most: u32, decimals: u8) -> Option<u32>
+    requires { decimals ≤ 9 }
+    ensures number { result ≡ number_up_to most decimals text.now }
+    ensures within { IfSome result (λ n. n ≤ most) }
+{
+    match read_scaled(text, decimals) {
+        Some(n) if n >= 0 && n <= i64::from(most) => Some(n as u32),
+        _ => None,
+    }
+}
+
+/// The id of a satellite, 1..=999.
+#[tactic(auto, unfolding(crate::specs::Readings::id_of))]
+pub(crate) fn id(text: &[u8]) -> Option<u32>
+    ensures id { result ≡ id_of text.now }
+    ensures within { IfSome result (λ n. n ≤ 999) }
+{
+    match number(text, 999, 0) {
+        Some(n) if n > 0 => Some(n),
+        _ => None,
+    }
+}
+
+/// Degrees above the horizon, -90..=90.
+#[tactic(auto, unfolding(crate::specs::Readings::elevation_of))]
+pub(crate) fn elevation(text: &[u8]) -> Option<i32>
+    ensures { result ≡ elevation_of text.now }
+{
+    match read_scaled(text, 0) {
+        Some(n) if -90 <= n && n <= 90 => Some(n as i32),
+        _ => None,
+    }
+}
+
+/// Degrees from true north, 0..=360.
+pub(crate) fn azimuth(text: &[u8]) -> Option<u32>
+    ensures { result ≡ azimuth_of text.now }
+{
+    number(text, 360, 0)
+}
+
+/// Signal strength in dBHz, 0..=99.
+pub(crate) fn strength(text: &[u8]) -> Option<u32>
+    ensures { result ≡ strength_of text.now }
+{
+    number(text, 99, 0)
+}
+
+/// A dilution in hundredths, at most 99.99.
+pub(crate) fn dilution(text: &[u8]) -> Option<u32>
+    ensures { result ≡ dilution_of text.now }
+{
+    number(text, 9_999, 2)
+}
+
+/// A height in millimetres.
+pub(crate) fn height(text: &[u8]) -> Option<i64>
+    ensures { result ≡ height_of text.now }
+{
+    read_scaled(text, 3)
+}
+
+/// A course in 1e-4 degree.
+#[tactic(auto, unfolding(crate::specs::Readings::track_of))]
+pub(crate) fn track(text: &[u8]) -> Option<i64>
+    ensures { result ≡ track_of text.now }
+{
+    match number(text, 3_600_000, 4) {
+        Some(n) => Some(i64::from(n)),
+        None => None,
+    }
+}
+
+/// A speed in knots, as millimetres a second.
+#[tactic(auto, unfolding(crate::specs::Readings::speed_of))]
+pub(crate) fn speed(text: &[u8]) -> Option<i64>
+    ensures { result ≡ speed_of text.now }
+{
+    match number(text, 1_000_000_000, 3) {
+        Some(n) => Some(nearest_ratio(i64::from(n), 463, 900)),
+        None => None,
+    }
+}
+
+/// A time as nanoseconds since the day began; second 60 may pass the day's end.
+fn since_midnight(n: u64) -> Option<u64>
+    requires { n < 10 ^ 15 }
+    ensures time { result ≡ clock n }
+    ensures within { IfSome result (λ t. t < 2 * day_ns) }
+{
+    let seconds = n / SECOND;
+    let h = seconds / 10_000;
+    let m = seconds / 100 % 100;
+    let s = seconds % 100;
+    if h <= 23 && m <= 59 && s <= 60 {
+        Some((h * 3600 + m * 60 + s) * SECOND + n % SECOND)
+    } else {
+        None
+    }
+}
+
+/// The time of a sentence, hhmmss and a fraction.
+#[tactic(auto, unfolding(crate::specs::Readings::time_of))]
+pub(crate) fn time(text: &[u8]) -> Option<u64>
+    ensures time { result ≡ time_of text.now }
+    ensures within { IfSome result (λ t. t < 2 * day_ns) }
+{
+    match read_digits(text, 6, 9) {
+        Some(n) => since_midnight(n),
+        None => None,
+    }
+}
+
+/// Nanoseconds of the day.
+pub(crate) fn tod(time: Option<u64>) -> Option<u64>
+    ensures tod { result ≡ tod_of time }
+    ensures within { IfSome result (λ t. t < day_ns) }
+{
+    match time {
+        Some(time) => Some(time % DAY),
+        None => None,
+    }
+}
+
+/// The day of a date that stands beside a time.
+pub(crate) fn day_beside(time: Option<u64>, day: Option<i32>) -> Option<i32>
+    requires time { IfSome time (λ t. t < 2 * day_ns) }
+    requires day { IfSome day IsOfCentury }
+    ensures { result ≡ day_with time day }
+{
+    let passed = match time {
+        Some(time) => time / DAY,
+        None => 0,
+    };
+    match day {
+        Some(day) => Some(day + passed as i32),
+        None => None,
+    }
+}
+
+/// Exactly so many digits, and nothing else.
+#[tactic(auto, unfolding(crate::specs::Readings::plain_number))]
+fn plain(text: &[u8], count: usize) -> Option<u64>
+    requires { count ≤ 6 }
+    ensures number { result ≡ plain_number count text.now }
+    ensures within { IfSome result (λ n. n < 10 ^ count) }
+{
+    if text.len() == count {
+        read_digits(text, count, 0)
+    } else {
+        None
+    }
+}
+
+/// A year of two digits is of the years 1980 to 2079.
+fn year_of(yy: u64) -> u64
+    requires { yy < 100 }
+    ensures year { result ≡ full_year yy }
+    ensures within { result < 2100 }
+{
+    if 80 <= yy { 1900 + yy } else { 2000 + yy }
+}
+
+#[tactic(auto, using(crate::proofs::Days::day_within))]
+fn date_in(n: u64) -> Option<i32>
+    requires { n < 10 ^ 6 }
+    ensures date { result ≡ dated n }
+    ensures within { IfSome result IsOfCentury }
+{
+    let year = year_of(n % 100);
+    let date = day_of(year as i32, (n / 100 % 100) as u8, (n / 10_000) as u8);
+    date
+}
+
+/// The day of a date ddmmyy, of the years 1980 to 2079.
+#[tactic(auto, unfolding(crate::specs::Readings::date_of))]
+pub(crate) fn date(text: &[u8]) -> Option<i32>
+    ensures date { result ≡ date_of text.now }
+    ensures within { IfSome result IsOfCentury }
+{
+    match plain(text, 6) {
+        Some(n) => date_in(n),
+        None => None,
+    }
+}
+
+/// The day of a date in three fields, with a year of four digits.
+#[tactic(auto, using(crate::proofs::Days::day_within), unfolding(crate::specs::Readings::long_date_of))]
+pub(crate) fn long_date(day: &[u8], month: &[u8], year: &[u8]) -> Option<i32>
+    ensures date { result ≡ long_date_of day.now month.now year.now }
+    ensures within { IfSome result IsOfCentury }
+{
+    match (plain(year, 4), number(month, 12, 0), number(day, 31, 0)) {
+        (Some(year), Some(month), Some(day)) => day_of(year as i32, month as u8, day as u8),
+        _ => None,
+    }
+}

@@ -1,0 +1,5 @@
+mod Lists
+mod Tails
+mod Theorem
+mod Body
+pub mod Stable

@@ -1,0 +1,3 @@
+pub mod EdgeLine
+pub mod Pulse
+pub mod Scan

@@ -1,0 +1,14 @@
+//! Captured pulse edges: their text, and which of them mark a second that the satellites have told.
+//!
+//! An edge has the capture's sequence number and stamp, as the pulse-per-second interface of RFC 2783
+//! hands them out. The text form and the pairing with serial time are this project's own.
+#![tactic(auto)]
+
+mod line;
+mod pulses;
+
+pub use line::edge_of_line;
+pub use pulses::Pulses;
+
+#[cfg(test)]
+mod tests;

@@ -1,0 +1,9 @@
+pub mod Samples
+pub mod Words
+pub mod Running
+pub mod Keeps
+pub mod Storing
+pub mod Writing
+pub mod Stepping
+pub mod Looking
+pub mod Hearing

@@ -1,0 +1,10 @@
+use Rattle.shm_segment.proofs.Stepping.{spent, begins_free}
+use Rattle.shm_segment.proofs.publisher.Publisher.begin.Goals as goal
+
+pub returns-then-self-eq-GREATEST-clause-begins : goal.returns-then-self-eq-GREATEST-clause-begins
+returns-then-self-eq-GREATEST-clause-begins c =
+    spent _ _ _ c.self.view_is c.self.invariant.keeps c.self.invariant.numbers c.in-Idle.is c.if-self-eq-GREATEST.true
+
+pub returns-else-self-eq-GREATEST-clause-begins : goal.returns-else-self-eq-GREATEST-clause-begins
+returns-else-self-eq-GREATEST-clause-begins c =
+    begins_free _ _ _ _ c.self.view_is c.self.invariant.keeps c.self.invariant.numbers c.in-Idle.is c.if-self-eq-GREATEST.false

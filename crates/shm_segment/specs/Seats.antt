@@ -1,0 +1,22 @@
+-- What contracts see of a segment, of a notice and of an account. This project's own.
+use Rattle.std.specs.Prelude.{ℕ, List}
+use Rattle.atomic_table.specs.Seated.{TableId}
+use Rattle.shm_segment.specs.declared.view.Known.{Known}
+use Rattle.shm_segment.specs.declared.view.Load.{Load}
+use Rattle.shm_segment.specs.declared.view.Numbered.{Numbered}
+
+-- which segment it is: its table, and its first number
+pub record SegmentId : Type 0 where
+  pub table : TableId
+  pub first : ℕ
+
+-- a notice: the samples and the number of stores that the publisher had
+pub record Noticed : Type 0 where
+  pub segment : SegmentId
+  pub known : Known
+
+-- an account: the pairs that a monitor had taken, and its loads
+pub record Accounted : Type 0 where
+  pub segment : SegmentId
+  pub taken : List Numbered
+  pub kept : List Load

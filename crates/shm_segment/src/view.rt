@@ -1,0 +1,49 @@
+use crate::sample::Sample;
+use std::collections::LinkedList;
+
+/// What a seat is.
+pub enum Role {
+    Publishes,
+    Notices,
+    Monitors,
+    Accounts,
+    /// What a seat leaves that was joined to another.
+    Spent,
+}
+
+/// Published samples, in order, and a number of stores after which they were known.
+pub struct Known {
+    pub samples: LinkedList<Sample>,
+    pub stores: u64,
+}
+
+/// A sample and its number.
+#[derive(Clone, Copy, Debug, PartialEq, Eq)]
+pub struct Numbered {
+    pub number: u32,
+    pub sample: Sample,
+}
+
+/// A load of a reading: the number of stores that the monitor had been told of before it, the word, and its value.
+pub struct Load {
+    pub told: u64,
+    pub word: u64,
+    pub value: u64,
+}
+
+/// What a seat knows. It exists in proofs alone: no value of it is made.
+pub struct View {
+    pub role: Role,
+    /// The segment's first number.
+    pub first: u32,
+    /// The publisher's list and number of stores; of another seat what it was told of them.
+    pub known: Known,
+    /// What a notice said that is being met.
+    pub met: Known,
+    /// The pairs that a monitor took.
+    pub taken: LinkedList<Numbered>,
+    /// The loads that a monitor made.
+    pub kept: LinkedList<Load>,
+    /// The values that the running reading has loaded.
+    pub reading: LinkedList<u64>,
+}

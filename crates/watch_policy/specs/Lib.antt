@@ -1,0 +1,3 @@
+pub mod Change
+pub mod Policies
+pub mod Selection

@@ -1,0 +1,250 @@
+ghost use Rattle.std.specs.Prelude.{◌≡◌, None, IfOk, IfErr, codes};
+ghost use Rattle.serde_json.specs.Find.{as_bool, get};
+ghost use Rattle.serde_json.specs.View.{view};
+ghost use Rattle.watch_policy.specs.Change.{change_in, device_of, member, raw_of};
+
+use gps_fixed::NoMemory;
+use gps_report::{Name, NameFault};
+use serde_json::Value;
+use std::alloc::Global;
+
+/// What a WATCH object changes. A member that the object leaves out is `None` and keeps its value; an absent
+/// `enable` is true.
+#[derive(Debug, Drop, PartialEq, Eq)]
+pub struct Change {
+    pub enable: bool,
+    pub json: Option<bool>,
+    pub nmea: Option<bool>,
+    /// 0, 1 or 2.
+    pub raw: Option<u8>,
+    pub pps: Option<bool>,
+    /// `Some(None)` clears the device.
+    pub device: Option<Option<Name>>,
+}
+
+/// Why a JSON value gives no [`Change`].
+#[derive(Clone, Copy, Debug, PartialEq, Eq)]
+pub enum ChangeFault {
+    /// The value is no object, or one of its members is there and is not of its kind.
+    BadWatch,
+    NoMemory,
+}
+
+fn flag(value: &Value, key: &str) -> Result<Option<bool>, ChangeFault>
+    ensures ok { IfOk result (λ flag. member as_bool (get key.now (view value.now)) ≡ Some flag) }
+    ensures bad { IfErr result (λ _. member as_bool (get key.now (view value.now)) ≡ None) }
+{
+    match value.get(key) {
+        None => Ok(None),
+        Some(value) => match value.as_bool() {
+            Some(flag) => Ok(Some(flag)),
+            None => Err(ChangeFault::BadWatch),
+        },
+    }
+}
+
+fn raw_level(value: &Value) -> Option<u8>
+    ensures { result ≡ raw_of (view value.now) }
+{
+    match value.as_u64() {
+        Some(0) => Some(0),
+        Some(1) => Some(1),
+        Some(2) => Some(2),
+        _ => None,
+    }
+}
+
+fn raw_member(value: &Value) -> Result<Option<u8>, ChangeFault>
+    ensures ok { IfOk result (λ raw. member raw_of (get (codes "raw") (view value.now)) ≡ Some raw) }
+    ensures bad { IfErr result (λ _. member raw_of (get (codes "raw") (view value.now)) ≡ None) }
+{
+    match value.get("raw") {
+        None => Ok(None),
+        Some(value) => match raw_level(value) {
+            Some(raw) => Ok(Some(raw)),
+            None => Err(ChangeFault::BadWatch),
+        },
+    }
+}
+
+impl From<NameFault> for ChangeFault {
+    ghost use Rattle.std.specs.Prelude.{◌≡◌};
+    ghost use Rattle.watch_policy.specs.Change.{fault_of_name};
+
+    ghost from_gives = { λ fault result. result ≡ fault_of_name fault };
+
+    fn from(fault: NameFault) -> ChangeFault {
+        match fault {
+            NameFault::BadName => ChangeFault::BadWatch,
+            NameFault::NoMemory => ChangeFault::NoMemory,
+        }
+    }
+}
+
+fn device_named(alloc: Global, value: &Value) -> Result<Option<Name>, ChangeFault>
+    ensures ok { IfOk result (λ device. device_of (view value.now) ≡ Some device) }
+    ensures bad { result ≡ Err ChangeFault.BadWatch → device_of (view value.now) ≡ None }
+{
+    match value.as_str() {
+        None => Err(ChangeFault::BadWatch),
+        Some("") => Ok(None),
+        Some(text) => Ok(Some(Name::of(alloc, text.as_bytes())?)),
+    }
+}
+
+fn device_member(alloc: Global, value: &Value) -> Result<Option<Option<Name>>, ChangeFault>
+    ensures ok { IfOk result (λ device. member device_of (get (codes "device") (view value.now)) ≡ Some device) }
+    ensures bad { result ≡ Err ChangeFault.BadWatch
+        → member device_of (get (codes "device") (view value.now)) ≡ None }
+{
+    match value.get("device") {
+        None => Ok(None),
+        Some(value) => Ok(Some(device_named(alloc, value)?)),
+    }
+}
+
+/// What a WATCH object changes. `BadWatch` comes exactly where the value is no object, where `enable`,
+/// `json`, `nmea` or `pps` is there and no truth value, where `raw` is there and not the whole number 0, 1
+/// or 2, or where `device` is there and neither a name nor the empty text. Other members are ignored.
+pub fn change_of(alloc: Global, value: &Value) -> Result<Change, ChangeFault>
+    ensures ok { IfOk result (λ change. change_in (view value.now) ≡ Some change) }
+    ensures bad { result ≡ Err ChangeFault.BadWatch → change_in (view value.now) ≡ None }
+{
+    if !value.is_object() {
+        return Err(ChangeFault::BadWatch);
+    }
+    let enable = flag(value, "enable")?;
+    let json = flag(value, "json")?;
+    let nmea = flag(value, "nmea")?;
+    let raw = raw_member(value)?;
+    let pps = flag(value, "pps")?;
+    let device = device_member(alloc, value)?;
+    Ok(Change {
+        enable: enable.unwrap_or(true),
+        json,
+        nmea,
+        raw,
+        pps,
+        device,
+    })
+}
+
+#[cfg(test)]
+mod tests {
+    use super::*;
+    use std::process::Abort;
+    use std::test::Fail;
+
+    fn change(rt: &(impl Abort + Alloc<A = Global>), text: &str) -> Result<Change, ChangeFault> {
+        let value = Value::from_str(rt.alloc(), text);
+        change_of(rt.alloc(), &value.ok().expect(rt, "JSON"))
+    }
+
+    fn name(rt: &(impl Abort + Alloc<A = Global>), text: &str) -> Name {
+        Name::of(rt.alloc(), text.as_bytes()).expect(rt, "a name")
+    }
+
+    fn unchanged() -> Change {
+        Change {
+            enable: true,
+            json: None,
+            nmea: None,
+            raw: None,
+            pps: None,
+            device: None,
+        }
+    }
+
+    #[test]
+    fn objects_change_their_members(rt: HostRuntime) -> Result<(), Fail> {
+        let table = [
+            ("{}", unchanged()),
+            (r#"{"scaled":true,"timing":1,"split24":null}"#, unchanged()),
+            (
+                r#"{"enable":false}"#,
+                Change {
+                    enable: false,
+                    ..unchanged()
+                },
+            ),
+            (
+                r#"{"json":true,"nmea":false}"#,
+                Change {
+                    json: Some(true),
+                    nmea: Some(false),
+                    ..unchanged()
+                },
+            ),
+            (
+                r#"{"raw":2,"pps":true}"#,
+                Change {
+                    raw: Some(2),
+                    pps: Some(true),
+                    ..unchanged()
+                },
+            ),
+            (
+                r#"{"device":""}"#,
+                Change {
+                    device: Some(None),
+                    ..unchanged()
+                },
+            ),
+            (
+                r#"{"device":"a;b"}"#,
+                Change {
+                    device: Some(Some(name(&rt, "a;b"))),
+                    ..unchanged()
+                },
+            ),
+            (
+                r#"{"device":"\u0067"}"#,
+                Change {
+                    device: Some(Some(name(&rt, "g"))),
+                    ..unchanged()
+                },
+            ),
+            (
+                r#"{"raw":1,"raw":0}"#,
+                Change {
+                    raw: Some(0),
+                    ..unchanged()
+                },
+            ),
+        ];
+        for (text, wanted) in table {
+            assert!(rt; change(&rt, text) == Ok(wanted), "{text}");
+        }
+        Ok(())
+    }
+
+    #[test]
+    fn others_are_refused(rt: HostRuntime) -> Result<(), Fail> {
+        let texts = [
+            "[]",
+            "null",
+            "7",
+            r#""json""#,
+            r#"{"enable":1}"#,
+            r#"{"json":"true"}"#,
+            r#"{"nmea":null}"#,
+            r#"{"pps":[]}"#,
+            r#"{"raw":3}"#,
+            r#"{"raw":-1}"#,
+            r#"{"raw":2.0}"#,
+            r#"{"raw":1e0}"#,
+            r#"{"raw":true}"#,
+            r#"{"raw":null}"#,
+            r#"{"device":null}"#,
+            r#"{"device":1}"#,
+            r#"{"device":"a b"}"#,
+            r#"{"device":"a\"b"}"#,
+            r#"{"device":"a=b"}"#,
+            r#"{"device":"\u00e9"}"#,
+        ];
+        for text in texts {
+            assert!(rt; change(&rt, text) == Err(ChangeFault::BadWatch), "{text}");
+        }
+        Ok(())
+    }
+}

@@ -1,5 +1,5 @@
 -- Counting days one by one from 1970-01-01 gives jiff's day numbers.
-use Rattle.std.proofs.Common.{◌≡◌, ℕ, zero, suc, ◌+◌, ◌≤◌, refl, sym, ap, ◌∙◌, subst, ◌↔◌, Bool, true, false, cond, arith, Option, Some, None, ℤ, pos, negsuc, ◌≤ℤ◌, unsigned_abs, nat_lt}
+use Rattle.std.proofs.Common.{◌≡◌, ℕ, zero, suc, ◌+◌, ◌≤◌, refl, sym, ap, ◌∙◌, subst, ◌↔◌, Bool, true, false, cond, arith, Option, Some, None, ℤ, pos, negsuc, ◌≤ℤ◌, unsigned_abs, nat_lt, IfSome}
 use Rattle.std.proofs.lemmas.Bool.{cond-true}
 use Rattle.std.proofs.lemmas.Bool.Decides.{nat_tests}
 use Rattle.std.proofs.lemmas.Int.{by_lt_z}
@@ -7,6 +7,7 @@ use Rattle.jiff_core.specs.Date.{epoch_day}
 use Rattle.jiff_core.specs.Calendar.{IsCivilDate, days_from_civil, days_in_month}
 use Rattle.jiff_core.proofs.SignedLemmas.{signed_arith}
 use Rattle.jiff_core.proofs.CalendarLemmas.{days_from_civil-day_count, day_count-epoch, day_count-lt_year, days_in_month_bounds}
+use Rattle.jiff_core.proofs.MarchLemmas.{day_count-late, day_count-early}
 use Rattle.jiff_core.proofs.DateLemmas.{days_from_civil-day, days_from_civil-next_month, days_from_civil-next_year, epoch_day_injective}
 use Rattle.jiff_core.proofs.StandardFacts.{known_days}
 use Rattle.jiff_core.specs.declared.civil.date.Date.{Date}
@@ -178,3 +179,31 @@ pub day_number_none : (year : ℤ) (m d : ℕ) → (day_number year m d ≡ None
 day_number_none (pos y) m d =
     (λ e n. unread y m d n (is_receiver_date y m d) refl e, none_left y m d (is_receiver_date y m d) refl)
 day_number_none (negsuc y) m d = (λ h n day. absurd (omega (arith, signed_arith, day.from)), λ h. refl)
+
+-- from 1980-01-01 to 2099-12-31
+first_day : days_from_civil (pos 1979) 12 31 ≡ pos 3_651
+first_day = omega (arith, signed_arith, days_from_civil-day_count (pos 1979) 12 31, day_count-late (pos 1979) 11979 12 31 refl (omega arith) (omega arith) (omega arith))
+
+last_day : days_from_civil (pos 2100) 1 1 ≡ pos 47_482
+last_day = omega (arith, signed_arith, days_from_civil-day_count (pos 2100) 1 1, day_count-early (pos 2100) 12099 1 1 refl (omega arith) (omega arith) (omega arith))
+
+abbrev InRange : Option ℤ → Type 0
+InRange o = IfSome o (λ n. (pos 3_652 ≤ℤ n) × (n ≤ℤ pos 47_481))
+
+receiver_range : (y m d : ℕ) → Receiver y m d → (pos 3_652 ≤ℤ days_from_civil (pos y) m d) × (days_from_civil (pos y) m d ≤ℤ pos 47_481)
+receiver_range y m d r =
+    let before : IsCivilDate (pos 1979) 12 31 = ((omega (arith, signed_arith), omega (arith, signed_arith)), (omega arith, omega arith), (omega arith, omega arith)) in
+    let after_first = day_count-lt_year (pos 1979) 12 31 (pos y) m d before r.from_day (omega (arith, signed_arith, r.from_year)) in
+    let before_last = day_count-lt_year (pos y) m d (pos 2100) 1 1 (civil_date y m d r) (omega arith) (omega (arith, signed_arith, r.to_year)) in
+    let here = days_from_civil-day_count (pos y) m d in (
+      omega (arith, signed_arith, here, first_day, days_from_civil-day_count (pos 1979) 12 31, after_first),
+      omega (arith, signed_arith, here, last_day, days_from_civil-day_count (pos 2100) 1 1, before_last),
+    )
+
+pub day_number_range : (year : ℤ) (m d : ℕ) → InRange (day_number year m d)
+day_number_range (pos y) m d = by_test (is_receiver_date y m d) refl
+  where
+    by_test : (b : Bool) → is_receiver_date y m d ≡ b → InRange (cond b (Some (days_from_civil (pos y) m d)) None)
+    by_test true test = receiver_range y m d (is_receiver y m d test)
+    by_test false test = tt
+day_number_range (negsuc y) m d = tt

@@ -1,5 +1,5 @@
 -- Fixed point numbers as texts: the value times a power of ten. How such a text is read and written is this project's own.
-use Rattle.std.specs.Prelude.{◌≡◌, ℕ, ◌+◌, ◌<◌, Bool, true, false, ◌&&◌, ◌==◌, nat_lt, List, [], ◌∷◌, ◌++◌, length, Option, Some, None, ℤ, pos, neg_ℤ, if◌then◌else◌}
+use Rattle.std.specs.Prelude.{◌≡◌, ℕ, ◌+◌, ◌<◌, Bool, true, false, ◌&&◌, ◌==◌, nat_lt, List, [], ◌∷◌, ◌++◌, length, Option, Some, None, is_none, ℤ, pos, neg_ℤ, if◌then◌else◌}
 use Rattle.std.specs.Option.{option_map, option_and_then, unwrap_or}
 use Rattle.gps_fixed.specs.declared.numeral.Numeral.{Numeral}
 use Rattle.gps_fixed.specs.Numeral.{Parts, AreParts, fraction, spelling, scaled_magnitude, numeral}
@@ -48,3 +48,10 @@ has_whole count n = (n.before == count) && nat_lt 0 (unwrap_or n.behind 1)
 
 unfoldable pub digits_of : ℕ → ℕ → List ℕ → Option ℕ
 digits_of count k text = option_and_then (λ n. magnitude_if (has_whole count n) n) (numeral k text)
+
+-- a text of exactly so many digits and nothing else
+abbrev pub is_whole : ℕ → Numeral → Bool
+is_whole count n = (n.before == count) && is_none n.behind
+
+unfoldable pub whole_of : ℕ → List ℕ → Option ℕ
+whole_of count text = option_and_then (λ n. magnitude_if (is_whole count n) n) (numeral 0 text)

@@ -1,4 +1,4 @@
-ghost use Rattle.std.specs.Prelude.{◌≡◌, ◌↔◌, ℕ, ◌≤◌, Some, None, pos, ◌≤ℤ◌, unsigned_abs, IsTrue};
+ghost use Rattle.std.specs.Prelude.{◌≡◌, ◌↔◌, ℕ, ◌≤◌, Some, None, pos, ◌≤ℤ◌, unsigned_abs, IsTrue, IfSome};
 ghost use Rattle.gps_fixed.specs.Civil.{day_number, IsDayOf, IsReceivable};
 
 use jiff::civil::Date;
@@ -9,6 +9,7 @@ use jiff::civil::Date;
 pub fn day_of(year: i32, month: u8, day: u8) -> Option<i32>
     ensures value { result ≡ day_number year month day }
     ensures exact { (n : ℕ) → (result ≡ Some (pos n)) ↔ IsDayOf year month day n }
+    ensures range { IfSome result (λ n. (pos 3_652 ≤ℤ n) × (n ≤ℤ pos 47_481)) }
     ensures none { (result ≡ None) ↔ ((n : ℕ) → ¬ IsDayOf year month day n) }
 {
     let number = receivable_number(year, month, day);

@@ -25,7 +25,7 @@ pub use iso::{iso_text, push_iso};
 pub use no_memory::NoMemory;
 pub use numeral::{Numeral, read_numeral};
 pub use ratio::nearest_ratio;
-pub use scaled::{read_digits, read_magnitude, read_scaled};
+pub use scaled::{read_digits, read_magnitude, read_scaled, read_whole};
 pub use stamp::Stamp;
 pub use text::{push_decimal, push_digits, push_scaled, write_scaled};
 pub use utc::utc_of;

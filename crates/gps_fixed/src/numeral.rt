@@ -2,7 +2,7 @@ ghost use Rattle.std.specs.Prelude.{◌≡◌, ◌↔◌, ◌^◌, ◌<◌, ◌�
 ghost use Rattle.std.specs.List.{list_all, prefix_len};
 ghost use Rattle.std.specs.Char.{is_ascii_digit};
 ghost use Rattle.gps_fixed.specs.declared.numeral.Numeral.{Numeral};
-ghost use Rattle.gps_fixed.specs.Scaled.{has_digits, has_whole};
+ghost use Rattle.gps_fixed.specs.Scaled.{has_digits, has_whole, is_whole};
 ghost use Rattle.gps_fixed.specs.Numeral.{number, first_digits, numeral_behind, numeral_of, numeral, IsNumeral};
 
 /// A decimal text, read: digits, and behind a point further digits.
@@ -123,5 +123,12 @@ impl Numeral {
         ensures { result ≡ has_whole count self }
     {
         self.before == count && self.behind.unwrap_or(1) > 0
+    }
+
+    /// So many digits stand before the point, and there is no point.
+    pub fn is_whole(self, count: usize) -> bool
+        ensures { result ≡ is_whole count self }
+    {
+        self.before == count && self.behind.is_none()
     }
 }

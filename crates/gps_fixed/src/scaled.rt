@@ -1,6 +1,6 @@
 ghost use Rattle.std.specs.Prelude.{◌≡◌, ◌↔◌, ◌+◌, ◌^◌, ◌<◌, ◌≤◌, ℤ, Some, IfSome};
 ghost use Rattle.std.specs.Option.{option_map};
-ghost use Rattle.gps_fixed.specs.Scaled.{has_minus, without_minus, signed, magnitude, scaled, digits_of, IsScaled};
+ghost use Rattle.gps_fixed.specs.Scaled.{has_minus, without_minus, signed, magnitude, scaled, digits_of, whole_of, IsScaled};
 
 use crate::read_numeral;
 
@@ -61,6 +61,18 @@ pub fn read_digits(text: &[u8], count: usize, decimals: u8) -> Option<u64>
 {
     match read_numeral(text, decimals) {
         Some(numeral) if numeral.has_whole(count) => Some(numeral.magnitude),
+        _ => None,
+    }
+}
+
+/// Reads exactly `count` digits and nothing else.
+#[tactic(auto, unfolding(crate::specs::Scaled::whole_of))]
+pub fn read_whole(text: &[u8], count: usize) -> Option<u64>
+    ensures value { result ≡ whole_of count text.now }
+    ensures small { IfSome result (λ n. n < 10 ^ count) }
+{
+    match read_numeral(text, 0) {
+        Some(numeral) if numeral.is_whole(count) => Some(numeral.magnitude),
         _ => None,
     }
 }

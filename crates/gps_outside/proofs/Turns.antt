@@ -1,12 +1,12 @@
 -- A reading of a source, turn by turn.
-use Rattle.std.proofs.Common.{◌≡◌, ℕ, ◌+◌, ◌-◌, ◌≤◌, ◌<◌, List, [], ◌++◌, Option, Some, None, length, take, drop, sym, ◌∙◌, ap, subst, append_assoc, arith}
+use Rattle.std.proofs.Common.{◌≡◌, ℕ, ◌+◌, ◌-◌, ◌≤◌, ◌<◌, List, [], ◌++◌, Option, Some, None, length, take, drop, sym, ◌∙◌, ap, subst, append_assoc, refl, zero-add, arith}
 use Rattle.std.proofs.lemmas.List.{take-append-drop, take-take, append-nil}
 use Rattle.std.proofs.lemmas.Grind.{common_steps}
 use Rattle.gps_outside.specs.Counts.{Rose}
 use Rattle.gps_outside.specs.Told.{Stream, Goes, Stays, Passes, IsAtEnd, MayLose}
 use Rattle.gps_outside.specs.declared.intake.IntakeStep.TheVariants.{Piece, Quiet, Last, End, Failed, TooQuiet}
 use Rattle.gps_outside.specs.declared.whole.Ending.TheVariants.{AtEnd, Full, Failed as EndsFailed, TooQuiet as EndsTooQuiet}
-use Rattle.gps_outside.specs.Turns.{Budget, FitsRoom, Spends, Hands, HasTaken, PassesMore, TakesAll, TakesSome, ReadsToEnd}
+use Rattle.gps_outside.specs.Turns.{Budget, FitsRoom, Spends, Hands, HasTaken, PassesMore, TakesAll, TakesSome, TakesFirst, ReadsToEnd}
 use Rattle.gps_outside.proofs.Going.{goes_as, goes_on}
 
 -- of a piece that is longer than the room, more than the room's part passes
@@ -23,13 +23,18 @@ passes_more n room buf before after over fits passed =
     (λ x y p. (drop room (take n buf), (some, subst (λ bytes. Passes bytes x y) (sym whole) p)))
     passed
 
-pub taken_none : (limit : ℕ) (now : Option Stream) (quiets : ℕ)
-    → HasTaken limit [] (record { room = limit; quiets = 0 }) now now quiets quiets
-taken_none limit None quiets = record { passed = tt; room = grind (arith, common_steps); quiet = omega arith }
-taken_none limit (Some stream) quiets = record {
-  passed = record { next = grind (arith, common_steps); joins = grind (arith, common_steps) };
-  room = grind (arith, common_steps);
-  quiet = omega arith;
+pub taken_none : (limit : ℕ) (budget : Budget) (now : Option Stream) (quiets : ℕ)
+    → budget ≡ record { room = limit; quiets = 0 }
+    → HasTaken limit [] budget now now quiets quiets
+taken_none limit budget None quiets new = record {
+  passed = tt;
+  room = zero-add budget.room ∙ ap (λ b. b.room) new;
+  quiet = let none : budget.quiets ≡ 0 = ap (λ b. b.quiets) new in omega arith;
+}
+taken_none limit budget (Some stream) quiets new = record {
+  passed = record { next = refl; joins = sym (append-nil stream.taken) };
+  room = zero-add budget.room ∙ ap (λ b. b.room) new;
+  quiet = let none : budget.quiets ≡ 0 = ap (λ b. b.quiets) new in omega arith;
 }
 
 passes_on : (piece more : List ℕ) (x y z : Stream) → Passes piece x y → Passes more y z → Passes (piece ++ more) x z
@@ -112,3 +117,19 @@ ends_too_quiet limit bytes buf b before now after quiets quiets' taken handed = 
   let h = taken.room in omega arith,
   goes_on (Passes bytes) Stays (Passes bytes) before now after (λ x y z p q. subst (Passes bytes x) q p) taken.passed handed,
 )
+
+-- where a reading is given up, its bytes are the first of those that were taken
+pub first_of_piece : (bytes : List ℕ) (before after : Option Stream) → Goes (Passes bytes) before after → Goes (TakesFirst bytes) before after
+first_of_piece bytes before after passed =
+    goes_as (Passes bytes) (TakesFirst bytes) before after
+    (λ x y p. record { next = (y.left, p.next); joins = ([], p.joins ∙ sym (append-nil (x.taken ++ bytes))) })
+    passed
+
+pub first_of_last : (bytes : List ℕ) (before after : Option Stream) → Goes (PassesMore bytes) before after → Goes (TakesFirst bytes) before after
+first_of_last bytes before after passed =
+    goes_as (PassesMore bytes) (TakesFirst bytes) before after
+    (λ x y p. record {
+      next = (p.0 ++ y.left, p.1.1.next ∙ append_assoc bytes p.0 y.left);
+      joins = (p.0, p.1.1.joins ∙ sym (append_assoc x.taken bytes p.0));
+    })
+    passed

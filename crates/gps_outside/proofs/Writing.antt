@@ -62,3 +62,7 @@ pub part_of : (piece more : List ℕ) (before after : Option (List ℕ))
     → Goes (Appends piece) before after → Goes (AppendsPart (piece ++ more)) before after
 part_of piece more before after written =
     goes_as (Appends piece) (AppendsPart (piece ++ more)) before after (λ x y p. (piece, ((more, refl), p))) written
+
+pub appends_none : (now : Option (List ℕ)) → Goes (Appends []) now now
+appends_none None = tt
+appends_none (Some written) = grind (arith, common_steps)

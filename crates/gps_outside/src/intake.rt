@@ -61,7 +61,7 @@ impl Intake {
     /// Reads once.
     pub fn step<S: Source>(&mut self, source: &mut S, buf: &mut [u8]) -> IntakeStep
         requires { 0 < length buf.old }
-        ensures fits { FitsRoom result (length buf.old) }
+        ensures fits { FitsRoom result (length buf.new) }
         ensures budget { Spends result self.old self.new }
         ensures goes_on { GoesOn result self.old self.new }
         ensures bytes { Hands result buf.new (S.content source.old) (S.content source.new) }

@@ -31,8 +31,8 @@ fn decode_in(matches: &ArgMatches) -> Option<Command>
     Some(Command::Decode { history })
 }
 
-#[tactic(auto, using(crate::proofs::Readings::read_is, crate::proofs::Readings::read_refused))]
 /// The words of `decode`, its name among them.
+#[tactic(auto, using(crate::proofs::Readings::read_is, crate::proofs::Readings::read_refused))]
 pub(crate) fn decode(alloc: Global, words: &[String]) -> Result<Command, WordsFault>
     ensures ok { IfOk result (λ command. decode_of (map string_bytes words.now) ≡ Some command) }
     ensures refused { result ≡ Err WordsFault.Refused → decode_of (map string_bytes words.now) ≡ None }

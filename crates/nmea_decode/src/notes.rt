@@ -1,7 +1,7 @@
 ghost use Rattle.std.specs.Prelude.{◌≡◌, ◌==◌, ◌≤◌, IfOk, length};
 ghost use Rattle.std.specs.List.{position_or_len};
 ghost use Rattle.gps_report.specs.Fits.{Fits};
-ghost use Rattle.nmea_frame.specs.Sentence.{body_of, IsSentence};
+ghost use Rattle.nmea_frame.specs.Sentence.{body_of};
 ghost use Rattle.nmea_decode.specs.Notes.{body_note, gga, gll, gsa, gsv, letter_status, note_of_kind, quality_status, rmc, sentence_note, timed, vtg, where_valid, zda};
 
 use crate::fields::{next, skip, split_address};
@@ -236,10 +236,10 @@ fn body(sentence: &[u8]) -> &[u8]
 
 /// What a sentence says. A sentence of a kind that is not read gives a note of kind `Other` with nothing in it.
 ///
-/// The tables of fields are those of NMEA 0183. Every note keeps the ranges that the grouping into epochs asks for.
+/// The `$`, the checksum and the line's end are the framer's to look at: of bytes that are no sentence, what stands up to the first `*` is
+/// read in the same way. The tables of fields are those of NMEA 0183. Every note keeps the ranges that the grouping into epochs asks for.
 #[tactic(auto, using(crate::proofs::Fitting::all_fit), unfolding(crate::specs::Notes::sentence_note))]
 pub fn note_of(alloc: Global, sentence: &[u8]) -> Result<Note, NoMemory>
-    requires { IsSentence sentence.now }
     ensures note { IfOk result (λ note. note ≡ sentence_note sentence.now) }
     ensures fits { IfOk result (λ note. Fits note) }
 {

@@ -1,2 +1,4 @@
 pub mod Fitting
 pub mod Satellites
+pub mod Sums
+pub mod Short

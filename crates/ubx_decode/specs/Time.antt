@@ -1,6 +1,6 @@
 -- The time of a NAV-PVT. u-blox interface description, UBX-NAV-PVT, the fields year to second, valid and nano. That second 60 is the
 -- second after it, and that days outside 1980 to 2099 are not given, is this project's own.
-use Rattle.std.specs.Prelude.{ℕ, ◌+◌, ◌-◌, ◌*◌, ◌/◌, ◌%◌, ◌&&◌, nat_le, if◌then◌else◌, List, slice_index, Option, Some, None, ℤ, pos, unsigned_abs}
+use Rattle.std.specs.Prelude.{◌≡◌, ℕ, suc, ◌+◌, ◌-◌, ◌*◌, ◌/◌, ◌%◌, ◌&&◌, nat_le, if◌then◌else◌, List, slice_index, Option, Some, None, ℤ, pos, negsuc, unsigned_abs}
 use Rattle.gps_fixed.specs.Civil.{day_number}
 use Rattle.gps_fixed.specs.Fields.{u2_at, i4_at}
 use Rattle.ubx_decode.specs.declared.time.DayTime.{DayTime}
@@ -41,3 +41,8 @@ time_of payload =
     (clock (slice_index payload 8) (slice_index payload 9) (slice_index payload 10))
     (fraction (i4_at payload 16))
     else None
+
+-- nothing is lost by carrying: a day's whole nanoseconds and those of the time of day are those of the date and the clock, and the ones added
+abbrev pub IsSum : ℕ → ℕ → ℤ → DayTime → Type 0
+IsSum date clock (pos nano) time = unsigned_abs time.day * day_length + time.tod ≡ date * day_length + clock + nano
+IsSum date clock (negsuc nano) time = unsigned_abs time.day * day_length + time.tod + suc nano ≡ date * day_length + clock

@@ -12,6 +12,7 @@ mod sat;
 mod time;
 
 pub use message::note_of_frame;
+pub use time::times_are_sums;
 
 #[cfg(test)]
 mod tests;

@@ -1,6 +1,5 @@
 ghost use Rattle.std.specs.Prelude.{◌≡◌, ◌+◌, ◌*◌, ◌==◌, length, slice_index, IfOk};
 ghost use Rattle.gps_report.specs.Fits.{Fits};
-ghost use Rattle.ubx_frame.specs.Frame.{IsFrame};
 ghost use Rattle.ubx_decode.specs.Message.{HasItsLength, dop_note, kind_of, note_by_kind, note_of};
 
 use crate::pvt::pvt_note;
@@ -9,15 +8,22 @@ use gps_fixed::{NoMemory, le_u16, le_u32};
 use gps_report::{Note, NoteKind, Tag};
 use std::alloc::Global;
 
+/// The bytes of a frame without a payload.
+const SHORTEST_FRAME: usize = 8;
+
 /// The note of a frame: by its message, with each field in the units of [`Note`].
 ///
 /// A frame of a class, id or payload length that is not read gives a note of kind Other with nothing in it. A field that is not
-/// readable is an absent quantity. `NoMemory` comes only where the satellites of a NAV-SAT found none.
+/// readable is an absent quantity. The sync characters, the length and the checksum are the framer's to look at: of bytes that are no
+/// frame, the same fields are read. `NoMemory` comes only where the satellites of a NAV-SAT found none.
+#[tactic(auto, using(crate::proofs::Short::short_note))]
 pub fn note_of_frame(alloc: Global, frame: &[u8]) -> Result<Note, NoMemory>
-    requires { IsFrame frame.now }
     ensures note { IfOk result (λ note. note ≡ note_of frame.now) }
     ensures fits { IfOk result Fits }
 {
+    if frame.len() < SHORTEST_FRAME {
+        return Ok(Note::empty(alloc, NoteKind::Other));
+    }
     note_of_message(alloc, frame[2], frame[3], &frame[6..frame.len() - 2])
 }
 

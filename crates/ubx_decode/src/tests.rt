@@ -1,9 +1,10 @@
 ghost use Rattle.std.specs.Prelude.{◌+◌, ◌≤◌, length};
 
-use crate::note_of_frame;
+use crate::{note_of_frame, times_are_sums};
 use gps_fixed::NoMemory;
 use gps_report::{Note, NoteKind, Position, Satellite, Tag};
 use std::alloc::{AllocError, Global};
+use std::process::Abort;
 use std::test::Fail;
 use ubx_frame::{Shape, frame_at};
 
@@ -33,6 +34,14 @@ fn frame_of(alloc: Global, class: u8, id: u8, payload: &[u8]) -> Result<Vec<u8>,
     Ok(frame)
 }
 
+/// The note of the frame that begins these bytes.
+fn note_at(rt: &impl Abort, alloc: Global, bytes: &[u8]) -> Result<Note, NoMemory> {
+    match frame_at(bytes) {
+        Shape::Whole(n) => note_of_frame(alloc, &bytes[..n]),
+        _ => panic!(rt; "no frame"),
+    }
+}
+
 /// The note of a frame with this payload.
 fn read(
     rt: &impl Abort,
@@ -42,10 +51,13 @@ fn read(
     payload: &[u8],
 ) -> Result<Note, NoMemory> {
     let frame = frame_of(alloc, class, id, payload)?;
-    match frame_at(frame.as_slice()) {
-        Shape::Whole(n) => note_of_frame(alloc, &frame.as_slice()[..n]),
-        _ => panic!(rt; "no frame"),
-    }
+    note_at(rt, alloc, frame.as_slice())
+}
+
+fn put(payload: &mut [u8], at: usize, bytes: &[u8])
+    requires { at + length bytes.now ≤ length payload.old }
+{
+    payload[at..at + bytes.len()].copy_from_slice(bytes);
 }
 
 /// The note of a NAV-PVT, in which these bytes stand at this place.
@@ -53,7 +65,7 @@ fn pvt(rt: &impl Abort, alloc: Global, at: usize, bytes: &[u8]) -> Result<Note, 
     requires { at + length bytes.now ≤ 92 }
 {
     let mut payload = PVT;
-    payload[at..at + bytes.len()].copy_from_slice(bytes);
+    put(&mut payload, at, bytes);
     read(rt, alloc, 0x01, 0x07, &payload)
 }
 
@@ -97,18 +109,20 @@ fn reads_each_field(rt: HostRuntime) -> Result<(), Fail> {
 }
 
 /// A date, a time, the valid flags and the nanoseconds, as a NAV-PVT has them.
+#[derive(Clone, Copy)]
 struct Clock(u16, [u8; 6], i32);
 
 fn at_clock(rt: &impl Abort, alloc: Global, clock: &Clock) -> Result<Note, NoMemory> {
     let mut payload = PVT;
-    payload[4..6].copy_from_slice(&clock.0.to_le_bytes());
-    payload[6..12].copy_from_slice(&clock.1);
-    payload[16..20].copy_from_slice(&clock.2.to_le_bytes());
+    put(&mut payload, 4, &clock.0.to_le_bytes());
+    put(&mut payload, 6, &clock.1);
+    put(&mut payload, 16, &clock.2.to_le_bytes());
     read(rt, alloc, 0x01, 0x07, &payload)
 }
 
 #[test]
 fn carries_the_time(rt: HostRuntime) -> Result<(), Fail> {
+    times_are_sums();
     let times = [
         (
             Clock(2024, [6, 1, 0, 0, 0, 3], -1),

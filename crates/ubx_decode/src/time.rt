@@ -1,7 +1,7 @@
 //! The time of a NAV-PVT.
 
-ghost use Rattle.std.specs.Prelude.{◌≡◌, ◌<◌, ◌≤◌, ◌*◌, ◌^◌, length, IfSome};
-ghost use Rattle.ubx_decode.specs.Time.{carried, clock, day_length, fraction, joined, time_of};
+ghost use Rattle.std.specs.Prelude.{◌≡◌, ℕ, ◌<◌, ◌≤◌, length, IfSome, Some, ℤ, pos, unsigned_abs};
+ghost use Rattle.ubx_decode.specs.Time.{IsSum, carried, clock, day_length, fraction, joined, time_of};
 
 use crate::fields::{is_set, plus};
 use gps_fixed::{day_of, le_i32, le_u16};
@@ -93,3 +93,10 @@ pub(crate) fn time_of(payload: &[u8]) -> Option<DayTime>
         None
     }
 }
+
+/// A time that is given is the date, the clock and the nanoseconds added up, as a day and nanoseconds of that day.
+#[tactic(auto, using(crate::proofs::Sums::sum_is, crate::proofs::Sums::within_is))]
+pub fn times_are_sums()
+    ensures sum { (date clock : ℕ) (nano : ℤ) (time : DayTime) → unsigned_abs nano ≤ 1_000_000_000 → joined (Some (pos date)) (Some clock) (Some nano) ≡ Some time → IsSum date clock nano time }
+    ensures within { (date since : ℕ) (time : DayTime) → carried date since ≡ Some time → time.tod < day_length }
+{}

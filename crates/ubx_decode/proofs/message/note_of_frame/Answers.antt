@@ -1,10 +1,15 @@
-use Rattle.std.proofs.Common.{◌≡◌, ℕ, ◌-◌, List, length, take, drop, ap, ◌∙◌, subst, arith}
+use Rattle.std.proofs.Common.{◌≡◌, ℕ, ◌-◌, ◌+◌, ◌*◌, ◌<◌, ◌==◌, ◌&&◌, Bool, true, false, cond, refl, sym, List, [], length, take, drop, slice_index, ap, ◌∙◌, subst, arith, lt-ltb}
 use Rattle.std.specs.Prelude.{IfOk}
 use Rattle.std.specs.List.{list_all}
+use Rattle.gps_report.specs.Fits.{Fits}
+use Rattle.gps_report.specs.Note.{empty_note}
 use Rattle.gps_report.specs.declared.note.Note.{Note}
+use Rattle.gps_report.specs.declared.note.NoteKind.{NoteKind}
+use Rattle.gps_report.specs.declared.note.NoteKind.TheVariants.{Other}
 use Rattle.ubx_frame.specs.Frame.{is_byte, class_of, id_of, payload_of}
 use Rattle.ubx_decode.specs.Message.{kind_of, note_by_kind, note_of}
 use Rattle.ubx_decode.proofs.Fitting.{frame_fits, ok_fits}
+use Rattle.ubx_decode.proofs.Short.{short_note, all_bytes}
 use Rattle.ubx_decode.proofs.message.note_of_frame.Goals as goal
 
 -- what lies between the header and the checksum is the payload
@@ -19,6 +24,5 @@ returns-clause-note c =
 
 pub returns-clause-fits : goal.returns-clause-fits
 returns-clause-fits c =
-    let (p, parts, right, is) = c.requires in
     ok_fits c.note_of_message.result (note_of c.args.frame.now) (returns-clause-note c)
-    (frame_fits c.args.frame.now (ap (list_all is_byte) is ∙ parts.bytes))
+    (frame_fits c.args.frame.now (all_bytes c.args.frame.now c.type_inv.frame))

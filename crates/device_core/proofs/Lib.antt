@@ -1,0 +1,4 @@
+pub mod Streams
+pub mod Toffs
+pub mod Taking
+pub mod Devices

@@ -1,0 +1,5 @@
+pub mod Stream
+pub mod Reports
+pub mod Standing
+pub mod Drafts
+pub mod Going

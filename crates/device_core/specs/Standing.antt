@@ -1,0 +1,30 @@
+-- What a device keeps, and for which streams it stands: those of which it keeps what later reports need. This project's own.
+use Rattle.std.specs.Prelude.{ℕ, ◌≡◌, List, Option, reverse}
+use Rattle.gps_report.specs.declared.edge.Edge.{Edge}
+use Rattle.gps_report.specs.declared.edge.Symbol.{Symbol}
+use Rattle.gps_report.specs.declared.fix.Pair.{Pair}
+use Rattle.packet_cut.specs.Packets.{Stamped}
+use Rattle.packet_cut.specs.Standing.{StandsFor as BytesStand}
+use Rattle.epoch_core.specs.Kept.{Kept as KeptEpochs, StandsFor as NotesStand}
+use Rattle.epoch_core.specs.Epochs.{reports}
+use Rattle.pps_edges.specs.Pulse.{StandsFor as EdgesStand}
+use Rattle.device_core.specs.Stream.{bytes_in, edges_in, notes_in}
+use Rattle.device_core.specs.Reports.{last_toff}
+
+-- the bytes that are pending, the running epoch, the last assert edge and the last serial time
+pub record Kept : Type 0 where
+  pub bytes : List Stamped
+  pub epochs : KeptEpochs
+  pub edge : Option Edge
+  pub toff : Option Pair
+
+-- what is kept now, and what was kept before an open draft, where there is one
+pub record Held : Type 0 where
+  pub now : Kept
+  pub back : Option Kept
+
+pub record StandsFor (kept : Kept) (stream : List Symbol) : Type 0 where
+  pub bytes : BytesStand kept.bytes (bytes_in stream)
+  pub notes : NotesStand kept.epochs (notes_in stream)
+  pub edges : EdgesStand kept.edge (reverse (edges_in stream))
+  pub toff : kept.toff ≡ last_toff (reports (notes_in stream))

@@ -1,0 +1,210 @@
+ghost use Rattle.std.specs.Prelude.{◌≡◌, ◌∷◌, ◌++◌, [], Some, None, true, List, IfOk, OnOk, OnErr, option_map, option_to_list};
+ghost use Rattle.gps_report.specs.declared.edge.Symbol.{Symbol as SymbolValue};
+ghost use Rattle.device_core.specs.Stream.{piece};
+ghost use Rattle.device_core.specs.Reports.{Gains, device_close};
+ghost use Rattle.device_core.specs.Standing.{StandsFor};
+ghost use Rattle.device_core.specs.Drafts.{back_or};
+
+use crate::draft::Draft;
+use crate::packets::take_packets;
+use epoch_core::Epochs;
+use gps_fixed::{NoMemory, Stamp};
+use gps_report::{Body, Edge, Pair, Symbol};
+use packet_cut::{Cut, Cutter};
+use pps_edges::Pulses;
+use std::alloc::Global;
+use std::marker::Model;
+use std::mem;
+
+/// One device: what its bytes and edges have come to.
+///
+/// It keeps the bytes that are pending, the running epoch, the last assert edge and the last serial time. A call may be made as a draft,
+/// which changes the device and can be undone without memory until it is settled; each further call settles an open draft first.
+#[derive(Drop)]
+pub struct Device {
+    alloc: Global,
+    cutter: Cutter,
+    epochs: Epochs,
+    pulses: Pulses,
+    toff: Option<Pair>,
+    draft: Option<Draft>,
+}
+
+impl Model for Device {
+    ghost use Rattle.device_core.specs.Standing.{Held};
+    ghost use Rattle.device_core.specs.Drafts.{IsSound, back_of, now_of};
+
+    ghost Value = { Held };
+
+    ghost view = { λ d. record { now = now_of d.draft d.cutter d.epochs.now d.pulses d.toff; back = back_of d.draft d.cutter d.epochs.back d.pulses d.toff } };
+
+    ghost invariant = { λ d. IsSound d.draft d.cutter d.epochs.back d.toff };
+}
+
+impl Device {
+    /// A device that was given nothing yet. Takes no memory.
+    #[tactic(auto, using(crate::proofs::Devices::stands_new))]
+    pub fn new(alloc: Global) -> Device
+        ensures stands { StandsFor result.now [] }
+        ensures settled { result.back ≡ None }
+    {
+        Device {
+            alloc,
+            cutter: Cutter::new(alloc),
+            epochs: Epochs::new(alloc),
+            pulses: Pulses::new(),
+            toff: None,
+            draft: None,
+        }
+    }
+
+    /// Makes an open draft final. Takes no memory.
+    pub fn settle(&mut self)
+        ensures { self.new ≡ record { now = self.old.now; back = None } }
+    {
+        let draft = mem::replace(&mut self.draft, None);
+        if let Some(draft) = draft {
+            let Draft {
+                change,
+                pulses,
+                toff,
+            } = draft;
+            if let Some(change) = change {
+                self.cutter.put(change);
+            }
+            self.epochs.settle();
+            self.pulses = pulses;
+            self.toff = toff;
+        }
+    }
+
+    /// Gives the next piece of bytes, which came at this stamp, as a draft: the reports that the device's reports gain, each packet
+    /// before what it causes.
+    #[tactic(auto, using(crate::proofs::Devices::gains_fed, crate::proofs::Devices::stands_fed))]
+    pub fn draft_feed(&mut self, at: Stamp, bytes: &[u8]) -> Result<Vec<Body>, NoMemory>
+        ensures gains { IfOk result (λ out. (stream : List SymbolValue) → StandsFor self.old.now stream → Gains stream (piece at bytes.now) out.items) }
+        ensures stands { OnOk result ((stream : List SymbolValue) → StandsFor self.old.now stream → StandsFor self.new.now (stream ++ piece at bytes.now)) }
+        ensures back { OnOk result (self.new.back ≡ Some self.old.now) }
+        ensures err { OnErr result (self.new ≡ record { now = self.old.now; back = None }) }
+    {
+        self.settle();
+        let Cut { packets, change } = self.cutter.cut(at, bytes)?;
+        self.epochs.mark();
+        match take_packets(self.alloc, &mut self.epochs, packets, self.toff) {
+            Ok((out, toff)) => {
+                self.draft = Some(Draft {
+                    change: Some(change),
+                    pulses: self.pulses,
+                    toff,
+                });
+                Ok(out)
+            }
+            Err(refused) => {
+                self.epochs.undo();
+                Err(refused)
+            }
+        }
+    }
+
+    /// Takes an open draft back: the device is as it was before it. Takes no memory.
+    pub fn undo(&mut self)
+        ensures { self.new ≡ record { now = back_or self.old; back = None } }
+    {
+        let draft = mem::replace(&mut self.draft, None);
+        if let Some(_draft) = draft {
+            self.epochs.undo();
+        }
+    }
+
+    /// Gives the next pulse edge, as a draft: its pulse, where it has one.
+    #[tactic(auto, using(crate::proofs::Devices::gains_edge, crate::proofs::Devices::stands_edge))]
+    pub fn draft_edge(&mut self, edge: Edge) -> Result<Vec<Body>, NoMemory>
+        ensures gains { IfOk result (λ out. (stream : List SymbolValue) → StandsFor self.old.now stream → Gains stream (Symbol.Edge edge ∷ []) out.items) }
+        ensures stands { OnOk result ((stream : List SymbolValue) → StandsFor self.old.now stream → StandsFor self.new.now (stream ++ Symbol.Edge edge ∷ [])) }
+        ensures back { OnOk result (self.new.back ≡ Some self.old.now) }
+        ensures err { OnErr result (self.new ≡ record { now = self.old.now; back = None }) }
+    {
+        self.settle();
+        let mut pulses = self.pulses;
+        let out = pulse_reported(self.alloc, pulses.take(edge, self.toff))?;
+        self.epochs.mark();
+        self.draft = Some(Draft {
+            change: None,
+            pulses,
+            toff: self.toff,
+        });
+        Ok(out)
+    }
+
+    /// Ends the device, as a draft: the fix and the sky of the epoch that is not closed. What the device stands for after it is left open.
+    pub fn draft_finish(&mut self) -> Result<Vec<Body>, NoMemory>
+        ensures gains { IfOk result (λ out. (stream : List SymbolValue) → StandsFor self.old.now stream → out.items ≡ device_close stream) }
+        ensures back { OnOk result (self.new.back ≡ Some self.old.now) }
+        ensures err { OnErr result (self.new ≡ record { now = self.old.now; back = None }) }
+    {
+        self.settle();
+        self.epochs.mark();
+        match self.epochs.finish() {
+            Ok(out) => {
+                self.draft = Some(Draft {
+                    change: None,
+                    pulses: self.pulses,
+                    toff: self.toff,
+                });
+                Ok(out)
+            }
+            Err(refused) => {
+                self.epochs.undo();
+                Err(refused)
+            }
+        }
+    }
+
+    /// Gives the next piece of bytes, which came at this stamp: the reports that the device's reports gain, each packet before what it
+    /// causes. A refusal leaves what the device keeps as it was.
+    pub fn feed(&mut self, at: Stamp, bytes: &[u8]) -> Result<Vec<Body>, NoMemory>
+        ensures gains { IfOk result (λ out. (stream : List SymbolValue) → StandsFor self.old.now stream → Gains stream (piece at bytes.now) out.items) }
+        ensures stands { OnOk result ((stream : List SymbolValue) → StandsFor self.old.now stream → StandsFor self.new.now (stream ++ piece at bytes.now)) }
+        ensures settled { self.new.back ≡ None }
+        ensures err { OnErr result (self.new.now ≡ self.old.now) }
+    {
+        let out = self.draft_feed(at, bytes)?;
+        self.settle();
+        Ok(out)
+    }
+
+    /// Gives the next pulse edge: its pulse, where it has one. A refusal leaves what the device keeps as it was.
+    pub fn edge(&mut self, edge: Edge) -> Result<Vec<Body>, NoMemory>
+        ensures gains { IfOk result (λ out. (stream : List SymbolValue) → StandsFor self.old.now stream → Gains stream (Symbol.Edge edge ∷ []) out.items) }
+        ensures stands { OnOk result ((stream : List SymbolValue) → StandsFor self.old.now stream → StandsFor self.new.now (stream ++ Symbol.Edge edge ∷ [])) }
+        ensures settled { self.new.back ≡ None }
+        ensures err { OnErr result (self.new.now ≡ self.old.now) }
+    {
+        let out = self.draft_edge(edge)?;
+        self.settle();
+        Ok(out)
+    }
+
+    /// Ends the device: the fix and the sky of the epoch that is not closed. What the device stands for after it is left open.
+    /// A refusal leaves what the device keeps as it was.
+    pub fn finish(&mut self) -> Result<Vec<Body>, NoMemory>
+        ensures gains { IfOk result (λ out. (stream : List SymbolValue) → StandsFor self.old.now stream → out.items ≡ device_close stream) }
+        ensures settled { self.new.back ≡ None }
+        ensures err { OnErr result (self.new.now ≡ self.old.now) }
+    {
+        let out = self.draft_finish()?;
+        self.settle();
+        Ok(out)
+    }
+}
+
+/// The report of a pulse, where there is one.
+fn pulse_reported(alloc: Global, pulse: Option<Pair>) -> Result<Vec<Body>, NoMemory>
+    ensures { IfOk result (λ out. out.items ≡ option_to_list (option_map (λ pair. Body.Pps pair) pulse)) }
+{
+    let mut out = Vec::new(alloc);
+    if let Some(pair) = pulse {
+        out.push(Body::Pps(pair))?;
+    }
+    Ok(out)
+}

@@ -1,0 +1,9 @@
+pub mod Places
+pub mod Added
+pub mod Sameness
+pub mod Counts
+pub mod Firsts
+pub mod Grown
+pub mod Renewed
+pub mod Told
+pub mod Low

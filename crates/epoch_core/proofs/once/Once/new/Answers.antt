@@ -1,0 +1,5 @@
+use Rattle.epoch_core.proofs.Places.{once_nothing}
+use Rattle.epoch_core.proofs.once.Once.new.Goals as goal
+
+pub invariant_of-result : goal.invariant_of-result
+invariant_of-result g c = once_nothing _ _ _ c.new.ensures.items

@@ -1,0 +1,5 @@
+use Rattle.epoch_core.proofs.Places.{once_front}
+use Rattle.epoch_core.proofs.once.Once.truncate.Goals as goal
+
+pub invariant_of-self : goal.invariant_of-self
+invariant_of-self g c = once_front _ _ _ _ _ c.self.invariant c.truncate.ensures.items

@@ -1,0 +1,11 @@
+pub mod Past
+pub mod Days
+pub mod Quantities
+pub mod Fixes
+pub mod Satellites
+pub mod Epochs
+pub mod Kept
+pub mod Steps
+pub mod Keys
+pub mod Tidy
+pub mod Marks

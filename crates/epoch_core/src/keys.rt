@@ -1,0 +1,80 @@
+ghost use Rattle.std.specs.Prelude.{◌≡◌, ◌≤◌};
+ghost use Rattle.epoch_core.specs.Keys.{satellite_key, seen_key, system_place as place_of_system, signal_place as place_of_signal, system_number as number_of_system};
+ghost use Rattle.epoch_core.specs.Satellites.{system_of as named_system};
+
+use crate::once::Keyed;
+use crate::seen::Seen;
+use gps_report::Satellite;
+
+/// So many satellites can be told apart that sentences name: five systems, the absent one among them, 999 numbers and
+/// 17 signals.
+const OF_SENTENCES: u64 = 84_915;
+
+fn system_of(satellite: &Satellite) -> Option<u8>
+    ensures { result ≡ named_system satellite.now }
+{
+    match satellite.gnss {
+        Some((system, _)) => Some(system),
+        None => None,
+    }
+}
+
+fn system_place(system: Option<u8>) -> u64
+    ensures place { result ≡ place_of_system system }
+    ensures few { result ≤ 5 }
+{
+    match system {
+        None => 0,
+        Some(0) => 1,
+        Some(2) => 2,
+        Some(3) => 3,
+        Some(6) => 4,
+        Some(_) => 5,
+    }
+}
+
+fn signal_place(signal: Option<u8>) -> u64
+    ensures place { result ≡ place_of_signal signal }
+    ensures few { result ≤ 256 }
+{
+    match signal {
+        None => 0,
+        Some(signal) => u64::from(signal) + 1,
+    }
+}
+
+fn system_number(system: Option<u8>) -> u64
+    ensures { result ≡ number_of_system system }
+{
+    match system {
+        None => 0,
+        Some(system) => u64::from(system),
+    }
+}
+
+impl Keyed for Satellite {
+    ghost key = { satellite_key };
+
+    #[tactic(auto, unfolding(crate::specs::Keys::satellite_key))]
+    fn key(&self) -> u64 {
+        let prn = u64::from(self.prn);
+        let system = system_of(self);
+        let place = system_place(system);
+        if 1 <= prn && prn <= 999 && place <= 4 {
+            (place * 999 + prn.saturating_sub(1)) * 17 + signal_place(self.signal)
+        } else {
+            let number = system_number(system);
+            OF_SENTENCES + (number * 256 + prn.saturating_sub(100 * number))
+        }
+    }
+}
+
+impl Keyed for Seen {
+    ghost key = { seen_key };
+
+    #[tactic(auto, unfolding(crate::specs::Keys::seen_key))]
+    fn key(&self) -> u64 {
+        let id = u64::from(self.id);
+        system_place(self.system) * 999 + id.saturating_sub(1)
+    }
+}

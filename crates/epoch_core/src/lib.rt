@@ -1,0 +1,20 @@
+//! Epochs: the notes of one receiver, grouped into what it said of one moment, and the reports that come of it.
+//!
+//! A note begins an epoch where its time tag changes or an end of epoch stands before it (this project's own rules).
+//! An epoch gives its serial time, then a fix and a sky once it is closed.
+#![tactic(auto)]
+
+mod days;
+mod epochs;
+mod fixes;
+mod heard;
+mod keys;
+mod mark;
+mod once;
+mod point;
+mod running;
+mod said;
+mod seen;
+
+pub use epochs::Epochs;
+pub use heard::Heard;

@@ -1,0 +1,359 @@
+ghost use Rattle.std.specs.Prelude.{◌≡◌, ◌∷◌, ◌++◌, ◌≤◌, ◌+◌, [], true, cond, is_some, map, length, IfOk, OnOk, OnErr, List, None};
+ghost use Rattle.std.specs.List.{list_all, list_any};
+ghost use Rattle.gps_report.specs.Fits.{Fits, is_tod, is_id, is_satellite, is_named_system, where_given};
+ghost use Rattle.epoch_core.specs.Days.{is_known_day};
+ghost use Rattle.epoch_core.specs.Quantities.{serial_time as serial_time_of, breaks as breaks_from};
+ghost use Rattle.epoch_core.specs.Satellites.{is_used as used_by, marked as marked_by, speaks_of as speaks, is_gsa as gsa, seen_by, seen_in, same_seen, same_satellite, system_of as named_system, same_number as same_numbers};
+ghost use Rattle.epoch_core.specs.Epochs.{is_eoe as eoe, toff_of};
+ghost use Rattle.epoch_core.specs.Fixes.{fix_of as fix_made};
+ghost use Rattle.epoch_core.specs.Kept.{Ran};
+ghost use Rattle.epoch_core.specs.Steps.{all_added, nothing_ran, ran_grown, ran_sky, ran_closing, ran_told};
+ghost use Rattle.epoch_core.specs.Keys.{by_key, seen_key};
+ghost use Rattle.epoch_core.specs.Tidy.{is_seen};
+ghost use Rattle.epoch_core.specs.Marks.{point_of, ran_at};
+
+use crate::fixes::fix_of;
+use crate::once::Once;
+use crate::point::Point;
+use crate::said::{Said, serial_time};
+use crate::seen::Seen;
+use gps_fixed::{NoMemory, Stamp};
+use gps_report::{Body, Note, NoteKind, Pair, Satellite, Sats, Sky, Tag};
+use std::alloc::Global;
+use std::marker::Model;
+
+/// The running epoch: its quantities, and its satellites and used ids, each once.
+#[derive(Debug, Drop)]
+pub struct Running {
+    said: Said,
+    sats: Once<Satellite>,
+    seen: Once<Seen>,
+}
+
+impl Model for Running {
+    ghost use Rattle.epoch_core.specs.Kept.{Ran};
+    ghost use Rattle.epoch_core.specs.Tidy.{IsTidy};
+
+    ghost Value = { Ran };
+
+    ghost view = { λ r. record { said = r.said; sats = r.sats; seen = r.seen } };
+
+    ghost invariant = { λ r. IsTidy r.sats r.seen };
+}
+
+fn is_gsa(kind: NoteKind) -> bool
+    ensures { result ≡ gsa kind }
+{
+    matches!(kind, NoteKind::Gsa)
+}
+
+pub fn is_eoe(kind: NoteKind) -> bool
+    ensures { result ≡ eoe kind }
+{
+    matches!(kind, NoteKind::Eoe)
+}
+
+fn system_of(satellite: &Satellite) -> Option<u8>
+    ensures { result ≡ named_system satellite.now }
+{
+    match satellite.gnss {
+        Some((system, _)) => Some(system),
+        None => None,
+    }
+}
+
+/// The id is the satellite's, and where both name a system, it is the same.
+fn speaks_of(satellite: &Satellite, seen: &Seen) -> bool
+    ensures { result ≡ speaks satellite.now seen.now }
+{
+    let fits = match (seen.system, system_of(satellite)) {
+        (Some(a), Some(b)) => a == b,
+        _ => true,
+    };
+    seen.id == satellite.prn && fits
+}
+
+fn is_seen_used(satellite: &Satellite, seen: &[Seen]) -> bool
+    ensures { result ≡ list_any (speaks satellite.now) seen.now }
+{
+    seen.iter().any(|a| speaks_of(satellite, a))
+}
+
+fn is_used(satellite: &Satellite, seen: &[Seen]) -> bool
+    ensures { result ≡ used_by seen.now satellite.now }
+{
+    satellite.used || is_seen_used(satellite, seen)
+}
+
+/// A satellite of the sky, with its mark.
+#[tactic(auto, unfolding(crate::specs::Satellites::marked))]
+fn marked(satellite: &Satellite, seen: &[Seen]) -> Satellite
+    ensures { result ≡ marked_by seen.now satellite.now }
+{
+    Satellite {
+        used: is_used(satellite, seen),
+        ..*satellite
+    }
+}
+
+fn all_marked(
+    alloc: Global,
+    satellites: &[Satellite],
+    seen: &[Seen],
+) -> Result<Vec<Satellite>, NoMemory>
+    ensures { IfOk result (λ v. v.items ≡ map (marked_by seen.now) satellites.now) }
+{
+    let all = satellites.iter().map(|s| marked(s, seen)).collect(alloc)?;
+    Ok(all)
+}
+
+/// The Toff of an epoch, where the note between the two sayings is the first that has a serial time.
+fn push_toff(out: &mut Vec<Body>, before: &Said, after: &Said) -> Result<(), NoMemory>
+    ensures { OnOk result (out.new.items ≡ out.old.items ++ cond (is_some before.now.stamped) [] (toff_of after.now)) }
+{
+    match (before.stamped, after.stamped) {
+        (None, Some(at)) => {
+            let host = after.first.unwrap_or(at);
+            out.push(Body::Toff(Pair {
+                reference: at,
+                host,
+            }))?;
+            Ok(())
+        }
+        _ => Ok(()),
+    }
+}
+
+/// Adds the satellites of a note. A refusal changes nothing.
+#[tactic(auto, using(crate::proofs::Sameness::sats_added, crate::proofs::Sameness::sats_fit))]
+fn add_satellites(sats: &mut Once<Satellite>, note: &Note) -> Result<(), NoMemory>
+    requires kept { list_all is_satellite sats.old ≡ true }
+    requires fits { Fits note.now }
+    ensures ok { OnOk result (sats.new ≡ all_added same_satellite sats.old note.now.sats) }
+    ensures fits { list_all is_satellite sats.new ≡ true }
+    ensures err { OnErr result (sats.new ≡ sats.old) }
+{
+    sats.add_all(note.sats.as_slice())
+}
+
+/// Adds the ids that a GSA calls used. A refusal changes nothing.
+#[tactic(auto, using(crate::proofs::Sameness::seen_added, crate::proofs::Sameness::seen_fit))]
+fn add_used(seen: &mut Once<Seen>, note: &Note) -> Result<(), NoMemory>
+    requires kept { list_all is_seen seen.old ≡ true }
+    requires fits { Fits note.now }
+    ensures ok { OnOk result (seen.new ≡ all_added same_seen seen.old (seen_in note.now)) }
+    ensures fits { list_all is_seen seen.new ≡ true }
+    ensures err { OnErr result (seen.new ≡ seen.old) }
+{
+    if is_gsa(note.kind) {
+        add_ids(seen, note.used.as_slice(), note.system)
+    } else {
+        Ok(())
+    }
+}
+
+#[tactic(auto, using(crate::proofs::Sameness::ids_next, crate::proofs::Sameness::ids_front))]
+fn add_ids(seen: &mut Once<Seen>, ids: &[u32], system: Option<u8>) -> Result<(), NoMemory>
+    ensures ok { OnOk result (seen.new ≡ all_added (by_key seen_key) seen.old (map (seen_by system) ids.now)) }
+    ensures err { OnErr result (seen.new ≡ seen.old) }
+{
+    let len = seen.len();
+    for id in ids {
+        match seen.add(Seen { id: *id, system }) {
+            Ok(()) => {}
+            Err(refused) => {
+                seen.truncate(len);
+                return Err(refused);
+            }
+        }
+    }
+    Ok(())
+}
+
+/// Adds the satellites and the used ids of a note. A refusal changes nothing.
+#[tactic(auto, using(crate::proofs::Added::added_front))]
+fn add_lists(sats: &mut Once<Satellite>, seen: &mut Once<Seen>, note: &Note) -> Result<(), NoMemory>
+    requires sats { list_all is_satellite sats.old ≡ true }
+    requires seen { list_all is_seen seen.old ≡ true }
+    requires fits { Fits note.now }
+    ensures sats { OnOk result (sats.new ≡ all_added same_satellite sats.old note.now.sats) }
+    ensures seen { OnOk result (seen.new ≡ all_added same_seen seen.old (seen_in note.now)) }
+    ensures sats_fit { list_all is_satellite sats.new ≡ true }
+    ensures seen_fit { list_all is_seen seen.new ≡ true }
+    ensures sats_err { OnErr result (sats.new ≡ sats.old) }
+    ensures seen_err { OnErr result (seen.new ≡ seen.old) }
+{
+    let len = sats.len();
+    add_satellites(sats, note)?;
+    match add_used(seen, note) {
+        Ok(()) => Ok(()),
+        Err(refused) => {
+            sats.truncate(len);
+            Err(refused)
+        }
+    }
+}
+
+impl Running {
+    /// No epoch runs. Takes no memory.
+    #[tactic(auto, unfolding(crate::specs::Steps::nothing_ran))]
+    pub fn new(alloc: Global) -> Running
+        ensures { result ≡ nothing_ran }
+    {
+        Running {
+            said: Said::nothing(),
+            sats: Once::new(alloc),
+            seen: Once::new(alloc),
+        }
+    }
+
+    /// Whether a note with this tag begins another epoch.
+    pub fn is_broken_by(&self, tag: Option<Tag>) -> bool
+        ensures { result ≡ breaks_from tag self.now.said }
+    {
+        self.said.breaks(tag)
+    }
+
+    pub fn point(&self) -> Point
+        ensures { result ≡ point_of self.now }
+    {
+        Point {
+            said: self.said,
+            sats: self.sats.len(),
+            seen: self.seen.len(),
+        }
+    }
+
+    /// Goes back to what the epoch was at the point.
+    #[tactic(auto, using(crate::proofs::Sameness::all_fit_front))]
+    pub fn undo(&mut self, point: &Point)
+        ensures { self.new ≡ ran_at point.now self.old }
+    {
+        self.sats.truncate(point.sats);
+        self.seen.truncate(point.seen);
+        self.said = point.said;
+    }
+
+    /// One more note of this epoch. A refusal changes nothing.
+    #[tactic(auto, unfolding(crate::specs::Steps::ran_grown))]
+    pub fn grow(&mut self, note: &Note, first: Stamp, day: Option<u32>) -> Result<(), NoMemory>
+        requires fits { Fits note.now }
+        requires day { where_given is_known_day day ≡ true }
+        ensures ok { OnOk result (self.new ≡ ran_grown self.old (record { note = note.now; first = first; day = day })) }
+        ensures err { OnErr result (self.new ≡ self.old) }
+    {
+        add_lists(&mut self.sats, &mut self.seen, note)?;
+        self.said = self.said.grown(note, first, serial_time(note.tod, day));
+        Ok(())
+    }
+
+    #[tactic(auto, unfolding(crate::specs::Steps::ran_sky))]
+    fn sky(&self, alloc: Global) -> Result<Sky, NoMemory>
+        ensures { IfOk result (λ sky. sky ≡ ran_sky self.now) }
+    {
+        let sats = all_marked(alloc, self.sats.as_slice(), self.seen.as_slice())?;
+        Ok(Sky {
+            time: self.said.time,
+            pdop: self.said.pdop,
+            hdop: self.said.hdop,
+            vdop: self.said.vdop,
+            sats: Sats::from_vec(sats),
+        })
+    }
+
+    fn push_tpv(&self, out: &mut Vec<Body>) -> Result<(), NoMemory>
+        ensures { OnOk result (out.new.items ≡ out.old.items ++ cond self.now.said.has_fix (Body.Tpv (fix_made self.now.said) ∷ []) []) }
+    {
+        if self.said.has_fix {
+            out.push(Body::Tpv(fix_of(&self.said)))?;
+        }
+        Ok(())
+    }
+
+    fn push_sky(&self, alloc: Global, out: &mut Vec<Body>) -> Result<(), NoMemory>
+        ensures { OnOk result (out.new.items ≡ out.old.items ++ cond self.now.said.has_sky (Body.Sky (ran_sky self.now) ∷ []) []) }
+    {
+        if self.said.has_sky {
+            let sky = self.sky(alloc)?;
+            out.push(Body::Sky(sky))?;
+        }
+        Ok(())
+    }
+
+    /// The Tpv and the Sky of the epoch, as it closes.
+    #[tactic(auto, unfolding(crate::specs::Steps::ran_closing))]
+    pub fn close(&self, alloc: Global, out: &mut Vec<Body>) -> Result<(), NoMemory>
+        ensures { OnOk result (out.new.items ≡ out.old.items ++ ran_closing self.now) }
+    {
+        self.push_tpv(out)?;
+        self.push_sky(alloc, out)
+    }
+
+    /// One more note of this epoch, and what it tells: a Toff, and the closing where the note ends the epoch.
+    /// A refusal changes nothing but `out`.
+    #[tactic(auto, unfolding(crate::specs::Steps::ran_told, crate::specs::Steps::toff_told, crate::specs::Steps::ran_grown), using(crate::proofs::Grown::grown_back))]
+    pub fn tell(
+        &mut self,
+        alloc: Global,
+        note: &Note,
+        first: Stamp,
+        day: Option<u32>,
+        out: &mut Vec<Body>,
+    ) -> Result<(), NoMemory>
+        requires fits { Fits note.now }
+        requires day { where_given is_known_day day ≡ true }
+        ensures ok { OnOk result (self.new ≡ ran_grown self.old (record { note = note.now; first = first; day = day })) }
+        ensures told { OnOk result (out.new.items ≡ out.old.items ++ ran_told self.old (record { note = note.now; first = first; day = day })) }
+        ensures err { OnErr result (self.new ≡ self.old) }
+    {
+        let before = self.point();
+        self.grow(note, first, day)?;
+        match self.push_told(alloc, &before.said, note.kind, out) {
+            Ok(()) => Ok(()),
+            Err(refused) => {
+                self.undo(&before);
+                Err(refused)
+            }
+        }
+    }
+
+    fn push_told(
+        &self,
+        alloc: Global,
+        before: &Said,
+        kind: NoteKind,
+        out: &mut Vec<Body>,
+    ) -> Result<(), NoMemory>
+        ensures { OnOk result (out.new.items ≡ out.old.items ++ (cond (is_some before.now.stamped) [] (toff_of self.now.said) ++ cond (eoe kind) (ran_closing self.now) [])) }
+    {
+        push_toff(out, before, &self.said)?;
+        if is_eoe(kind) {
+            self.close(alloc, out)
+        } else {
+            Ok(())
+        }
+    }
+
+    pub fn copy(&self, alloc: Global) -> Result<Running, NoMemory>
+        ensures { IfOk result (λ r. r ≡ self.now) }
+    {
+        let sats = self.sats.copy(alloc)?;
+        let seen = self.seen.copy(alloc)?;
+        Ok(Running {
+            said: self.said,
+            sats,
+            seen,
+        })
+    }
+
+    /// The number of satellites and used ids.
+    #[tactic(auto, using(crate::proofs::Counts::few_kept))]
+    pub fn kept(&self) -> u32
+        ensures exact { result ≡ length self.now.sats + length self.now.seen }
+        ensures bound { result ≤ 155_446 }
+    {
+        let sats = self.sats.len();
+        let seen = self.seen.len();
+        (sats + seen) as u32
+    }
+}

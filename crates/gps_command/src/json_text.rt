@@ -1,0 +1,27 @@
+ghost use Rattle.std.specs.Prelude.{◌≡◌, None, IfOk};
+ghost use Rattle.gps_report.specs.declared.policy.CommandFault.{CommandFault};
+ghost use Rattle.gps_command.specs.Commands.{json_of};
+ghost use Rattle.serde_json.specs.View.{view};
+
+use crate::ReadFault;
+use gps_report::CommandFault;
+use serde_json::Value;
+use std::alloc::Global;
+
+/// The value of a JSON text.
+#[tactic(auto, using(crate::proofs::JsonTexts::utf8_holds, crate::proofs::JsonTexts::utf8_tested))]
+pub(crate) fn value_of(alloc: Global, text: &[u8]) -> Result<Value, ReadFault>
+    ensures ok { IfOk result (λ value. json_of text.now ≡ Some (view value)) }
+    ensures fault { (f : CommandFault) → result ≡ Err (ReadFault.Fault f) → (f ≡ CommandFault.BadJson) × (json_of text.now ≡ None) }
+{
+    match Value::from_slice(alloc, text) {
+        Ok(value) => Ok(value),
+        Err(error) => {
+            if error.is_memory() {
+                Err(ReadFault::NoMemory)
+            } else {
+                Err(ReadFault::Fault(CommandFault::BadJson))
+            }
+        }
+    }
+}

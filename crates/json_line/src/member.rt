@@ -1,0 +1,204 @@
+ghost use Rattle.std.specs.Prelude.{◌≡◌, ◌≤◌, ◌++◌, OnOk};
+ghost use Rattle.std.specs.Fmt.{decimal};
+ghost use Rattle.gps_fixed.specs.Text.{iso_of, scaled_text};
+ghost use Rattle.json_line.specs.Json.{fixed, hundredths, member, member_if, quoted, signed, time, truth};
+ghost use Rattle.json_line.specs.Lines.{seconds};
+
+use crate::names::{Key, push_label};
+use gps_fixed::{Bytes, NoMemory, Stamp, push_decimal, push_iso, push_scaled};
+use gps_report::Name;
+
+/// A text in quotes.
+#[tactic(auto, unfolding(crate::specs::Json::member, crate::specs::Json::quoted))]
+pub fn push_text(out: &mut Bytes, key: Key, text: &[u8]) -> Result<(), NoMemory>
+    ensures { OnOk result (out.new ≡ out.old ++ member key (quoted text.now)) }
+{
+    push_label(out, key)?;
+    out.push(b'"')?;
+    out.extend_from_slice(text)?;
+    out.push(b'"')
+}
+
+/// A text in quotes, where there is one.
+#[tactic(auto, unfolding(crate::specs::Json::member_if, crate::specs::Json::quoted))]
+pub fn push_name_if(out: &mut Bytes, key: Key, name: &Option<Name>) -> Result<(), NoMemory>
+    ensures { OnOk result (out.new ≡ out.old ++ member_if key quoted name.now) }
+{
+    match name {
+        Some(name) => {
+            push_label(out, key)?;
+            out.push(b'"')?;
+            out.extend_from_slice(name.as_slice())?;
+            out.push(b'"')
+        }
+        None => Ok(()),
+    }
+}
+
+#[tactic(auto, unfolding(crate::specs::Json::member, crate::specs::Json::truth))]
+pub fn push_truth(out: &mut Bytes, key: Key, value: bool) -> Result<(), NoMemory>
+    ensures { OnOk result (out.new ≡ out.old ++ member key (truth value)) }
+{
+    push_label(out, key)?;
+    if value {
+        out.extend_from_slice(b"true")
+    } else {
+        out.extend_from_slice(b"false")
+    }
+}
+
+#[tactic(auto, unfolding(crate::specs::Json::member))]
+pub fn push_number(out: &mut Bytes, key: Key, value: u64) -> Result<(), NoMemory>
+    ensures { OnOk result (out.new ≡ out.old ++ member key (decimal value)) }
+{
+    push_label(out, key)?;
+    push_decimal(out, value)
+}
+
+#[tactic(auto, unfolding(crate::specs::Json::member))]
+pub fn push_u32(out: &mut Bytes, key: Key, value: u32) -> Result<(), NoMemory>
+    ensures { OnOk result (out.new ≡ out.old ++ member key (decimal value)) }
+{
+    push_label(out, key)?;
+    push_decimal(out, u64::from(value))
+}
+
+/// The whole seconds of a stamp.
+#[tactic(auto, unfolding(crate::specs::Json::member, crate::specs::Lines::seconds))]
+pub fn push_seconds(out: &mut Bytes, key: Key, at: Stamp) -> Result<(), NoMemory>
+    ensures { OnOk result (out.new ≡ out.old ++ member key (seconds at)) }
+{
+    push_label(out, key)?;
+    push_decimal(out, at.sec.unsigned_abs())
+}
+
+/// A number, where there is one.
+#[tactic(auto, unfolding(crate::specs::Json::member_if))]
+pub fn push_number_if(out: &mut Bytes, key: Key, value: Option<u32>) -> Result<(), NoMemory>
+    ensures { OnOk result (out.new ≡ out.old ++ member_if key decimal value) }
+{
+    match value {
+        Some(value) => {
+            push_label(out, key)?;
+            push_decimal(out, u64::from(value))
+        }
+        None => Ok(()),
+    }
+}
+
+/// A small number.
+#[tactic(auto, unfolding(crate::specs::Json::member))]
+pub fn push_byte(out: &mut Bytes, key: Key, value: u8) -> Result<(), NoMemory>
+    ensures { OnOk result (out.new ≡ out.old ++ member key (decimal value)) }
+{
+    push_label(out, key)?;
+    push_decimal(out, u64::from(value))
+}
+
+/// A small number, where there is one.
+#[tactic(auto, unfolding(crate::specs::Json::member_if))]
+pub fn push_byte_if(out: &mut Bytes, key: Key, value: Option<u8>) -> Result<(), NoMemory>
+    ensures { OnOk result (out.new ≡ out.old ++ member_if key decimal value) }
+{
+    match value {
+        Some(value) => {
+            push_label(out, key)?;
+            push_decimal(out, u64::from(value))
+        }
+        None => Ok(()),
+    }
+}
+
+#[tactic(auto, unfolding(crate::specs::Json::signed))]
+fn push_sign_and_digits(out: &mut Bytes, value: i32) -> Result<(), NoMemory>
+    ensures { OnOk result (out.new ≡ out.old ++ signed value) }
+{
+    if value < 0 {
+        out.push(b'-')?;
+    }
+    push_decimal(out, u64::from(value.unsigned_abs()))
+}
+
+/// A number with a sign, where there is one.
+#[tactic(auto, unfolding(crate::specs::Json::member_if))]
+pub fn push_signed_if(out: &mut Bytes, key: Key, value: Option<i32>) -> Result<(), NoMemory>
+    ensures { OnOk result (out.new ≡ out.old ++ member_if key signed value) }
+{
+    match value {
+        Some(value) => {
+            push_label(out, key)?;
+            push_sign_and_digits(out, value)
+        }
+        None => Ok(()),
+    }
+}
+
+#[tactic(auto, unfolding(crate::specs::Json::fixed))]
+fn push_decimals(out: &mut Bytes, value: i64, decimals: u8) -> Result<(), NoMemory>
+    requires from { 1 ≤ decimals }
+    requires to { decimals ≤ 9 }
+    ensures { OnOk result (out.new ≡ out.old ++ fixed decimals value) }
+{
+    push_scaled(out, value, decimals)
+}
+
+#[tactic(auto, unfolding(crate::specs::Json::member))]
+pub fn push_fixed(out: &mut Bytes, key: Key, value: i64, decimals: u8) -> Result<(), NoMemory>
+    requires from { 1 ≤ decimals }
+    requires to { decimals ≤ 9 }
+    ensures { OnOk result (out.new ≡ out.old ++ member key (fixed decimals value)) }
+{
+    push_label(out, key)?;
+    push_decimals(out, value, decimals)
+}
+
+/// A number with decimals, where there is one.
+#[tactic(auto, unfolding(crate::specs::Json::member_if))]
+pub fn push_fixed_if(
+    out: &mut Bytes,
+    key: Key,
+    value: Option<i64>,
+    decimals: u8,
+) -> Result<(), NoMemory>
+    requires from { 1 ≤ decimals }
+    requires to { decimals ≤ 9 }
+    ensures { OnOk result (out.new ≡ out.old ++ member_if key (fixed decimals) value) }
+{
+    match value {
+        Some(value) => {
+            push_label(out, key)?;
+            push_decimals(out, value, decimals)
+        }
+        None => Ok(()),
+    }
+}
+
+/// Hundredths with two decimals, where there are some.
+#[tactic(auto, unfolding(crate::specs::Json::member_if, crate::specs::Json::hundredths))]
+pub fn push_hundredths_if(out: &mut Bytes, key: Key, value: Option<u32>) -> Result<(), NoMemory>
+    ensures { OnOk result (out.new ≡ out.old ++ member_if key hundredths value) }
+{
+    match value {
+        Some(value) => {
+            push_label(out, key)?;
+            push_scaled(out, i64::from(value), 2)
+        }
+        None => Ok(()),
+    }
+}
+
+/// A time, where there is one.
+#[tactic(auto, unfolding(crate::specs::Json::member_if, crate::specs::Json::time))]
+pub fn push_time_if(out: &mut Bytes, key: Key, value: &Option<Stamp>) -> Result<(), NoMemory>
+    ensures { OnOk result (out.new ≡ out.old ++ member_if key time value.now) }
+{
+    match value {
+        Some(at) => {
+            push_label(out, key)?;
+            out.push(b'"')?;
+            push_iso(out, *at)?;
+            out.push(b'"')
+        }
+        None => Ok(()),
+    }
+}

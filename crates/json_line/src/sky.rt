@@ -1,0 +1,107 @@
+ghost use Rattle.std.specs.Prelude.{◌≡◌, ◌++◌, OnOk, count_by};
+ghost use Rattle.std.specs.Fmt.{decimal};
+ghost use Rattle.json_line.specs.Json.{array, behind_commas, member, separated};
+ghost use Rattle.json_line.specs.Lines.{gnss_members, satellite, sky};
+ghost use Rattle.json_line.specs.Names.{satellite_head};
+
+use crate::member::{
+    push_byte_if, push_hundredths_if, push_number, push_number_if, push_signed_if, push_text,
+    push_time_if, push_truth,
+};
+use crate::names::{Class, Key, push_head, push_label};
+use gps_fixed::{Bytes, NoMemory, push_decimal};
+use gps_report::{Satellite, Sky};
+
+#[tactic(auto, unfolding(crate::specs::Names::satellite_head))]
+fn push_number_of_satellite(out: &mut Bytes, prn: u32) -> Result<(), NoMemory>
+    ensures { OnOk result (out.new ≡ out.old ++ satellite_head ++ decimal prn) }
+{
+    out.extend_from_slice(b"{\"PRN\":")?;
+    push_decimal(out, u64::from(prn))
+}
+
+#[tactic(auto, unfolding(crate::specs::Lines::gnss_members))]
+fn push_gnss(out: &mut Bytes, gnss: Option<(u8, u16)>) -> Result<(), NoMemory>
+    ensures { OnOk result (out.new ≡ out.old ++ gnss_members gnss) }
+{
+    match gnss {
+        Some((system, id)) => {
+            push_number(out, Key::Gnssid, u64::from(system))?;
+            push_number(out, Key::Svid, u64::from(id))
+        }
+        None => Ok(()),
+    }
+}
+
+#[tactic(auto, unfolding(crate::specs::Lines::satellite))]
+fn push_satellite(out: &mut Bytes, s: &Satellite) -> Result<(), NoMemory>
+    ensures { OnOk result (out.new ≡ out.old ++ satellite s.now) }
+{
+    push_number_of_satellite(out, s.prn)?;
+    push_signed_if(out, Key::El, s.el)?;
+    push_number_if(out, Key::Az, s.az)?;
+    push_number_if(out, Key::Ss, s.ss)?;
+    push_truth(out, Key::Used, s.used)?;
+    push_gnss(out, s.gnss)?;
+    push_byte_if(out, Key::Sigid, s.signal)?;
+    out.push(b'}')?;
+    Ok(())
+}
+
+#[tactic(auto, unfolding(crate::specs::Json::behind_commas))]
+fn push_behind_commas(out: &mut Bytes, satellites: &[Satellite]) -> Result<(), NoMemory>
+    ensures { OnOk result (out.new ≡ out.old ++ behind_commas satellite satellites.now) }
+{
+    for s in satellites {
+        out.push(b',')?;
+        push_satellite(out, s)?;
+    }
+    Ok(())
+}
+
+#[tactic(auto, unfolding(crate::specs::Json::separated))]
+fn push_separated(out: &mut Bytes, satellites: &[Satellite]) -> Result<(), NoMemory>
+    ensures { OnOk result (out.new ≡ out.old ++ separated satellite satellites.now) }
+{
+    match satellites {
+        [] => Ok(()),
+        [first, more @ ..] => {
+            push_satellite(out, first)?;
+            push_behind_commas(out, more)
+        }
+    }
+}
+
+#[tactic(auto, unfolding(crate::specs::Json::member, crate::specs::Json::array))]
+fn push_satellites(out: &mut Bytes, key: Key, satellites: &[Satellite]) -> Result<(), NoMemory>
+    ensures { OnOk result (out.new ≡ out.old ++ member key (array satellite satellites.now)) }
+{
+    push_label(out, key)?;
+    out.push(b'[')?;
+    push_separated(out, satellites)?;
+    out.push(b']')
+}
+
+fn count_used(satellites: &[Satellite]) -> usize
+    ensures { result ≡ count_by (λ s. s.used) satellites.now }
+{
+    satellites.iter().filter(|s| s.used).count()
+}
+
+#[tactic(auto, unfolding(crate::specs::Lines::sky))]
+pub fn push_sky(out: &mut Bytes, device: &[u8], s: &Sky) -> Result<(), NoMemory>
+    ensures { OnOk result (out.new ≡ out.old ++ sky device.now s.now) }
+{
+    let satellites = s.sats.as_slice();
+    push_head(out, Class::Sky)?;
+    push_text(out, Key::Device, device)?;
+    push_time_if(out, Key::Time, &s.time)?;
+    push_hundredths_if(out, Key::Pdop, s.pdop)?;
+    push_hundredths_if(out, Key::Hdop, s.hdop)?;
+    push_hundredths_if(out, Key::Vdop, s.vdop)?;
+    push_number(out, Key::NSat, satellites.len() as u64)?;
+    push_number(out, Key::USat, count_used(satellites) as u64)?;
+    push_satellites(out, Key::Satellites, satellites)?;
+    out.push(b'}')?;
+    Ok(())
+}

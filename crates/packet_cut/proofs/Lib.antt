@@ -1,0 +1,6 @@
+mod HeadLaws
+pub mod PacketLaws
+pub mod StreamLaws
+mod Stamps
+mod Steps
+mod CutLaws

@@ -1,0 +1,78 @@
+ghost use Rattle.std.specs.Prelude.{◌≡◌, ◌+◌, ◌≤◌, ◌<◌, ◌++◌, IfOk, true, false, length, drop, vec_len, vec_capacity};
+ghost use Rattle.packet_cut.specs.Packets.{stamped};
+
+use gps_fixed::{NoMemory, Stamp};
+use std::alloc::Global;
+use std::marker::Model;
+
+/// The most bytes that are ever pending: the longest frame but its last byte.
+const MOST_KEPT: usize = 2055;
+
+/// How the bytes that a cutter keeps change: some go from their front and others come at their end, or all are new.
+#[derive(Drop)]
+pub struct Change {
+    pub(crate) anew: bool,
+    pub(crate) gone: usize,
+    pub(crate) more: Vec<(Stamp, u8)>,
+}
+
+impl Model for Change {
+    ghost use Rattle.std.specs.Prelude.{◌≡◌, ◌≤◌, ◌<◌, true, length, vec_capacity};
+    ghost use Rattle.packet_cut.specs.Standing.{Shift};
+
+    ghost Value = { Shift };
+
+    ghost view = { λ c. record { anew = c.anew; gone = c.gone; more = c.more.items } };
+
+    // New bytes bring the room for all that may ever be pending.
+    ghost invariant = { λ c. c.anew ≡ true → 0 < length c.more.items → 2055 ≤ vec_capacity c.more };
+}
+
+impl Change {
+    /// The bytes of a piece are the only ones.
+    pub(crate) fn anew(alloc: Global, at: Stamp, piece: &[u8]) -> Result<Change, NoMemory>
+        ensures { IfOk result (λ change. change ≡ record { anew = true; gone = 0; more = stamped at piece.now }) }
+    {
+        let room = if piece.is_empty() { 0 } else { MOST_KEPT };
+        let more = stamp_all(alloc, room, at, piece)?;
+        Ok(Change {
+            anew: true,
+            gone: 0,
+            more,
+        })
+    }
+
+    /// So many bytes go, and those of a piece come.
+    pub(crate) fn onward(
+        alloc: Global,
+        gone: usize,
+        at: Stamp,
+        piece: &[u8],
+    ) -> Result<Change, NoMemory>
+        ensures { IfOk result (λ change. change ≡ record { anew = false; gone = gone; more = stamped at piece.now }) }
+    {
+        let more = stamp_all(alloc, piece.len(), at, piece)?;
+        Ok(Change {
+            anew: false,
+            gone,
+            more,
+        })
+    }
+}
+
+/// The bytes with their stamp, in a vector with at least so much room.
+fn stamp_all(
+    alloc: Global,
+    room: usize,
+    at: Stamp,
+    bytes: &[u8],
+) -> Result<Vec<(Stamp, u8)>, NoMemory>
+    ensures items { IfOk result (λ all. all.items ≡ stamped at bytes.now) }
+    ensures room { IfOk result (λ all. room ≤ vec_capacity all) }
+{
+    let mut all = Vec::with_capacity(alloc, room)?;
+    'bytes: for byte in bytes {
+        all.push((at, *byte))?;
+    }
+    Ok(all)
+}

@@ -1,0 +1,32 @@
+//! The laws of packets, as contracts of functions that do nothing.
+
+ghost use Rattle.std.specs.Prelude.{◌≡◌, ◌≤◌, ◌-◌, ℕ, List, ◌++◌, length, map};
+ghost use Rattle.gps_report.specs.declared.packet.Packet.{Packet};
+ghost use Rattle.packet_cut.specs.declared.found.Found.{Found};
+ghost use Rattle.packet_cut.specs.Packets.{Stamped, bytes_of, packets_of, rest_of, found_of, moved, rest_of_bytes, found_packet};
+
+/// More bytes take no packet away and change none.
+pub fn packets_are_a_beginning()
+    ensures packets { (stream more : List Stamped) → (gained : List Packet) × (packets_of (stream ++ more) ≡ packets_of stream ++ gained) }
+    ensures found { (bytes more : List ℕ) → (gained : List Found) × (found_of (bytes ++ more) ≡ found_of bytes ++ gained) }
+{}
+
+/// The packets that more bytes add are those of the rest with them, at their places in the whole list.
+pub fn packets_go_on()
+    ensures packets { (stream more : List Stamped) → packets_of (stream ++ more) ≡ packets_of stream ++ packets_of (rest_of stream ++ more) }
+    ensures rest { (stream more : List Stamped) → rest_of (stream ++ more) ≡ rest_of (rest_of stream ++ more) }
+    ensures found { (bytes more : List ℕ) → found_of (bytes ++ more)
+        ≡ found_of bytes ++ map (moved (length bytes - length (rest_of_bytes bytes))) (found_of (rest_of_bytes bytes ++ more)) }
+{}
+
+/// The rest has at most 2,055 bytes.
+pub fn rest_is_short()
+    ensures stream { (stream : List Stamped) → length (rest_of stream) ≤ 2055 }
+    ensures bytes { (bytes : List ℕ) → length (rest_of_bytes bytes) ≤ 2055 }
+{}
+
+/// The packets of stamped bytes are those that are found in the bytes, and their rest is that of the bytes.
+pub fn stamps_change_no_packet()
+    ensures packets { (stream : List Stamped) → packets_of stream ≡ map (found_packet stream) (found_of (bytes_of stream)) }
+    ensures rest { (stream : List Stamped) → bytes_of (rest_of stream) ≡ rest_of_bytes (bytes_of stream) }
+{}

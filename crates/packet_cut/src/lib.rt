@@ -1,0 +1,23 @@
+//! Cuts a stream of device bytes into packets: sentences of NMEA 0183 and frames of the u-blox protocol, mixed.
+//!
+//! At the head of the bytes a sentence or a frame is a packet, the beginning of either waits for more bytes, and
+//! everything else is junk byte by byte, so that a packet inside the bytes of a broken one is still found. The rule
+//! is this project's own.
+#![tactic(auto)]
+
+mod change;
+mod cut;
+mod cutter;
+mod found;
+mod head;
+mod laws;
+mod next;
+#[cfg(test)]
+mod tests;
+
+pub use change::Change;
+pub use cut::Cut;
+pub use cutter::Cutter;
+pub use found::{Found, cut_all};
+pub use head::{Head, head_at};
+pub use laws::{packets_are_a_beginning, packets_go_on, rest_is_short, stamps_change_no_packet};

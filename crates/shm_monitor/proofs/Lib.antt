@@ -1,0 +1,4 @@
+pub mod Whole
+pub mod Keeping
+pub mod Going
+pub mod Turns

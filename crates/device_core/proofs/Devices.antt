@@ -95,3 +95,13 @@ settled_is None bytes epochs back edge toff held before sound is settled = sym (
 settled_is (Some draft) bytes epochs None edge toff held before sound is settled = absurd (let h : false ≡ true = sound.0.0 in cc)
 settled_is (Some draft) bytes epochs (Some back) edge toff held before sound is settled =
     absurd (let h : Some (record { bytes = bytes; epochs = back; edge = edge; toff = toff }) ≡ None = ap (λ h. h.back) (is ∙ settled) in cc)
+
+-- a device without an open draft, made of copies of its fields
+pub copied : (draft : Option Draft) (bytes : List Stamped) (epochs : KeptEpochs) (back : Option KeptEpochs) (edge : Option Edge) (toff : Option Pair) (held : Held)
+    → IsSound draft bytes back toff
+    → record { now = now_of draft bytes epochs edge toff; back = back_of draft bytes back edge toff } ≡ held → held.back ≡ None
+    → record { now = record { bytes = bytes; epochs = epochs; edge = edge; toff = toff }; back = None } ≡ held
+copied None bytes epochs back edge toff held sound is none = is
+copied (Some draft) bytes epochs None edge toff held sound is none = absurd (let h : false ≡ true = sound.0.0 in cc)
+copied (Some draft) bytes epochs (Some back) edge toff held sound is none =
+    absurd (let h : Some (record { bytes = bytes; epochs = back; edge = edge; toff = toff }) ≡ None = ap (λ h. h.back) is ∙ none in cc)

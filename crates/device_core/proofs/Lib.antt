@@ -2,3 +2,4 @@ pub mod Streams
 pub mod Toffs
 pub mod Taking
 pub mod Devices
+pub mod Decided

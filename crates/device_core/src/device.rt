@@ -196,6 +196,24 @@ impl Device {
         self.settle();
         Ok(out)
     }
+
+    /// Another device that stands for the same streams. No draft may be open.
+    #[tactic(auto, using(crate::proofs::Devices::copied))]
+    pub fn copy(&self) -> Result<Device, NoMemory>
+        requires { self.now.back ≡ None }
+        ensures { IfOk result (λ device. device ≡ self.now) }
+    {
+        let cutter = self.cutter.copy()?;
+        let epochs = self.epochs.copy()?;
+        Ok(Device {
+            alloc: self.alloc,
+            cutter,
+            epochs,
+            pulses: self.pulses,
+            toff: self.toff,
+            draft: None,
+        })
+    }
 }
 
 /// The report of a pulse, where there is one.

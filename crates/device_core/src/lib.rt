@@ -5,6 +5,8 @@ mod device;
 mod draft;
 mod laws;
 mod packets;
+#[cfg(test)]
+mod tests;
 
 pub use device::Device;
-pub use laws::reports_are_a_beginning;
+pub use laws::{later_reports_are_decided, reports_are_a_beginning};

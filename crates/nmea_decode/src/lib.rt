@@ -12,3 +12,6 @@ mod readings;
 mod satellites;
 
 pub use notes::note_of;
+
+#[cfg(test)]
+mod tests;

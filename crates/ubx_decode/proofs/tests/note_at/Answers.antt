@@ -6,6 +6,3 @@ pub slice_bounds-note_of_frame-end : goal.slice_bounds-note_of_frame-end
 slice_bounds-note_of_frame-end g c =
     let whole = (c.in-Whole.ensures.whole c.in-Whole.n).0 refl in
     sym (length-take-le c.in-Whole.n c.args.bytes.now (whole.0))
-
-pub note_of_frame-requires : goal.note_of_frame-requires
-note_of_frame-requires g c = ((c.in-Whole.ensures.whole c.in-Whole.n).0 refl).1

@@ -64,9 +64,9 @@ esac
 
 cp "$samples/drive.nmea" "$place/in"
 run decode
-check 'the recorded drive: status' 0 "$status"
-check 'the recorded drive: fixes' 180 "$(grep -c '"class":"TPV"' "$place/out")"
-check 'the recorded drive: skies' 180 "$(grep -c '"class":"SKY"' "$place/out")"
-check 'the recorded drive: nothing else' 0 "$(grep -vc '"class":"\(TPV\|SKY\)"' "$place/out")"
+check 'the sample drive: status' 0 "$status"
+check 'the sample drive: fixes' 180 "$(grep -c '"class":"TPV"' "$place/out")"
+check 'the sample drive: skies' 180 "$(grep -c '"class":"SKY"' "$place/out")"
+check 'the sample drive: nothing else' 0 "$(grep -vc '"class":"\(TPV\|SKY\)"' "$place/out")"
 
 exit $failed

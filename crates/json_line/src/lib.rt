@@ -20,3 +20,6 @@ pub use line::{line_of, push_line};
 pub use names::{Class, Key};
 pub use poll::poll_line;
 pub use watch::watch_line;
+
+#[cfg(test)]
+mod tests;

@@ -52,6 +52,7 @@ fn push_text(out: &mut Bytes, form: Form, name: &[u8], body: &Body) -> Result<()
 }
 
 /// Adds what a session is sent of a report: its JSON object as a line, or its packet as it came or as a line of hexadecimal digits.
+/// So the lines of many reports can share a buffer. What a refusal leaves in it is open.
 #[tactic(auto, unfolding(crate::specs::Lines::text_of))]
 pub fn push_line(
     out: &mut Bytes,

@@ -13,7 +13,7 @@ use Rattle.packet_cut.specs.declared.head.Head.TheVariants.{Pending}
 use Rattle.packet_cut.specs.Heads.{head_of}
 use Rattle.packet_cut.specs.Packets.{Stamped, bytes_of, stamped, head_of_stream, packet, packets_of, rest_of}
 use Rattle.packet_cut.specs.Standing.{StandsFor, Gains, Shift, applied, IsCut, IsFound, stream_of}
-use Rattle.packet_cut.proofs.StreamLaws.{bytes_of-append, length-bytes_of, bytes_of-stamped, length-stamped, packets_gain, rest_gain, rest_of_short}
+use Rattle.packet_cut.proofs.StreamLaws.{bytes_of-append, length-bytes_of, bytes_of-stamped, packets_gain, rest_gain, rest_of_short}
 use Rattle.packet_cut.proofs.Steps.{pending_parts, pending_rest}
 
 -- a list of which one was told that its rest is the kept bytes gains what the cut says
@@ -112,11 +112,6 @@ cut_of_joined kept at piece bytes packets rest gone shift some joined found leas
       rest_is = left;
       fits = record { short = rw left (rest_of_short (kept ++ stamped at piece)); room = λ e. some };
     }
-
-pub joined_inside : (kept : List Stamped) (at : Moment) (piece bytes : List ℕ) (packets : List PacketRecord) (rest gone : ℕ) →
-    bytes ≡ bytes_of kept ++ piece → IsFound (stream_of kept at bytes) packets rest → gone ≡ min rest (length kept) → rest - gone ≤ length piece
-joined_inside kept at piece bytes packets rest gone joined found least =
-    omega (arith, found.inside, ap length (joined_is kept at piece bytes joined), length-append kept (stamped at piece), length-stamped at piece)
 
 -- a frame whose length is known waits for all its bytes
 frame_waits : (class id low high : ℕ) (rest : List ℕ) → low + 256 * high ≤ 2048 → length rest + 6 < low + 256 * high + 8 →

@@ -1,5 +1,5 @@
 -- What stands before a request's end, as a set of texts.
-use Rattle.std.proofs.Common.{◌≡◌, ◌<◌, ◌≤◌, ◌+◌, ◌⊎◌, inl, inr, ℕ, zero, suc, Bool, true, false, not, ◌||◌, List, [], ◌∷◌, ◌++◌, length, take, cond, get_or, nat_eq, ap, sym, ◌∙◌, refl, arith, subst, append_assoc}
+use Rattle.std.proofs.Common.{◌≡◌, ◌<◌, ◌≤◌, ◌+◌, inl, inr, ℕ, zero, suc, Bool, true, false, not, ◌||◌, List, [], ◌∷◌, ◌++◌, length, take, get_or, nat_eq, ap, sym, ◌∙◌, refl, arith, subst, append_assoc}
 use Rattle.std.proofs.lemmas.Bool.{cases_Bool, cases_lt, cond-false, cond-true, eqb-true}
 use Rattle.std.proofs.lemmas.List.{length-append, length-take}
 use Rattle.std.proofs.Math.Seq.{take-append_seam}
@@ -8,7 +8,7 @@ use Rattle.gps_command.specs.declared.request.Quote.TheVariants.{Outside, Inside
 use Rattle.gps_command.specs.declared.request.RawCommand.{RawCommand}
 use Rattle.gps_command.specs.declared.request.RawCommand.TheVariants.{Words, Long}
 use Rattle.gps_command.specs.Requests.{is_end, is_gap, long_length, open_length, quote_after, requests_from}
-use Rattle.gps_command.specs.Texts.{AreRequests, IsInside, IsRequest, IsText, ReadsRequests, is_inner, is_plain}
+use Rattle.gps_command.specs.Texts.{AreRequests, IsInside, IsRequest, IsText, ReadsRequests}
 use Rattle.gps_command.specs.Texts.{empty_inside, empty_text, escaped_pair, inner_byte, plain_byte, whole_string}
 use Rattle.gps_command.proofs.Begins.{requests_begun, requests_ended, requests_gap, requests_long}
 

@@ -17,12 +17,15 @@ pub record Kept : Type 0 where
 abbrev pub quote_of : List ℕ → Quote
 quote_of held = fold quote_after Outside held
 
+-- an open request; without bytes, none
 abbrev pub kept_open : List ℕ → Kept
 kept_open held = record { stand = Open (quote_of held); held = held }
 
+-- the rest of a line whose request was too long
 abbrev pub kept_skipping : Kept
 kept_skipping = record { stand = Skipping; held = [] }
 
+-- what the bytes leave, where the first `skip` of them belong to what went before
 unfoldable pub kept_from : ℕ → List ℕ → Kept
 kept_from skip [] = kept_open []
 kept_from (suc skip) (c ∷ bytes) = kept_from skip bytes

@@ -1,4 +1,5 @@
--- What one more byte does to what is kept, and the request that it ends, if any. This project's own.
+-- What one more byte does to what is kept, and the request that it ends, if any: the cutter's own step, of which
+-- no public clause speaks. This project's own.
 use Rattle.std.specs.Prelude.{ℕ, List, [], ◌∷◌, ◌++◌, ◌&&◌, ◌==◌, length, nat_lt, if◌then◌else◌}
 use Rattle.gps_command.specs.declared.cutter.Stand.{Stand}
 use Rattle.gps_command.specs.declared.cutter.Stand.TheVariants.{Open, Skipping}

@@ -1,0 +1,319 @@
+-- The reading of `decode`, turn by turn, and how it ends.
+use Rattle.std.proofs.Common.{◌≡◌, ℕ, ◌≤◌, List, [], ◌∷◌, ◌++◌, length, take, map, Option, Some, None, Result, Ok, Err, refl, sym, ◌∙◌, ap, subst, append_assoc, arith}
+use Rattle.std.proofs.lemmas.List.{append-nil, map-append}
+use Rattle.std.proofs.lemmas.List.Concat.{flat_map-append}
+use Rattle.gps_fixed.specs.Moment.{Moment}
+use Rattle.gps_report.specs.declared.edge.Symbol.{Symbol}
+use Rattle.gps_report.specs.declared.report.Body.{Body}
+use Rattle.gps_outside.specs.Told.{Stream, Goes, Stays, Passes, IsAtEnd, Appends, AppendsPart}
+use Rattle.gps_outside.specs.Ticks.{Dial, Gives, GivesAll}
+use Rattle.gps_outside.specs.Counts.{Rose}
+use Rattle.gps_outside.specs.Turns.{Budget, FitsRoom, Spends, Hands, HasTaken, TakesFirst, TakesSome, PassesMore}
+use Rattle.gps_outside.specs.declared.intake.IntakeStep.TheVariants.{Piece, Quiet, Last, End, Failed, TooQuiet}
+use Rattle.gps_outside.proofs.Going.{goes_as, goes_on}
+use Rattle.gps_outside.proofs.Dials.{gives_more}
+use Rattle.gps_outside.proofs.Writing.{appends_on, part_on, part_of, appends_none}
+use Rattle.gps_outside.proofs.Turns.{taken_none, taken_piece, taken_quiet, ends_at_end, ends_full, ends_failed, ends_too_quiet, first_of_piece, first_of_last}
+use Rattle.device_core.specs.Stream.{piece}
+use Rattle.device_core.specs.Reports.{reports_from, device_reports, device_close, Gains}
+use Rattle.device_core.specs.Standing.{Kept, StandsFor}
+use Rattle.device_core.proofs.Streams.{reports-append}
+use Rattle.gpsrelay.specs.declared.outcome.Outcome.{Outcome}
+use Rattle.gpsrelay.specs.declared.outcome.Outcome.TheVariants.{Done, ReadFault, WriteFault, Full, NoMemory}
+use Rattle.gpsrelay.specs.declared.outcome.Fault.{Fault}
+use Rattle.gpsrelay.specs.declared.outcome.Fault.TheVariants.{Sink, NoMemory as NoMemoryFault}
+use Rattle.gpsrelay.specs.Outcomes.{outcome_of}
+use Rattle.gpsrelay.specs.Readings.{Reading, bytes_of, stamps_of, stream_of}
+use Rattle.gpsrelay.specs.Lines.{line_of, lines_of, lines_so_far, lines_to_end}
+use Rattle.gpsrelay.specs.Decode.{Decoded, HandsOn, Written}
+
+-- one reading more
+abbrev pub with_next : List Reading → Moment → List ℕ → List Reading
+with_next readings at bytes = readings ++ record { at = at; bytes = bytes } ∷ []
+
+bytes_next : (readings : List Reading) (at : Moment) (bytes : List ℕ) → bytes_of (with_next readings at bytes) ≡ bytes_of readings ++ bytes
+bytes_next readings at bytes =
+    flat_map-append (λ reading. reading.bytes) readings (record { at = at; bytes = bytes } ∷ []) ∙ ap (λ l. bytes_of readings ++ l) (append-nil bytes)
+
+stamps_next : (readings : List Reading) (at : Moment) (bytes : List ℕ) → stamps_of (with_next readings at bytes) ≡ stamps_of readings ++ at ∷ []
+stamps_next readings at bytes = map-append (λ reading. reading.at) readings (record { at = at; bytes = bytes } ∷ [])
+
+stream_next : (readings : List Reading) (at : Moment) (bytes : List ℕ) → stream_of (with_next readings at bytes) ≡ stream_of readings ++ piece at bytes
+stream_next readings at bytes =
+    flat_map-append (λ reading. piece reading.at reading.bytes) readings (record { at = at; bytes = bytes } ∷ [])
+    ∙ ap (λ l. stream_of readings ++ l) (append-nil (piece at bytes))
+
+lines_join : (a b : List Body) → lines_of (a ++ b) ≡ lines_of a ++ lines_of b
+lines_join a b = flat_map-append line_of a b
+
+lines_next : (stream more : List Symbol) (out : List Body) → Gains stream more out → lines_so_far (stream ++ more) ≡ lines_so_far stream ++ lines_of out
+lines_next stream more out gains = ap lines_of gains ∙ lines_join (device_reports stream) out
+
+-- a part of what begins a text is a part of the text
+part_longer : (a b : List ℕ) (before after : Option (List ℕ)) → Goes (AppendsPart a) before after → Goes (AppendsPart (a ++ b)) before after
+part_longer a b before after wrote =
+    goes_as (AppendsPart a) (AppendsPart (a ++ b)) before after
+    (λ x y p. (p.0, ((p.1.0.0 ++ b, ap (λ l. l ++ b) p.1.0.1 ∙ append_assoc p.0 p.1.0.0 b), p.1.1)))
+    wrote
+
+-- So far these readings were handed on, the device stands for their stream, and its lines were written.
+pub record UnderWay (history : ℕ) (budget : Budget) (kept : Kept) (source source' : Option Stream) (quiets quiets' : ℕ) (clock clock' : Option Dial) (sink sink' : Option (List ℕ)) : Type 0 where
+  pub readings : List Reading
+  pub taken : HasTaken history (bytes_of readings) budget source source' quiets quiets'
+  pub stamps : Goes (GivesAll (stamps_of readings)) clock clock'
+  pub stands : StandsFor kept (stream_of readings)
+  pub wrote : Goes (Appends (lines_so_far (stream_of readings))) sink sink'
+
+no_stamps : (clock : Option Dial) → Goes (GivesAll []) clock clock
+no_stamps None = tt
+no_stamps (Some dial) = refl
+
+no_lines : lines_so_far [] ≡ []
+unfolding reports_from
+no_lines = refl
+
+pub begun : (history : ℕ) (budget : Budget) (kept : Kept) (source : Option Stream) (quiets : ℕ) (clock : Option Dial) (sink : Option (List ℕ))
+    → budget ≡ record { room = history; quiets = 0 } → StandsFor kept []
+    → UnderWay history budget kept source source quiets quiets clock clock sink sink
+begun history budget kept source quiets clock sink new stands = record {
+  readings = [];
+  taken = taken_none history budget source quiets new;
+  stamps = no_stamps clock;
+  stands = stands;
+  wrote = subst (λ l. Goes (Appends l) sink sink) (sym no_lines) (appends_none sink);
+}
+
+-- the stamps of one reading more
+stamps_on : (readings : List Reading) (at : Moment) (bytes : List ℕ) (clock clock' clock'' : Option Dial)
+    → Goes (GivesAll (stamps_of readings)) clock clock' → Goes (Gives at) clock' clock''
+    → Goes (GivesAll (stamps_of (with_next readings at bytes))) clock clock''
+stamps_on readings at bytes clock clock' clock'' all given =
+    subst (λ s. Goes (GivesAll s) clock clock'') (sym (stamps_next readings at bytes))
+    (goes_on (GivesAll (stamps_of readings)) (Gives at) (GivesAll (stamps_of readings ++ at ∷ [])) clock clock' clock''
+    (gives_more (stamps_of readings) at) all given)
+
+pub after_piece : (n history : ℕ) (buf : List ℕ) (budget budget' : Budget) (kept kept' : Kept) (at : Moment) (text : List ℕ)
+    (source now after : Option Stream) (quiets quiets' quiets'' : ℕ) (clock clock' clock'' : Option Dial) (sink sink' sink'' : Option (List ℕ))
+    → UnderWay history budget kept source now quiets quiets' clock clock' sink sink'
+    → FitsRoom (Piece n) (length buf) → Spends (Piece n) budget budget' → Hands (Piece n) buf now after → quiets' ≤ quiets''
+    → Goes (Gives at) clock' clock''
+    → ((stream : List Symbol) → StandsFor kept stream → HandsOn {X = List ℕ} (Ok text) stream (piece at (take n buf)) kept' sink' sink'')
+    → UnderWay history budget' kept' source after quiets quiets'' clock clock'' sink sink''
+after_piece n history buf budget budget' kept kept' at text source now after quiets quiets' quiets'' clock clock' clock'' sink sink' sink'' u fits spent handed more given lines =
+    let s : List Symbol = stream_of u.readings in
+    let h : HandsOn {X = List ℕ} (Ok text) s (piece at (take n buf)) kept' sink' sink'' = lines s u.stands in
+    record {
+      readings = with_next u.readings at (take n buf);
+      taken = subst (λ b. HasTaken history b budget' source after quiets quiets'') (sym (bytes_next u.readings at (take n buf)))
+          (taken_piece n history (bytes_of u.readings) buf budget budget' source now after quiets quiets' quiets'' u.taken fits spent handed more);
+      stamps = stamps_on u.readings at (take n buf) clock clock' clock'' u.stamps given;
+      stands = subst (λ t. StandsFor kept' t) (sym (stream_next u.readings at (take n buf))) h.0;
+      wrote = subst (λ t. Goes (Appends (lines_so_far t)) sink sink'') (sym (stream_next u.readings at (take n buf)))
+          (subst (λ l. Goes (Appends l) sink sink'') (sym (lines_next s (piece at (take n buf)) h.1.0 h.1.1.0))
+          (appends_on (lines_so_far s) (lines_of h.1.0) sink sink' sink'' u.wrote h.1.1.1));
+    }
+
+pub after_quiet : (history : ℕ) (buf : List ℕ) (budget budget' : Budget) (kept : Kept)
+    (source now after : Option Stream) (quiets quiets' quiets'' : ℕ) (clock clock' : Option Dial) (sink sink' : Option (List ℕ))
+    → UnderWay history budget kept source now quiets quiets' clock clock' sink sink'
+    → Spends Quiet budget budget' → Hands Quiet buf now after → Rose quiets' quiets''
+    → UnderWay history budget' kept source after quiets quiets'' clock clock' sink sink'
+after_quiet history buf budget budget' kept source now after quiets quiets' quiets'' clock clock' sink sink' u spent handed rose = record {
+  readings = u.readings;
+  taken = taken_quiet history (bytes_of u.readings) buf budget budget' source now after quiets quiets' quiets'' u.taken spent handed rose;
+  stamps = u.stamps;
+  stands = u.stands;
+  wrote = u.wrote;
+}
+
+-- where a fault ends the writing: the lines that were due have the written part at their beginning
+broken_lines : (fault : Fault) (s more : List Symbol) (kept : Kept) (sink sink' sink'' : Option (List ℕ))
+    → Goes (Appends (lines_so_far s)) sink sink' → HandsOn {X = List ℕ} (Err fault) s more kept sink' sink''
+    → Goes (AppendsPart (lines_to_end (s ++ more))) sink sink''
+broken_lines Sink s more kept sink sink' sink'' wrote h =
+    part_longer (lines_so_far (s ++ more)) (lines_of (device_close (s ++ more))) sink sink''
+    (subst (λ l. Goes (AppendsPart l) sink sink'') (sym (lines_next s more h.0 h.1.0))
+    (part_on (lines_so_far s) (lines_of h.0) sink sink' sink'' wrote h.1.1))
+broken_lines NoMemoryFault s more kept sink sink' sink'' wrote h =
+    part_longer (lines_so_far (s ++ more)) (lines_of (device_close (s ++ more))) sink sink''
+    (subst (λ l. Goes (AppendsPart l) sink sink'') (sym (lines_next s more (reports_from s more) (reports-append [] s more)))
+    (part_of (lines_so_far s) (lines_of (reports_from s more)) sink sink'' (subst (λ k. Goes (Appends (lines_so_far s)) sink k) h wrote)))
+
+-- a command that was broken off by a fault, with the readings up to it
+broken_off : (fault : Fault) (history : ℕ) (readings : List Reading) (at : Moment) (bytes : List ℕ) (kept : Kept)
+    (source after : Option Stream) (clock clock' clock'' : Option Dial) (sink sink' sink'' : Option (List ℕ))
+    → length (bytes_of readings ++ bytes) ≤ history → Goes (TakesFirst (bytes_of readings ++ bytes)) source after
+    → Goes (GivesAll (stamps_of readings)) clock clock' → Goes (Gives at) clock' clock''
+    → Goes (Appends (lines_so_far (stream_of readings))) sink sink'
+    → HandsOn {X = List ℕ} (Err fault) (stream_of readings) (piece at bytes) kept sink' sink''
+    → Decoded (outcome_of fault) history source after clock clock'' sink sink''
+broken_off Sink history readings at bytes kept source after clock clock' clock'' sink sink' sink'' short first all given wrote h = record {
+  readings = with_next readings at bytes;
+  read = subst (λ b. (length b ≤ history) × Goes (TakesFirst b) source after) (sym (bytes_next readings at bytes)) (short, first);
+  stamps = stamps_on readings at bytes clock clock' clock'' all given;
+  wrote = subst (λ t. Goes (AppendsPart (lines_to_end t)) sink sink'') (sym (stream_next readings at bytes))
+      (broken_lines Sink (stream_of readings) (piece at bytes) kept sink sink' sink'' wrote h);
+}
+broken_off NoMemoryFault history readings at bytes kept source after clock clock' clock'' sink sink' sink'' short first all given wrote h = record {
+  readings = with_next readings at bytes;
+  read = subst (λ b. (length b ≤ history) × Goes (TakesFirst b) source after) (sym (bytes_next readings at bytes)) (short, first);
+  stamps = stamps_on readings at bytes clock clock' clock'' all given;
+  wrote = subst (λ t. Goes (AppendsPart (lines_to_end t)) sink sink'') (sym (stream_next readings at bytes))
+      (broken_lines NoMemoryFault (stream_of readings) (piece at bytes) kept sink sink' sink'' wrote h);
+}
+
+pub broken_in_piece : (n history : ℕ) (buf : List ℕ) (budget budget' : Budget) (kept kept' : Kept) (at : Moment) (fault : Fault)
+    (source now after : Option Stream) (quiets quiets' quiets'' : ℕ) (clock clock' clock'' : Option Dial) (sink sink' sink'' : Option (List ℕ))
+    → UnderWay history budget kept source now quiets quiets' clock clock' sink sink'
+    → FitsRoom (Piece n) (length buf) → Spends (Piece n) budget budget' → Hands (Piece n) buf now after → quiets' ≤ quiets''
+    → Goes (Gives at) clock' clock''
+    → ((stream : List Symbol) → StandsFor kept stream → HandsOn {X = List ℕ} (Err fault) stream (piece at (take n buf)) kept' sink' sink'')
+    → (outcome : Outcome) → outcome ≡ outcome_of fault
+    → Decoded outcome history source after clock clock'' sink sink''
+broken_in_piece n history buf budget budget' kept kept' at fault source now after quiets quiets' quiets'' clock clock' clock'' sink sink' sink'' u fits spent handed more given lines outcome is =
+    let all : HasTaken history (bytes_of u.readings ++ take n buf) budget' source after quiets quiets'' =
+    taken_piece n history (bytes_of u.readings) buf budget budget' source now after quiets quiets' quiets'' u.taken fits spent handed more in
+    subst (λ o. Decoded o history source after clock clock'' sink sink'') (sym is) (broken_off fault history u.readings at (take n buf) kept' source after clock clock' clock'' sink sink' sink''
+    (let r = all.room in omega arith)
+    (first_of_piece (bytes_of u.readings ++ take n buf) source after all.passed)
+    u.stamps given u.wrote (lines (stream_of u.readings) u.stands))
+
+pub broken_in_last : (n history : ℕ) (buf : List ℕ) (budget budget' : Budget) (kept kept' : Kept) (at : Moment) (fault : Fault)
+    (source now after : Option Stream) (quiets quiets' : ℕ) (clock clock' clock'' : Option Dial) (sink sink' sink'' : Option (List ℕ))
+    → UnderWay history budget kept source now quiets quiets' clock clock' sink sink'
+    → FitsRoom (Last n) (length buf) → Spends (Last n) budget budget' → Hands (Last n) buf now after
+    → Goes (Gives at) clock' clock''
+    → ((stream : List Symbol) → StandsFor kept stream → HandsOn {X = List ℕ} (Err fault) stream (piece at (take n buf)) kept' sink' sink'')
+    → (outcome : Outcome) → outcome ≡ outcome_of fault
+    → Decoded outcome history source after clock clock'' sink sink''
+broken_in_last n history buf budget budget' kept kept' at fault source now after quiets quiets' clock clock' clock'' sink sink' sink'' u fits spent handed given lines outcome is =
+    let all : (length (bytes_of u.readings ++ take n buf) ≡ history) × Goes (PassesMore (bytes_of u.readings ++ take n buf)) source after =
+    ends_full n history (bytes_of u.readings) buf budget budget' source now after quiets quiets' u.taken fits spent handed in
+    subst (λ o. Decoded o history source after clock clock'' sink sink'') (sym is) (broken_off fault history u.readings at (take n buf) kept' source after clock clock' clock'' sink sink' sink''
+    (let r = all.0 in omega arith)
+    (first_of_last (bytes_of u.readings ++ take n buf) source after all.1)
+    u.stamps given u.wrote (lines (stream_of u.readings) u.stands))
+
+pub filled : (n history : ℕ) (buf : List ℕ) (budget budget' : Budget) (kept kept' : Kept) (at : Moment) (text : List ℕ)
+    (source now after : Option Stream) (quiets quiets' : ℕ) (clock clock' clock'' : Option Dial) (sink sink' sink'' : Option (List ℕ))
+    → UnderWay history budget kept source now quiets quiets' clock clock' sink sink'
+    → FitsRoom (Last n) (length buf) → Spends (Last n) budget budget' → Hands (Last n) buf now after
+    → Goes (Gives at) clock' clock''
+    → ((stream : List Symbol) → StandsFor kept stream → HandsOn {X = List ℕ} (Ok text) stream (piece at (take n buf)) kept' sink' sink'')
+    → Decoded Full history source after clock clock'' sink sink''
+filled n history buf budget budget' kept kept' at text source now after quiets quiets' clock clock' clock'' sink sink' sink'' u fits spent handed given lines =
+    let s : List Symbol = stream_of u.readings in
+    let h : HandsOn {X = List ℕ} (Ok text) s (piece at (take n buf)) kept' sink' sink'' = lines s u.stands in
+    record {
+      readings = with_next u.readings at (take n buf);
+      read = subst (λ b. (length b ≡ history) × Goes (PassesMore b) source after) (sym (bytes_next u.readings at (take n buf)))
+          (ends_full n history (bytes_of u.readings) buf budget budget' source now after quiets quiets' u.taken fits spent handed);
+      stamps = stamps_on u.readings at (take n buf) clock clock' clock'' u.stamps given;
+      wrote = subst (λ t. Goes (Appends (lines_so_far t)) sink sink'') (sym (stream_next u.readings at (take n buf)))
+          (subst (λ l. Goes (Appends l) sink sink'') (sym (lines_next s (piece at (take n buf)) h.1.0 h.1.1.0))
+          (appends_on (lines_so_far s) (lines_of h.1.0) sink sink' sink'' u.wrote h.1.1.1));
+    }
+
+pub ended : (history : ℕ) (buf : List ℕ) (budget : Budget) (kept : Kept) (text : List ℕ)
+    (source now after : Option Stream) (quiets quiets' : ℕ) (clock clock' : Option Dial) (sink sink' sink'' : Option (List ℕ))
+    → UnderWay history budget kept source now quiets quiets' clock clock' sink sink'
+    → Hands End buf now after
+    → ((stream : List Symbol) → StandsFor kept stream → Written {X = List ℕ} (Ok text) (lines_of (device_close stream)) sink' sink'')
+    → Decoded Done history source after clock clock' sink sink''
+ended history buf budget kept text source now after quiets quiets' clock clock' sink sink' sink'' u handed lines = record {
+  readings = u.readings;
+  read = ends_at_end history (bytes_of u.readings) buf budget source now after quiets quiets' u.taken handed;
+  stamps = u.stamps;
+  wrote = appends_on (lines_so_far (stream_of u.readings)) (lines_of (device_close (stream_of u.readings))) sink sink' sink'' u.wrote
+      (lines (stream_of u.readings) u.stands);
+}
+
+still_passed : (bytes : List ℕ) (source now after : Option Stream) → Goes (Passes bytes) source now → Goes IsAtEnd now after → Goes (TakesFirst bytes) source after
+still_passed bytes source now after passed at_end =
+    first_of_piece bytes source after
+    (goes_on (Passes bytes) IsAtEnd (Passes bytes) source now after (λ x y z p q. subst (Passes bytes x) q.same p) passed at_end)
+
+at_end_broken : (history : ℕ) (buf : List ℕ) (budget : Budget) (kept : Kept) (fault : Fault)
+    (source now after : Option Stream) (quiets quiets' : ℕ) (clock clock' : Option Dial) (sink sink' sink'' : Option (List ℕ))
+    → UnderWay history budget kept source now quiets quiets' clock clock' sink sink'
+    → Hands End buf now after
+    → ((stream : List Symbol) → StandsFor kept stream → Written {X = List ℕ} (Err fault) (lines_of (device_close stream)) sink' sink'')
+    → Decoded (outcome_of fault) history source after clock clock' sink sink''
+at_end_broken history buf budget kept Sink source now after quiets quiets' clock clock' sink sink' sink'' u handed lines = record {
+  readings = u.readings;
+  read = (let r = u.taken.room in omega arith, still_passed (bytes_of u.readings) source now after u.taken.passed handed);
+  stamps = u.stamps;
+  wrote = part_on (lines_so_far (stream_of u.readings)) (lines_of (device_close (stream_of u.readings))) sink sink' sink'' u.wrote
+      (lines (stream_of u.readings) u.stands);
+}
+at_end_broken history buf budget kept NoMemoryFault source now after quiets quiets' clock clock' sink sink' sink'' u handed lines = record {
+  readings = u.readings;
+  read = (let r = u.taken.room in omega arith, still_passed (bytes_of u.readings) source now after u.taken.passed handed);
+  stamps = u.stamps;
+  wrote = part_of (lines_so_far (stream_of u.readings)) (lines_of (device_close (stream_of u.readings))) sink sink''
+      (subst (λ k. Goes (Appends (lines_so_far (stream_of u.readings))) sink k) (lines (stream_of u.readings) u.stands) u.wrote);
+}
+
+pub broken_at_end : (history : ℕ) (buf : List ℕ) (budget : Budget) (kept : Kept) (fault : Fault)
+    (source now after : Option Stream) (quiets quiets' : ℕ) (clock clock' : Option Dial) (sink sink' sink'' : Option (List ℕ))
+    → UnderWay history budget kept source now quiets quiets' clock clock' sink sink'
+    → Hands End buf now after
+    → ((stream : List Symbol) → StandsFor kept stream → Written {X = List ℕ} (Err fault) (lines_of (device_close stream)) sink' sink'')
+    → (outcome : Outcome) → outcome ≡ outcome_of fault
+    → Decoded outcome history source after clock clock' sink sink''
+broken_at_end history buf budget kept fault source now after quiets quiets' clock clock' sink sink' sink'' u handed lines outcome is =
+    subst (λ o. Decoded o history source after clock clock' sink sink'') (sym is)
+    (at_end_broken history buf budget kept fault source now after quiets quiets' clock clock' sink sink' sink'' u handed lines)
+
+pub failed : (history : ℕ) (buf : List ℕ) (budget : Budget) (kept : Kept)
+    (source now after : Option Stream) (quiets quiets' : ℕ) (clock clock' : Option Dial) (sink sink' : Option (List ℕ))
+    → UnderWay history budget kept source now quiets quiets' clock clock' sink sink'
+    → Hands Failed buf now after
+    → Decoded ReadFault history source after clock clock' sink sink'
+failed history buf budget kept source now after quiets quiets' clock clock' sink sink' u handed = record {
+  readings = u.readings;
+  read = ends_failed history (bytes_of u.readings) buf budget source now after quiets quiets' u.taken handed;
+  stamps = u.stamps;
+  wrote = u.wrote;
+}
+
+pub too_quiet : (history : ℕ) (buf : List ℕ) (budget : Budget) (kept : Kept)
+    (source now after : Option Stream) (quiets quiets' : ℕ) (clock clock' : Option Dial) (sink sink' : Option (List ℕ))
+    → UnderWay history budget kept source now quiets quiets' clock clock' sink sink'
+    → Hands TooQuiet buf now after
+    → Decoded ReadFault history source after clock clock' sink sink'
+too_quiet history buf budget kept source now after quiets quiets' clock clock' sink sink' u handed =
+    let all : (length (bytes_of u.readings) ≤ history) × Goes (Passes (bytes_of u.readings)) source after =
+    ends_too_quiet history (bytes_of u.readings) buf budget source now after quiets quiets' u.taken handed in
+    record {
+      readings = u.readings;
+      read = (
+        all.0,
+        goes_as (Passes (bytes_of u.readings)) (TakesSome (bytes_of u.readings)) source after
+            (λ x y p. record { next = (y.left, p.next); joins = p.joins }) all.1,
+      );
+      stamps = u.stamps;
+      wrote = u.wrote;
+    }
+
+passes_none : (source : Option Stream) → Goes (Passes []) source source
+passes_none None = tt
+passes_none (Some stream) = record { next = refl; joins = sym (append-nil stream.taken) }
+
+-- want of memory before the first read
+pub nothing_done : (history : ℕ) (source : Option Stream) (clock : Option Dial) (sink : Option (List ℕ))
+    → Decoded NoMemory history source source clock clock sink sink
+nothing_done history source clock sink = record {
+  readings = [];
+  read = (omega arith, first_of_piece [] source source (passes_none source));
+  stamps = no_stamps clock;
+  wrote = part_of (lines_so_far []) (lines_of (device_close [])) sink sink (subst (λ l. Goes (Appends l) sink sink) (sym no_lines) (appends_none sink));
+}
+
+-- what the device gained was written
+pub handed_on : (result : Result (List ℕ) Fault) (gained : List Body) (stream more : List Symbol) (kept : Kept) (before after : Option (List ℕ))
+    → StandsFor kept (stream ++ more) → Gains stream more gained → Written result (lines_of gained) before after
+    → HandsOn result stream more kept before after
+handed_on (Ok text) gained stream more kept before after stands gains wrote = (stands, (gained, (gains, wrote)))
+handed_on (Err Sink) gained stream more kept before after stands gains wrote = (gained, (gains, wrote))
+handed_on (Err NoMemoryFault) gained stream more kept before after stands gains wrote = wrote

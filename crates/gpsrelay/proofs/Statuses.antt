@@ -1,0 +1,59 @@
+-- What the status of a command says of its outcome.
+use Rattle.std.proofs.Common.{◌≡◌, ℕ, ◌+◌, ◌<◌, ◌≤◌, List, ◌++◌, length, Option, Some, None, ◌⊎◌, inl, inr, refl, ◌∙◌, ap, length-append, arith}
+use Rattle.gps_outside.specs.Counts.{Rose, RoseBy}
+use Rattle.gps_outside.specs.Told.{Stream, Goes}
+use Rattle.gps_outside.specs.Ticks.{Dial}
+use Rattle.gps_outside.specs.Turns.{PassesMore}
+use Rattle.gpsrelay.specs.declared.outcome.Outcome.{Outcome}
+use Rattle.gpsrelay.specs.declared.outcome.Outcome.TheVariants.{Done, ReadFault, WriteFault, Full, NoMemory}
+use Rattle.gpsrelay.specs.Outcomes.{status_of, HasCause, HasReadCause}
+use Rattle.gpsrelay.specs.Decode.{Decoded, IsWithin}
+use Rattle.gpsrelay.specs.Readings.{bytes_of}
+
+pub read_cause : (outcome : Outcome) (faults faults' quiets quiets' sunk sunk' : ℕ)
+    → HasCause outcome faults faults' quiets quiets' sunk sunk' → status_of outcome ≡ 3 → HasReadCause faults faults' quiets quiets'
+read_cause Done faults faults' quiets quiets' sunk sunk' cause e = absurd (omega (arith, e))
+read_cause ReadFault faults faults' quiets quiets' sunk sunk' cause e = cause
+read_cause WriteFault faults faults' quiets quiets' sunk sunk' cause e = absurd (omega (arith, e))
+read_cause Full faults faults' quiets quiets' sunk sunk' cause e = absurd (omega (arith, e))
+read_cause NoMemory faults faults' quiets quiets' sunk sunk' cause e = absurd (omega (arith, e))
+
+pub write_cause : (outcome : Outcome) (faults faults' quiets quiets' sunk sunk' : ℕ)
+    → HasCause outcome faults faults' quiets quiets' sunk sunk' → status_of outcome ≡ 4 → Rose sunk sunk'
+write_cause Done faults faults' quiets quiets' sunk sunk' cause e = absurd (omega (arith, e))
+write_cause ReadFault faults faults' quiets quiets' sunk sunk' cause e = absurd (omega (arith, e))
+write_cause WriteFault faults faults' quiets quiets' sunk sunk' cause e = cause
+write_cause Full faults faults' quiets quiets' sunk sunk' cause e = absurd (omega (arith, e))
+write_cause NoMemory faults faults' quiets quiets' sunk sunk' cause e = absurd (omega (arith, e))
+
+pub not_refused : (outcome : Outcome) → status_of outcome ≡ 2 → ⊥
+not_refused Done e = omega (arith, e)
+not_refused ReadFault e = omega (arith, e)
+not_refused WriteFault e = omega (arith, e)
+not_refused Full e = omega (arith, e)
+not_refused NoMemory e = omega (arith, e)
+
+-- a source that is within the history does not fill it
+no_more : (history : ℕ) (bytes : List ℕ) (source source' : Option Stream)
+    → IsWithin history source → length bytes ≡ history → Goes (PassesMore bytes) source source' → ⊥
+no_more history bytes None source' within full passed = within
+no_more history bytes (Some stream) None within full passed = passed
+no_more history bytes (Some stream) (Some after) within full passed =
+    let left : length stream.left ≡ length (bytes ++ passed.0) + length after.left =
+    ap length passed.1.1.next ∙ length-append (bytes ++ passed.0) after.left in
+    let both : length (bytes ++ passed.0) ≡ length bytes + length passed.0 = length-append bytes passed.0 in
+    let some : 0 < length passed.0 = passed.1.0 in
+    omega (arith, within, full)
+
+pub completes : (outcome : Outcome) (history : ℕ) (source source' : Option Stream) (clock clock' : Option Dial) (sink sink' : Option (List ℕ))
+    (faults faults' quiets quiets' sunk sunk' : ℕ)
+    → Decoded outcome history source source' clock clock' sink sink' → HasCause outcome faults faults' quiets quiets' sunk sunk'
+    → IsWithin history source → (Rose faults faults' → ⊥) → (RoseBy 1000 quiets quiets' → ⊥) → (Rose sunk sunk' → ⊥)
+    → (status_of outcome ≡ 0) ⊎ (status_of outcome ≡ 7)
+completes Done history source source' clock clock' sink sink' faults faults' quiets quiets' sunk sunk' done cause within sound lively unbroken = inl refl
+completes ReadFault history source source' clock clock' sink sink' faults faults' quiets quiets' sunk sunk' done (inl rose) within sound lively unbroken = absurd (sound rose)
+completes ReadFault history source source' clock clock' sink sink' faults faults' quiets quiets' sunk sunk' done (inr rose) within sound lively unbroken = absurd (lively rose)
+completes WriteFault history source source' clock clock' sink sink' faults faults' quiets quiets' sunk sunk' done cause within sound lively unbroken = absurd (unbroken cause)
+completes Full history source source' clock clock' sink sink' faults faults' quiets quiets' sunk sunk' done cause within sound lively unbroken =
+    absurd (no_more history (bytes_of done.readings) source source' within done.read.0 done.read.1)
+completes NoMemory history source source' clock clock' sink sink' faults faults' quiets quiets' sunk sunk' done cause within sound lively unbroken = inr refl

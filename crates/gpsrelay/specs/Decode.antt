@@ -1,0 +1,65 @@
+-- What `decode` promises of the bytes that it reads, of the stamps that it asks for, and of the bytes that it writes. This project's own.
+use Rattle.std.specs.Prelude.{◌≡◌, ℕ, ◌≤◌, List, ◌++◌, length, Option, Some, None, Result, Ok, Err}
+use Rattle.gps_report.specs.declared.edge.Symbol.{Symbol}
+use Rattle.gps_report.specs.declared.report.Body.{Body}
+use Rattle.gps_outside.specs.Counts.{Rose}
+use Rattle.gps_outside.specs.Told.{Stream, Goes, Stays, Appends, AppendsPart}
+use Rattle.gps_outside.specs.Ticks.{Dial, GivesAll}
+use Rattle.gps_outside.specs.Turns.{PassesMore, TakesAll, TakesFirst, TakesSome}
+use Rattle.device_core.specs.Reports.{device_close, Gains}
+use Rattle.device_core.specs.Standing.{Kept, StandsFor}
+use Rattle.gpsrelay.specs.declared.outcome.Outcome.{Outcome}
+use Rattle.gpsrelay.specs.declared.outcome.Outcome.TheVariants.{Done, ReadFault, WriteFault, Full, NoMemory}
+use Rattle.gpsrelay.specs.declared.outcome.Fault.{Fault}
+use Rattle.gpsrelay.specs.declared.outcome.Fault.TheVariants.{Sink, NoMemory as NoMemoryFault}
+use Rattle.gpsrelay.specs.Readings.{Reading, bytes_of, stamps_of, stream_of}
+use Rattle.gpsrelay.specs.Lines.{lines_of, lines_so_far, lines_to_end}
+
+-- How many bytes were read, and which of the source's: all that was left; those before a fault; those before one more than the history
+-- allows; or those before the command gave up.
+abbrev pub HasRead : Outcome → ℕ → List ℕ → Option Stream → Option Stream → Type 0
+HasRead Done history bytes before after = (length bytes ≤ history) × Goes (TakesAll bytes) before after
+HasRead ReadFault history bytes before after = (length bytes ≤ history) × Goes (TakesSome bytes) before after
+HasRead WriteFault history bytes before after = (length bytes ≤ history) × Goes (TakesFirst bytes) before after
+HasRead Full history bytes before after = (length bytes ≡ history) × Goes (PassesMore bytes) before after
+HasRead NoMemory history bytes before after = (length bytes ≤ history) × Goes (TakesFirst bytes) before after
+
+-- What was written for the stream of what was read: at the input's end all its lines; at a fault of the source, or where the history is full,
+-- the lines so far; else a part of the lines from their beginning.
+abbrev pub HasWritten : Outcome → List Symbol → Option (List ℕ) → Option (List ℕ) → Type 0
+HasWritten Done stream before after = Goes (Appends (lines_to_end stream)) before after
+HasWritten ReadFault stream before after = Goes (Appends (lines_so_far stream)) before after
+HasWritten WriteFault stream before after = Goes (AppendsPart (lines_to_end stream)) before after
+HasWritten Full stream before after = Goes (Appends (lines_so_far stream)) before after
+HasWritten NoMemory stream before after = Goes (AppendsPart (lines_to_end stream)) before after
+
+-- There are readings such that their bytes were read, the clock gave their stamps in order, and the lines of their stream were written. Of an
+-- object of the outside that does not tell its content nothing is said here: then the readings may be any.
+pub record Decoded (outcome : Outcome) (history : ℕ) (source source' : Option Stream) (clock clock' : Option Dial) (sink sink' : Option (List ℕ)) : Type 0 where
+  pub readings : List Reading
+  pub read : HasRead outcome history (bytes_of readings) source source'
+  pub stamps : Goes (GivesAll (stamps_of readings)) clock clock'
+  pub wrote : HasWritten outcome (stream_of readings) sink sink'
+
+-- the source tells that no more is left than the history allows
+abbrev pub IsWithin : ℕ → Option Stream → Type 0
+IsWithin history None = ⊥
+IsWithin history (Some stream) = length stream.left ≤ history
+
+-- the lines were written whole, or in part where the sink failed, or not at all for want of memory
+abbrev pub Written : {X : Type 0} → Result X Fault → List ℕ → Option (List ℕ) → Option (List ℕ) → Type 0
+Written (Ok _) lines before after = Goes (Appends lines) before after
+Written (Err Sink) lines before after = Goes (AppendsPart lines) before after
+Written (Err NoMemoryFault) lines before after = before ≡ after
+
+abbrev pub WriteCause : {X : Type 0} → Result X Fault → ℕ → ℕ → Type 0
+WriteCause (Ok _) before after = Unit {0}
+WriteCause (Err Sink) before after = Rose before after
+WriteCause (Err NoMemoryFault) before after = Unit {0}
+
+-- the lines of what a stream gains by more of it were written, and what is kept then stands for the longer stream; or a part of them where the
+-- sink failed; or nothing for want of memory
+abbrev pub HandsOn : {X : Type 0} → Result X Fault → List Symbol → List Symbol → Kept → Option (List ℕ) → Option (List ℕ) → Type 0
+HandsOn (Ok _) stream more kept before after = StandsFor kept (stream ++ more) × ((out : List Body) × (Gains stream more out × Goes (Appends (lines_of out)) before after))
+HandsOn (Err Sink) stream more kept before after = (out : List Body) × (Gains stream more out × Goes (AppendsPart (lines_of out)) before after)
+HandsOn (Err NoMemoryFault) stream more kept before after = before ≡ after

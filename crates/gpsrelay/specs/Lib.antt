@@ -1,0 +1,4 @@
+pub mod Readings
+pub mod Lines
+pub mod Outcomes
+pub mod Decode

@@ -1,0 +1,20 @@
+-- What a command read in a call: the bytes of each read, with the stamp that the clock gave after it. This project's own.
+use Rattle.std.specs.Prelude.{ℕ, List, map}
+use Rattle.std.specs.List.{flat_map}
+use Rattle.gps_fixed.specs.Moment.{Moment}
+use Rattle.gps_report.specs.declared.edge.Symbol.{Symbol}
+use Rattle.device_core.specs.Stream.{piece}
+
+pub record Reading : Type 0 where
+  pub at : Moment
+  pub bytes : List ℕ
+
+abbrev pub bytes_of : List Reading → List ℕ
+bytes_of readings = flat_map (λ reading. reading.bytes) readings
+
+abbrev pub stamps_of : List Reading → List Moment
+stamps_of readings = map (λ reading. reading.at) readings
+
+-- the stream of the device that was given all of them
+abbrev pub stream_of : List Reading → List Symbol
+stream_of readings = flat_map (λ reading. piece reading.at reading.bytes) readings

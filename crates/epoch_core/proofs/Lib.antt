@@ -7,3 +7,4 @@ pub mod Grown
 pub mod Renewed
 pub mod Told
 pub mod Low
+pub mod EpochLaws

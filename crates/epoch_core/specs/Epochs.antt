@@ -98,3 +98,23 @@ leaves_a_second (SkyBody sky) = true
 leaves_a_second (Toff pair) = is_before_the_last pair.reference.sec
 leaves_a_second (Pps pair) = true
 leaves_a_second (Device first) = true
+
+-- a report that is no serial time
+abbrev pub is_no_toff : Body → Bool
+is_no_toff (Toff pair) = false
+is_no_toff _ = true
+
+-- the epochs that are closed: another follows each, or the last has ended
+abbrev pub closed : List (List Dated) → List (List Dated)
+closed [] = []
+closed (epoch ∷ earlier) = cond (has_ended epoch) (epoch ∷ earlier) earlier
+
+-- what the closed epochs give, the earliest first
+abbrev pub closings : List (List Dated) → List Body
+closings [] = []
+closings (epoch ∷ earlier) = closings earlier ++ closing epoch
+
+-- the notes of epochs, one epoch behind another
+abbrev pub all_notes : List (List Dated) → List Dated
+all_notes [] = []
+all_notes (epoch ∷ earlier) = epoch ++ all_notes earlier

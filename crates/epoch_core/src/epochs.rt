@@ -222,33 +222,6 @@ impl Epochs {
         })
     }
 
-    /// Another that stands for the notes that this one stood for at the mark; without a mark, for the same.
-    #[tactic(auto, unfolding(crate::specs::Marks::back_from, crate::specs::Marks::HoldsMark))]
-    pub fn copy_back(&self) -> Result<Epochs, NoMemory>
-        ensures { IfOk result (λ e. e ≡ record { now = unwrap_or self.now.back self.now.now; back = None }) }
-    {
-        match &self.mark {
-            Some(mark) => {
-                let running = mark.copy_running(self.alloc, &self.running)?;
-                Ok(Epochs {
-                    alloc: self.alloc,
-                    days: mark.days,
-                    running,
-                    mark: None,
-                })
-            }
-            None => {
-                let running = self.running.copy(self.alloc)?;
-                Ok(Epochs {
-                    alloc: self.alloc,
-                    days: self.days,
-                    running,
-                    mark: None,
-                })
-            }
-        }
-    }
-
     /// The number of satellites and used ids of the running epoch, each once: at most 84,915 satellites that sentences name,
     /// 65,536 others of frames, and 4,995 ids with their system. Takes no memory.
     pub fn kept(&self) -> u32

@@ -9,12 +9,16 @@ mod epochs;
 mod fixes;
 mod heard;
 mod keys;
+mod laws;
 mod mark;
 mod once;
 mod point;
 mod running;
 mod said;
 mod seen;
+#[cfg(test)]
+mod tests;
 
 pub use epochs::Epochs;
 pub use heard::Heard;
+pub use laws::{epochs_hold_all_notes, reports_are_those_of_the_closed_epochs};

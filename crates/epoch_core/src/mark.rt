@@ -1,11 +1,9 @@
-ghost use Rattle.std.specs.Prelude.{◌≡◌, IfOk, unwrap_or};
-ghost use Rattle.epoch_core.specs.Marks.{put_aside as put_by, moved_aside, ran_at};
+ghost use Rattle.std.specs.Prelude.{◌≡◌};
+ghost use Rattle.epoch_core.specs.Marks.{put_aside as put_by, moved_aside};
 
 use crate::days::Days;
 use crate::point::Point;
 use crate::running::Running;
-use gps_fixed::NoMemory;
-use std::alloc::Global;
 
 /// The way back: where the running epoch stood at the mark, and that epoch itself where it has closed since.
 #[derive(Debug, Drop)]
@@ -38,25 +36,5 @@ pub fn put_aside(mark: Option<Mark>, old: Running) -> Option<Mark>
             })
         }
         None => None,
-    }
-}
-
-fn stood<'a>(aside: &'a Option<Running>, running: &'a Running) -> &'a Running
-    ensures { result.now ≡ unwrap_or aside.now running.now }
-{
-    match aside {
-        Some(old) => old,
-        None => running,
-    }
-}
-
-impl Mark {
-    /// The epoch that ran at the mark, where `running` runs now.
-    pub fn copy_running(&self, alloc: Global, running: &Running) -> Result<Running, NoMemory>
-        ensures { IfOk result (λ r. r ≡ ran_at self.now.point (unwrap_or self.now.aside running.now)) }
-    {
-        let mut copy = stood(&self.aside, running).copy(alloc)?;
-        copy.undo(&self.point);
-        Ok(copy)
     }
 }

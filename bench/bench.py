@@ -5,8 +5,9 @@
 
 PROGRAM is the built program (default crates/gpsrelay/out/gpsrelay, which `rt run` leaves). The inputs are made
 by a fixed seed, so they are the same bytes everywhere. For each input the two programs run by turns, ROUNDS
-times (default 3), from a file to /dev/null; the best round counts. Printed: megabytes a second, nanoseconds a
-packet, processor seconds and peak memory, and the ratio where both ran. Only ratios of one run compare programs.
+times (default 3), from a file to /dev/null; the best round counts. Printed: megabytes a processor second, nanoseconds a
+packet, processor seconds and peak memory (of which some 10 MB are this script's, from before the program begins),
+and the ratio of processor seconds where both ran. Only ratios of one run compare programs.
 """
 import os
 import random
@@ -116,10 +117,26 @@ def run(command, path):
     return wall, usage.ru_utime + usage.ru_stime, usage.ru_maxrss, os.waitstatus_to_exitcode(status)
 
 
+def made(make, path):
+    """Makes an input in a process of its own, so that this one stays small: what a run's peak memory begins with is this process's."""
+    reader, writer = os.pipe()
+    if os.fork() == 0:
+        data, packets = make()
+        with open(path, "wb") as file:
+            file.write(data)
+        os.write(writer, f"{len(data)} {packets}".encode())
+        os._exit(0)
+    os.close(writer)
+    size, packets = map(int, os.read(reader, 100).split())
+    os.close(reader)
+    os.wait()
+    return size, packets
+
+
 def line(name, best, size, packets):
     wall, cpu, peak, status = best
-    each = f"{1e9 * wall / packets:7.0f} ns/packet" if packets else " " * 17
-    return f"  {name:<10} {size / MB / wall:8.1f} MB/s {each} {cpu:7.3f} s cpu {peak / 1000:7.1f} MB peak, status {status}"
+    each = f"{1e9 * cpu / packets:7.0f} ns/packet" if packets else " " * 17
+    return f"  {name:<10} {size / MB / max(cpu, 1e-3):8.1f} MB/s {each} {cpu:7.3f} s cpu {peak / 1000:7.1f} MB peak, status {status}"
 
 
 def main():
@@ -133,19 +150,17 @@ def main():
     print(f"{os.cpu_count()} processors; best of {rounds} rounds, programs by turns")
     with tempfile.TemporaryDirectory() as folder:
         for name, make in INPUTS:
-            data, packets = make()
             path = os.path.join(folder, "input")
-            with open(path, "wb") as file:
-                file.write(data)
+            size, packets = made(make, path)
             results = {each: [] for each in commands}
             for _ in range(rounds):
                 for each, command in commands.items():
                     results[each].append(run(command, path))
-            print(f"{name} ({len(data):,} bytes, {packets:,} packets)")
+            print(f"{name} ({size:,} bytes, {packets:,} packets)")
             for each in commands:
-                print(line(each, min(results[each]), len(data), packets))
+                print(line(each, min(results[each]), size, packets))
             if other:
-                ratio = min(results["gpsdecode"])[0] / min(results["gpsrelay"])[0]
+                ratio = min(r[1] for r in results["gpsdecode"]) / min(r[1] for r in results["gpsrelay"])
                 print(f"  ratio      {ratio:8.1f}")
 
 

@@ -1,5 +1,5 @@
 -- What later symbols add depends on what a device keeps alone, and on no stream that it stands for more than on another.
-use Rattle.std.proofs.Common.{◌≡◌, ℕ, refl, sym, ap, ◌∙◌, subst, Bool, cond, List, [], ◌∷◌, ◌++◌, append_assoc, append-nil, reverse, Option, Some, None, option_map, option_to_list}
+use Rattle.std.proofs.Common.{◌≡◌, refl, sym, ap, ◌∙◌, subst, cond, List, [], ◌∷◌, ◌++◌, append_assoc, append-nil, Some, None, option_map, option_to_list}
 use Rattle.std.proofs.lemmas.List.{map-append}
 use Rattle.std.specs.Option.{option_or}
 use Rattle.gps_report.specs.declared.edge.Edge.{Edge}
@@ -8,17 +8,17 @@ use Rattle.gps_report.specs.declared.edge.Symbol.TheVariants.{Byte, Edge as Edge
 use Rattle.gps_report.specs.declared.packet.Packet.{Packet}
 use Rattle.gps_report.specs.declared.report.Body.{Body}
 use Rattle.gps_report.specs.declared.report.Body.TheVariants.{Packet as PacketBody, Pps}
-use Rattle.packet_cut.specs.Packets.{Stamped, stamped, packets_of, rest_of}
+use Rattle.packet_cut.specs.Packets.{Stamped, packets_of, rest_of}
 use Rattle.packet_cut.specs.Standing.{StandsFor as BytesStand}
 use Rattle.packet_cut.proofs.StreamLaws.{rest_gain}
 use Rattle.epoch_core.specs.declared.heard.Heard.{Heard}
-use Rattle.epoch_core.specs.Epochs.{reports, left}
+use Rattle.epoch_core.specs.Epochs.{reports}
 use Rattle.epoch_core.specs.Kept.{Kept as KeptEpochs, StandsFor as NotesStand}
-use Rattle.epoch_core.specs.Steps.{kept_after, kept_caused, ran_closing}
+use Rattle.epoch_core.specs.Steps.{kept_after, kept_caused}
 use Rattle.epoch_core.proofs.Told.{gained as note_gained, left_over}
 use Rattle.pps_edges.specs.Pulse.{StandsFor as EdgesStand, is_assert, last_assert, paired, pps_of}
-use Rattle.device_core.specs.Stream.{bytes_in, edges_in, heard, notes_of, notes_in, packets_in, piece}
-use Rattle.device_core.specs.Reports.{all_told, beyond, device_close, device_gain, device_reports, gained, last_toff, pulse_of, reports_from, told}
+use Rattle.device_core.specs.Stream.{bytes_in, heard, notes_of, notes_in, packets_in}
+use Rattle.device_core.specs.Reports.{all_told, device_close, device_gain, device_reports, gained, last_toff, reports_from, told}
 use Rattle.device_core.specs.Standing.{Kept, StandsFor}
 use Rattle.device_core.proofs.Streams.{beyond_is, byte_gains, edges_after, last_toff-append, packets_after, reports-append, stream_after}
 use Rattle.device_core.proofs.Devices.{stands_edge}

@@ -1,10 +1,10 @@
 -- A device: what one call makes of what it keeps.
-use Rattle.std.proofs.Common.{◌≡◌, ℕ, refl, sym, ap, ◌∙◌, subst, List, [], ◌∷◌, ◌++◌, append-nil, reverse, Option, Some, None, Bool, true, false, option_map, option_to_list}
+use Rattle.std.proofs.Common.{◌≡◌, ℕ, refl, sym, ap, ◌∙◌, subst, List, [], ◌∷◌, ◌++◌, append-nil, reverse, Option, Some, None, true, false, option_map, option_to_list}
 use Rattle.std.proofs.lemmas.List.{reverse-append}
 use Rattle.gps_fixed.specs.Moment.{Moment}
 use Rattle.gps_report.specs.declared.edge.Edge.{Edge}
 use Rattle.gps_report.specs.declared.edge.Symbol.{Symbol}
-use Rattle.gps_report.specs.declared.edge.Symbol.TheVariants.{Byte, Edge as EdgeSymbol}
+use Rattle.gps_report.specs.declared.edge.Symbol.TheVariants.{Edge as EdgeSymbol}
 use Rattle.gps_report.specs.declared.fix.Pair.{Pair}
 use Rattle.gps_report.specs.declared.packet.Packet.{Packet}
 use Rattle.gps_report.specs.declared.report.Body.{Body}
@@ -12,12 +12,12 @@ use Rattle.gps_report.specs.declared.report.Body.TheVariants.{Pps}
 use Rattle.packet_cut.specs.Packets.{Stamped, parts_from, stamped, packets_of, rest_of}
 use Rattle.packet_cut.specs.Standing.{StandsFor as BytesStand, IsCut, Shift, applied}
 use Rattle.packet_cut.proofs.StreamLaws.{rest_gain}
-use Rattle.epoch_core.specs.Epochs.{epochs, reports, left}
+use Rattle.epoch_core.specs.Epochs.{epochs, reports}
 use Rattle.epoch_core.specs.Days.{dated}
 use Rattle.epoch_core.specs.Kept.{Kept as KeptEpochs, StandsFor as NotesStand}
-use Rattle.pps_edges.specs.Pulse.{StandsFor as EdgesStand, last_assert, pps_of}
-use Rattle.device_core.specs.Stream.{bytes_in, edges_in, piece, packets_in, notes_of, notes_in}
-use Rattle.device_core.specs.Reports.{last_toff, all_told, pulse_of, reports_from, Gains, device_reports}
+use Rattle.pps_edges.specs.Pulse.{StandsFor as EdgesStand, pps_of}
+use Rattle.device_core.specs.Stream.{bytes_in, edges_in, piece, packets_in, notes_of}
+use Rattle.device_core.specs.Reports.{last_toff, pulse_of, reports_from, Gains, device_reports}
 use Rattle.device_core.specs.Standing.{Held, Kept, StandsFor}
 use Rattle.device_core.specs.declared.draft.Draft.{Draft}
 use Rattle.device_core.specs.Drafts.{IsSound, back_of, now_of}

@@ -1,19 +1,16 @@
 -- The reports of a stream, and what a piece adds to them.
-use Rattle.std.proofs.Common.{◌≡◌, ℕ, refl, sym, ap, ◌∙◌, subst, List, [], ◌∷◌, ◌++◌, length, drop, map, reverse, append_assoc, append-nil, Option, Some, None}
+use Rattle.std.proofs.Common.{◌≡◌, ℕ, refl, sym, ap, ◌∙◌, List, [], ◌∷◌, ◌++◌, length, drop, reverse, append_assoc, append-nil, Option, Some, None}
 use Rattle.std.proofs.Math.Seq.{drop-append_seam, drop-length}
 use Rattle.std.proofs.lemmas.List.Concat.{flat_map-append}
 use Rattle.std.specs.Option.{option_or}
 use Rattle.gps_fixed.specs.Moment.{Moment}
-use Rattle.gps_report.specs.declared.edge.Edge.{Edge}
 use Rattle.gps_report.specs.declared.edge.Symbol.{Symbol}
-use Rattle.gps_report.specs.declared.edge.Symbol.TheVariants.{Byte, Edge as EdgeSymbol}
-use Rattle.gps_report.specs.declared.fix.Pair.{Pair}
+use Rattle.gps_report.specs.declared.edge.Symbol.TheVariants.{Byte}
 use Rattle.gps_report.specs.declared.packet.Packet.{Packet}
 use Rattle.gps_report.specs.declared.report.Body.{Body}
 use Rattle.packet_cut.specs.Packets.{Stamped, stamped, packets_of, rest_of}
 use Rattle.packet_cut.proofs.StreamLaws.{packets_gain, rest_gain}
-use Rattle.epoch_core.specs.Epochs.{reports}
-use Rattle.device_core.specs.Stream.{byte_in, edge_in, bytes_in, edges_in, piece, packets_in, notes_of, notes_in, heard}
+use Rattle.device_core.specs.Stream.{byte_in, edge_in, bytes_in, edges_in, piece, packets_in}
 use Rattle.device_core.specs.Reports.{beyond, toff_in, last_toff, told, all_told, gained, reports_from, device_reports, Gains}
 
 pub beyond_is : {X : Type 0} (before more all : List X) → all ≡ before ++ more → beyond before all ≡ more

@@ -1,6 +1,6 @@
 -- Packets taken one after another.
-use Rattle.std.proofs.Common.{◌≡◌, refl, sym, ap, ◌∙◌, subst, List, [], ◌∷◌, ◌++◌, append_assoc, append-nil, Option, true}
-use Rattle.std.proofs.lemmas.List.{map-append}
+use Rattle.std.proofs.Common.{◌≡◌, sym, ap, ◌∙◌, subst, List, [], ◌∷◌, ◌++◌, append_assoc, append-nil, Option, true, length, ◌+◌, ◌≤◌, arith}
+use Rattle.std.proofs.lemmas.List.{length-append, map-append}
 use Rattle.std.specs.Option.{option_or}
 use Rattle.std.specs.List.{list_all}
 use Rattle.gps_fixed.specs.Moment.{Moment}
@@ -13,8 +13,7 @@ use Rattle.epoch_core.specs.declared.heard.Heard.{Heard}
 use Rattle.epoch_core.specs.Epochs.{reports, leaves_a_second, Gains as NotesGain}
 use Rattle.epoch_core.specs.Kept.{Kept as KeptEpochs, StandsFor as NotesStand}
 use Rattle.device_core.specs.Stream.{note_in, heard, notes_of}
-use Rattle.device_core.specs.Reports.{beyond, told, all_told, last_toff}
-use Rattle.device_core.specs.Drafts.{is_low}
+use Rattle.device_core.specs.Reports.{told, all_told, last_toff}
 use Rattle.device_core.specs.Going.{TookOne, TookAll}
 use Rattle.device_core.proofs.Streams.{beyond_is, told-append, last_toff-append}
 use Rattle.device_core.proofs.Toffs.{newer_low}
@@ -71,3 +70,7 @@ took_more old now next toff at_now at_next done packet bodies more all one = rec
       ∙ ap (λ packets. last_toff (reports (notes_of packets))) (append_assoc before done (packet ∷ []));
   low = λ l. one.low (all.low l);
 }
+
+-- a packet and at most five reports that it causes
+pub few_more : (packet : Packet) (caused bodies more : List Body) → length caused ≤ 5 → more ≡ bodies ++ PacketBody packet ∷ caused → length more ≤ length bodies + 6
+few_more packet caused bodies more few made = omega (arith, ap length made, length-append bodies (PacketBody packet ∷ caused))

@@ -1,5 +1,5 @@
 -- The last serial time among reports.
-use Rattle.std.proofs.Common.{◌≡◌, refl, sym, ap, ◌∙◌, Bool, true, false, ◌&&◌, List, [], ◌∷◌, ◌++◌, Option, Some, None}
+use Rattle.std.proofs.Common.{◌≡◌, refl, sym, ap, ◌∙◌, Bool, true, false, ◌&&◌, List, [], ◌∷◌, Option, Some, None}
 use Rattle.std.specs.List.{fold, list_all}
 use Rattle.std.specs.Option.{option_or}
 use Rattle.gps_report.specs.declared.fix.Pair.{Pair}

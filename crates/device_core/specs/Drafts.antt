@@ -1,5 +1,5 @@
 -- A device with an open draft: a call was made, and can still be undone. This project's own.
-use Rattle.std.specs.Prelude.{ℕ, ℤ, pos, negsuc, ◌≡◌, Bool, true, List, Option, Some, None, is_some, option_map, unwrap_or}
+use Rattle.std.specs.Prelude.{◌≡◌, Bool, true, List, Option, Some, None, is_some, option_map, unwrap_or}
 use Rattle.gps_report.specs.declared.edge.Edge.{Edge}
 use Rattle.gps_report.specs.declared.fix.Pair.{Pair}
 use Rattle.packet_cut.specs.Packets.{Stamped}

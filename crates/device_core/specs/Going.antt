@@ -1,5 +1,5 @@
 -- What it is that packets were taken: their notes went to the epochs, and the reports that they told were made. This project's own.
-use Rattle.std.specs.Prelude.{ℕ, ◌≡◌, true, List, [], ◌∷◌, ◌++◌, Option}
+use Rattle.std.specs.Prelude.{◌≡◌, true, List, [], ◌∷◌, ◌++◌, Option}
 use Rattle.gps_report.specs.declared.fix.Pair.{Pair}
 use Rattle.gps_report.specs.declared.packet.Packet.{Packet}
 use Rattle.gps_report.specs.declared.report.Body.{Body}

@@ -1,6 +1,6 @@
 -- The reports of a device's stream, symbol by symbol: each packet that a byte completes and then what its note causes, and the pulse of each
 -- edge that marks a second. This project's own.
-use Rattle.std.specs.Prelude.{ℕ, ◌≡◌, List, [], ◌∷◌, ◌++◌, Option, Some, None, drop, length, map, reverse, option_map, option_to_list}
+use Rattle.std.specs.Prelude.{◌≡◌, List, [], ◌∷◌, ◌++◌, Option, Some, None, drop, length, reverse, option_map, option_to_list}
 use Rattle.std.specs.Option.{option_or}
 use Rattle.gps_report.specs.declared.edge.Edge.{Edge}
 use Rattle.gps_report.specs.declared.edge.Symbol.{Symbol}
@@ -8,10 +8,10 @@ use Rattle.gps_report.specs.declared.edge.Symbol.TheVariants.{Byte, Edge as Edge
 use Rattle.gps_report.specs.declared.fix.Pair.{Pair}
 use Rattle.gps_report.specs.declared.packet.Packet.{Packet}
 use Rattle.gps_report.specs.declared.report.Body.{Body}
-use Rattle.gps_report.specs.declared.report.Body.TheVariants.{Packet as PacketBody, Tpv, Sky, Toff, Pps, Device}
+use Rattle.gps_report.specs.declared.report.Body.TheVariants.{Packet as PacketBody, Toff, Pps}
 use Rattle.epoch_core.specs.Epochs.{reports, left}
 use Rattle.pps_edges.specs.Pulse.{pps_of}
-use Rattle.device_core.specs.Stream.{heard, notes_of, notes_in, packets_in, edges_in}
+use Rattle.device_core.specs.Stream.{notes_of, notes_in, packets_in, edges_in}
 
 -- what a list has beyond one that begins it
 abbrev pub beyond : {X : Type 0} → List X → List X → List X

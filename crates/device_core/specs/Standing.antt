@@ -1,5 +1,5 @@
 -- What a device keeps, and for which streams it stands: those of which it keeps what later reports need. This project's own.
-use Rattle.std.specs.Prelude.{ℕ, ◌≡◌, List, Option, reverse}
+use Rattle.std.specs.Prelude.{◌≡◌, List, Option, reverse}
 use Rattle.gps_report.specs.declared.edge.Edge.{Edge}
 use Rattle.gps_report.specs.declared.edge.Symbol.{Symbol}
 use Rattle.gps_report.specs.declared.fix.Pair.{Pair}

@@ -1,4 +1,4 @@
-ghost use Rattle.std.specs.Prelude.{◌≡◌, ◌∷◌, ◌++◌, [], Some, None, true, List, IfOk, OnOk, OnErr, option_map, option_to_list};
+ghost use Rattle.std.specs.Prelude.{◌≡◌, ◌∷◌, ◌++◌, [], Some, None, true, List, IfOk, OnOk, OnErr, option_map, option_to_list, length, ◌+◌, ◌≤◌};
 ghost use Rattle.gps_report.specs.declared.edge.Symbol.{Symbol as SymbolValue};
 ghost use Rattle.device_core.specs.Stream.{piece};
 ghost use Rattle.device_core.specs.Reports.{Gains, device_close};
@@ -79,10 +79,12 @@ impl Device {
     }
 
     /// Gives the next piece of bytes, which came at this stamp, as a draft: the reports that the device's reports gain, each packet
-    /// before what it causes.
+    /// before what it causes. They are at most 2,055 more than the bytes: each packet has at least 6 of the pending bytes, which are
+    /// at most 2,055, and of the piece, and causes at most five.
     #[tactic(auto, using(crate::proofs::Devices::gains_fed, crate::proofs::Devices::stands_fed))]
     pub fn draft_feed(&mut self, at: Stamp, bytes: &[u8]) -> Result<Vec<Body>, NoMemory>
         ensures gains { IfOk result (λ out. (stream : List SymbolValue) → StandsFor self.old.now stream → Gains stream (piece at bytes.now) out.items) }
+        ensures few { IfOk result (λ out. length out.items ≤ 2055 + length bytes.now) }
         ensures stands { OnOk result ((stream : List SymbolValue) → StandsFor self.old.now stream → StandsFor self.new.now (stream ++ piece at bytes.now)) }
         ensures back { OnOk result (self.new.back ≡ Some self.old.now) }
         ensures err { OnErr result (self.new ≡ record { now = self.old.now; back = None }) }
@@ -116,10 +118,11 @@ impl Device {
         }
     }
 
-    /// Gives the next pulse edge, as a draft: its pulse, where it has one.
+    /// Gives the next pulse edge, as a draft: its pulse, where it has one, so at most one report.
     #[tactic(auto, using(crate::proofs::Devices::gains_edge, crate::proofs::Devices::stands_edge))]
     pub fn draft_edge(&mut self, edge: Edge) -> Result<Vec<Body>, NoMemory>
         ensures gains { IfOk result (λ out. (stream : List SymbolValue) → StandsFor self.old.now stream → Gains stream (Symbol.Edge edge ∷ []) out.items) }
+        ensures few { IfOk result (λ out. length out.items ≤ 1) }
         ensures stands { OnOk result ((stream : List SymbolValue) → StandsFor self.old.now stream → StandsFor self.new.now (stream ++ Symbol.Edge edge ∷ [])) }
         ensures back { OnOk result (self.new.back ≡ Some self.old.now) }
         ensures err { OnErr result (self.new ≡ record { now = self.old.now; back = None }) }
@@ -136,9 +139,11 @@ impl Device {
         Ok(out)
     }
 
-    /// Ends the device, as a draft: the fix and the sky of the epoch that is not closed. What the device stands for after it is left open.
+    /// Ends the device, as a draft: the fix and the sky of the epoch that is not closed, so at most two reports. What the device stands
+    /// for after it is left open.
     pub fn draft_finish(&mut self) -> Result<Vec<Body>, NoMemory>
         ensures gains { IfOk result (λ out. (stream : List SymbolValue) → StandsFor self.old.now stream → out.items ≡ device_close stream) }
+        ensures few { IfOk result (λ out. length out.items ≤ 2) }
         ensures back { OnOk result (self.new.back ≡ Some self.old.now) }
         ensures err { OnErr result (self.new ≡ record { now = self.old.now; back = None }) }
     {
@@ -161,9 +166,10 @@ impl Device {
     }
 
     /// Gives the next piece of bytes, which came at this stamp: the reports that the device's reports gain, each packet before what it
-    /// causes. A refusal leaves what the device keeps as it was.
+    /// causes, and at most 2,055 more than the bytes. A refusal leaves what the device keeps as it was.
     pub fn feed(&mut self, at: Stamp, bytes: &[u8]) -> Result<Vec<Body>, NoMemory>
         ensures gains { IfOk result (λ out. (stream : List SymbolValue) → StandsFor self.old.now stream → Gains stream (piece at bytes.now) out.items) }
+        ensures few { IfOk result (λ out. length out.items ≤ 2055 + length bytes.now) }
         ensures stands { OnOk result ((stream : List SymbolValue) → StandsFor self.old.now stream → StandsFor self.new.now (stream ++ piece at bytes.now)) }
         ensures settled { self.new.back ≡ None }
         ensures err { OnErr result (self.new.now ≡ self.old.now) }
@@ -173,9 +179,10 @@ impl Device {
         Ok(out)
     }
 
-    /// Gives the next pulse edge: its pulse, where it has one. A refusal leaves what the device keeps as it was.
+    /// Gives the next pulse edge: its pulse, where it has one, so at most one report. A refusal leaves what the device keeps as it was.
     pub fn edge(&mut self, edge: Edge) -> Result<Vec<Body>, NoMemory>
         ensures gains { IfOk result (λ out. (stream : List SymbolValue) → StandsFor self.old.now stream → Gains stream (Symbol.Edge edge ∷ []) out.items) }
+        ensures few { IfOk result (λ out. length out.items ≤ 1) }
         ensures stands { OnOk result ((stream : List SymbolValue) → StandsFor self.old.now stream → StandsFor self.new.now (stream ++ Symbol.Edge edge ∷ [])) }
         ensures settled { self.new.back ≡ None }
         ensures err { OnErr result (self.new.now ≡ self.old.now) }
@@ -185,10 +192,11 @@ impl Device {
         Ok(out)
     }
 
-    /// Ends the device: the fix and the sky of the epoch that is not closed. What the device stands for after it is left open.
-    /// A refusal leaves what the device keeps as it was.
+    /// Ends the device: the fix and the sky of the epoch that is not closed, so at most two reports. What the device stands for after
+    /// it is left open. A refusal leaves what the device keeps as it was.
     pub fn finish(&mut self) -> Result<Vec<Body>, NoMemory>
         ensures gains { IfOk result (λ out. (stream : List SymbolValue) → StandsFor self.old.now stream → out.items ≡ device_close stream) }
+        ensures few { IfOk result (λ out. length out.items ≤ 2) }
         ensures settled { self.new.back ≡ None }
         ensures err { OnErr result (self.new.now ≡ self.old.now) }
     {

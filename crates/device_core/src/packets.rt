@@ -1,4 +1,4 @@
-ghost use Rattle.std.specs.Prelude.{◌≡◌, ◌∷◌, ◌++◌, IfOk, OnOk, fold};
+ghost use Rattle.std.specs.Prelude.{◌≡◌, ◌∷◌, ◌++◌, ◌+◌, ◌*◌, ◌≤◌, IfOk, OnOk, fold, length};
 ghost use Rattle.std.specs.Option.{option_or};
 ghost use Rattle.gps_report.specs.Fits.{Fits};
 ghost use Rattle.device_core.specs.Stream.{note_in};
@@ -58,8 +58,8 @@ fn add_told(out: &mut Vec<Body>, packet: Packet, mut caused: Vec<Body>) -> Resul
     Ok(())
 }
 
-/// Takes a packet: it goes to the reports, and what its note causes behind it.
-#[tactic(auto, using(crate::proofs::Taking::took_one))]
+/// Takes a packet: it goes to the reports, and what its note causes behind it, at most five.
+#[tactic(auto, using(crate::proofs::Taking::took_one, crate::proofs::Taking::few_more))]
 fn take_packet(
     alloc: Global,
     epochs: &mut Epochs,
@@ -68,6 +68,7 @@ fn take_packet(
     out: &mut Vec<Body>,
 ) -> Result<Option<Pair>, NoMemory>
     ensures took { IfOk result (λ next. TookOne epochs.old.now epochs.new.now toff next packet out.old.items out.new.items) }
+    ensures few { OnOk result (length out.new.items ≤ length out.old.items + 6) }
     ensures back { epochs.new.back ≡ epochs.old.back }
 {
     let note = note_of_packet(alloc, &packet)?;
@@ -86,6 +87,7 @@ pub(crate) fn take_packets(
     toff: Option<Pair>,
 ) -> Result<(Vec<Body>, Option<Pair>), NoMemory>
     ensures took { IfOk result (λ r. TookAll epochs.old.now epochs.new.now toff r.1 packets.items r.0.items) }
+    ensures few { IfOk result (λ r. length r.0.items ≤ 6 * length packets.items) }
     ensures back { epochs.new.back ≡ epochs.old.back }
 {
     let mut out = Vec::new(alloc);

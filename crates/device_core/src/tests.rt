@@ -1,106 +1,103 @@
-ghost use Rattle.std.specs.Prelude.{◌<◌};
+ghost use Rattle.std.specs.Prelude.{◌≡◌, None};
 
 use super::Device;
 use gps_fixed::Stamp;
 use gps_report::{Body, Edge, EdgeKind, Pair};
+use std::alloc::Global;
 use std::test::Fail;
 
 const SENTENCE: &[u8] = b"$GPRMC,123519,A,4807.038,N,01131.000,E,022.4,084.4,230394,003.1,W*6A\r\n";
+/// That sentence, a byte that is none of any packet, the sentence of the next second, and the beginning of a third one.
+const SECONDS: &[u8] = b"$GPRMC,123519,A,4807.038,N,01131.000,E,022.4,084.4,230394,003.1,W*6A\r\n?\
+    $GPRMC,123520,A,4807.038,N,01131.000,E,022.4,084.4,230394,003.1,W*60\r\n$";
 
-fn stamp(sec: u32, nsec: u32) -> Stamp
-    requires { nsec < 1_000_000_000 }
-{
+fn stamp(sec: u32, nsec: u16) -> Stamp {
     Stamp {
         sec: i64::from(sec),
-        nsec,
+        nsec: u32::from(nsec),
     }
 }
 
-fn pulse(sec: u32, seq: u32) -> Edge {
-    Edge {
-        kind: EdgeKind::Assert,
-        seq,
-        at: stamp(sec, 0),
-    }
+/// So many seconds behind 1994-03-23T12:35:19Z, and where the host's clock stood.
+fn pair(seconds: u8, host: Stamp) -> Option<Pair> {
+    Some(Pair {
+        reference: stamp(764_426_119 + u32::from(seconds), 0),
+        host,
+    })
 }
 
-fn toff_in(bodies: &[Body]) -> Option<Pair> {
+fn pair_in(bodies: &[Body]) -> Option<Pair> {
     match bodies {
         [Body::Packet(_), Body::Toff(pair)] => Some(*pair),
-        _ => None,
-    }
-}
-
-fn pps_in(bodies: &[Body]) -> Option<Pair> {
-    match bodies {
         [Body::Pps(pair)] => Some(*pair),
         _ => None,
     }
 }
 
-/// The serial time of 1994-03-23T12:35:19Z, and the pulse one second later, where the sentence came so many nanoseconds after a pulse.
-fn serial_time_and_pulse(
-    rt: &(impl Alloc<A = std::alloc::Global>),
-    nsec: u32,
-) -> Result<(Option<Pair>, Option<Pair>), Fail>
-    requires { nsec < 1_000_000_000 }
+/// The serial time that the sentence tells.
+fn serial_time(device: &mut Device, at: Stamp) -> Result<Option<Pair>, Fail>
+    ensures { device.new.back ≡ None }
 {
-    let mut device = Device::new(rt.alloc());
-    let _ = device.edge(pulse(99, 4_294_967_295))?;
-    let told = device.feed(stamp(99, nsec), SENTENCE)?;
-    let paired = device.edge(pulse(100, 0))?;
-    Ok((toff_in(told.as_slice()), pps_in(paired.as_slice())))
+    let told = device.feed(at, SENTENCE)?;
+    Ok(pair_in(told.as_slice()))
+}
+
+/// The pulse that an edge gives.
+fn pulse(device: &mut Device, sec: u32, seq: u32) -> Result<Option<Pair>, Fail> {
+    let told = device.edge(Edge {
+        kind: EdgeKind::Assert,
+        seq,
+        at: stamp(sec, 0),
+    })?;
+    Ok(pair_in(told.as_slice()))
+}
+
+/// How many reports a piece gives that is then taken back.
+fn drafted(device: &mut Device, bytes: &[u8]) -> Result<usize, Fail> {
+    let told = device.draft_feed(stamp(1, 0), bytes)?;
+    device.undo();
+    Ok(told.len())
+}
+
+/// How many reports a copy has at its end.
+fn left(device: &Device) -> Result<usize, Fail>
+    requires { device.now.back ≡ None }
+{
+    let told = device.copy()?.finish()?;
+    Ok(told.len())
+}
+
+/// The serial time of a sentence that came so many nanoseconds after a pulse, and the pulse one second later.
+fn serial_time_and_pulse(alloc: Global, nsec: u16) -> Result<(Option<Pair>, Option<Pair>), Fail> {
+    let mut device = Device::new(alloc);
+    let _ = pulse(&mut device, 99, 4_294_967_295)?;
+    let told = serial_time(&mut device, stamp(99, nsec))?;
+    Ok((told, pulse(&mut device, 100, 0)?))
+}
+
+/// The number of reports of a piece that is taken back, the serial time of a sentence after it, and the number at the end.
+fn behind_a_draft(alloc: Global, bytes: &[u8]) -> Result<(usize, Option<Pair>, usize), Fail> {
+    let mut device = Device::new(alloc);
+    let drafted = drafted(&mut device, bytes)?;
+    let told = serial_time(&mut device, stamp(2, 0))?;
+    Ok((drafted, told, left(&device)?))
 }
 
 #[test]
-fn a_pulse_pairs_with_the_serial_time_before_it(rt: HostRuntime) -> Result<(), Fail> {
-    let (toff, pps) = serial_time_and_pulse(&rt, 1)?;
-    assert_eq!(rt;
-        toff,
-        Some(Pair {
-            reference: stamp(764_426_119, 0),
-            host: stamp(99, 1)
-        })
-    );
-    assert_eq!(rt;
-        pps,
-        Some(Pair {
-            reference: stamp(764_426_120, 0),
-            host: stamp(100, 0)
-        })
-    );
-    Ok(())
-}
-
-#[test]
-fn a_serial_time_one_second_old_pairs_with_no_pulse(rt: HostRuntime) -> Result<(), Fail> {
-    let (toff, pps) = serial_time_and_pulse(&rt, 0)?;
-    assert_eq!(rt;
-        toff,
-        Some(Pair {
-            reference: stamp(764_426_119, 0),
-            host: stamp(99, 0)
-        })
-    );
-    assert_eq!(rt; pps, None);
+fn a_pulse_pairs_with_a_serial_time_less_than_a_second_old(rt: HostRuntime) -> Result<(), Fail> {
+    for (nsec, paired) in [(1, pair(1, stamp(100, 0))), (0, None)] {
+        let want = (pair(0, stamp(99, nsec)), paired);
+        assert_eq!(rt; serial_time_and_pulse(rt.alloc(), nsec)?, want);
+    }
     Ok(())
 }
 
 #[test]
 fn a_draft_is_taken_back(rt: HostRuntime) -> Result<(), Fail> {
-    let mut device = Device::new(rt.alloc());
-    let first = device.draft_feed(stamp(1, 0), SENTENCE)?;
-    assert_eq!(rt; first.len(), 2);
-    device.undo();
-    let again = device.feed(stamp(2, 0), SENTENCE)?;
-    let closed = device.copy()?.finish()?;
-    assert_eq!(rt;
-        toff_in(again.as_slice()),
-        Some(Pair {
-            reference: stamp(764_426_119, 0),
-            host: stamp(2, 0)
-        })
-    );
-    assert_eq!(rt; closed.len(), 1);
+    // A packet and its serial time; then another two and the fix of the first second.
+    for (bytes, reports) in [(SENTENCE, 2), (SECONDS, 5)] {
+        let want = (reports, pair(0, stamp(2, 0)), 1);
+        assert_eq!(rt; behind_a_draft(rt.alloc(), bytes)?, want);
+    }
     Ok(())
 }

@@ -1,9 +1,9 @@
 -- The shape at the head of a list under more bytes, from the sets alone.
-use Rattle.std.proofs.Common.{◌≡◌, ◌≤◌, ◌<◌, ◌-◌, ℕ, List, ◌++◌, length, take, refl, inl, inr, sym, ap, arith, ◌∙◌, append_assoc}
+use Rattle.std.proofs.Common.{◌≡◌, ◌≤◌, ◌<◌, ◌-◌, ℕ, Bool, true, false, List, ◌∷◌, ◌++◌, length, take, refl, inl, inr, sym, ap, arith, ◌∙◌, append_assoc}
 use Rattle.std.proofs.lemmas.Bool.{cases_lt}
-use Rattle.std.proofs.lemmas.List.{length-append, take-append-le, length-take, length-take-le}
+use Rattle.std.proofs.lemmas.List.{length-append, take-append-le, length-take-le}
 use Rattle.std.proofs.Math.Seq.{take-append-add}
-use Rattle.nmea_frame.specs.Sentence.{Parts, IsSentence, IsProperPrefix}
+use Rattle.nmea_frame.specs.Sentence.{Parts, AreParts, line_end, spelling, IsSentence, IsProperPrefix}
 use Rattle.nmea_frame.specs.Scan.{shape_of}
 use Rattle.nmea_frame.specs.declared.sentence.Shape.{Shape}
 use Rattle.nmea_frame.specs.declared.sentence.Shape.TheVariants.{Whole, Pending, No}
@@ -16,12 +16,20 @@ whole_stays b c n e =
     let same : take n (b ++ c) ≡ take n b = take-append-le n b c inside in
     whole_back (b ++ c) n (omega (arith, length-append b c), rw same (h.1))
 
-pub whole_some : (b : List ℕ) (n : ℕ) → shape_of b ≡ Whole n → (0 < n) × (n ≤ length b)
-whole_some b n e =
+least_end : (has_return : Bool) → 1 ≤ length (line_end has_return)
+least_end true = omega arith
+least_end false = omega arith
+
+-- `$`, one byte of a body, `*`, two digits and a line feed at least
+least_spelling : (p : Parts) → AreParts p → 6 ≤ length (spelling p)
+least_spelling p parts =
+    omega (arith, parts.some, least_end p.has_return, length-append p.body (42 ∷ p.high ∷ p.low ∷ line_end p.has_return))
+
+pub whole_least : (b : List ℕ) (n : ℕ) → shape_of b ≡ Whole n → (6 ≤ n) × (n ≤ length b)
+whole_least b n e =
     let h : (n ≤ length b) × IsSentence (take n b) = whole_forth b n e in
-    let p : Parts = h.1.0 in
-    let some : 0 < length (take n b) = rw (h.1.1.2) (omega arith) in
-    (omega (arith, length-take n b), h.0)
+    let least : 6 ≤ length (take n b) = rw (h.1.1.2) (least_spelling (h.1.0) (h.1.1.0)) in
+    (omega (arith, least, length-take-le n b (h.0)), h.0)
 
 pub whole_short : (b : List ℕ) (n : ℕ) → shape_of b ≡ Whole n → n ≤ 128
 whole_short b n e =

@@ -13,7 +13,7 @@ use Rattle.packet_cut.specs.declared.head.Head.TheVariants.{Pending}
 use Rattle.packet_cut.specs.Heads.{head_of}
 use Rattle.packet_cut.specs.Packets.{Stamped, bytes_of, stamped, head_of_stream, packet, packets_of, rest_of}
 use Rattle.packet_cut.specs.Standing.{StandsFor, Gains, Shift, applied, IsCut, IsFound, stream_of}
-use Rattle.packet_cut.proofs.StreamLaws.{bytes_of-append, length-bytes_of, bytes_of-stamped, packets_gain, rest_gain, rest_of_short}
+use Rattle.packet_cut.proofs.StreamLaws.{bytes_of-append, length-bytes_of, bytes_of-stamped, length-stamped, packets_gain, packets_few, rest_gain, rest_of_short}
 use Rattle.packet_cut.proofs.Steps.{pending_parts, pending_rest}
 
 -- a list of which one was told that its rest is the kept bytes gains what the cut says
@@ -23,6 +23,12 @@ cut_gains kept at piece packets shift cut stream stands = (
   packets_gain stream (stamped at piece) ∙ ap (λ t. packets_of stream ++ packets_of (t ++ stamped at piece)) (sym stands) ∙ ap (λ t. packets_of stream ++ t) (sym (cut.packets_are)),
   cut.rest_is ∙ ap (λ t. rest_of (t ++ stamped at piece)) stands ∙ sym (rest_gain stream (stamped at piece)),
 )
+
+-- the packets of a cut are few, as each has at least 6 bytes
+pub cut_few : (kept : List Stamped) (at : Moment) (piece : List ℕ) (packets : List PacketRecord) (shift : Shift) → IsCut kept at piece packets shift →
+    6 * length packets ≤ length kept + length piece
+cut_few kept at piece packets shift cut =
+    omega (arith, ap length (cut.packets_are), packets_few (kept ++ stamped at piece), length-append kept (stamped at piece), length-stamped at piece)
 
 -- a fact of a result's value follows from another
 pub if_ok : {A E : Type 0} (r : Result A E) (P Q : A → Type 0) → ((a : A) → P a → Q a) → IfOk r P → IfOk r Q

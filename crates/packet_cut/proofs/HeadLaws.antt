@@ -1,5 +1,5 @@
 -- What a list begins with, under more bytes: from the laws of the two shapes.
-use Rattle.std.proofs.Common.{◌≡◌, ◌≤◌, ◌<◌, ◌==◌, ◌⊎◌, ◌↔◌, ℕ, List, [], ◌∷◌, ◌++◌, length, refl, inl, inr, ap, arith}
+use Rattle.std.proofs.Common.{◌≡◌, ◌≤◌, ◌==◌, ◌⊎◌, ◌↔◌, ℕ, List, [], ◌∷◌, ◌++◌, length, refl, inl, inr, ap, arith}
 use Rattle.std.proofs.lemmas.Bool.{cases_Bool, eqb-true}
 use Rattle.nmea_frame.specs.declared.sentence.Shape.{Shape as SentenceShape}
 use Rattle.nmea_frame.specs.declared.sentence.Shape.TheVariants.{Whole as WholeSentence, Pending as PendingSentence, No as NoSentence}
@@ -121,14 +121,18 @@ junk_stays bytes more e = go (sentence_shape bytes) (frame_shape bytes) refl ref
     go NoSentence PendingFrame a b e = cc
     go NoSentence NoFrame a b e = rw (sentence.no_stays bytes more a, frame.no_stays bytes more b) e
 
-pub packet_some : (bytes : List ℕ) (kind : PacketKind) (n : ℕ) → head_of bytes ≡ Packet kind n → (0 < n) × (n ≤ length bytes)
+-- a frame has at least 8 bytes, a packet at least 6
+frame_least : (bytes : List ℕ) (n : ℕ) → frame_shape bytes ≡ WholeFrame n → (6 ≤ n) × (n ≤ length bytes)
+frame_least bytes n e = let long : (8 ≤ n) × (n ≤ length bytes) = frame.whole_least bytes n e in (omega (arith, long), long.1)
+
+pub packet_least : (bytes : List ℕ) (kind : PacketKind) (n : ℕ) → head_of bytes ≡ Packet kind n → (6 ≤ n) × (n ≤ length bytes)
 unfolding head_of
-packet_some bytes kind n e = go (sentence_shape bytes) (frame_shape bytes) refl refl e
+packet_least bytes kind n e = go (sentence_shape bytes) (frame_shape bytes) refl refl e
   where
-    go : (s : SentenceShape) (f : FrameShape) → sentence_shape bytes ≡ s → frame_shape bytes ≡ f → first_of s f ≡ Packet kind n → (0 < n) × (n ≤ length bytes)
-    go (WholeSentence m) f a b e = let is : m ≡ n = cc in rw (← is) (sentence.whole_some bytes m a)
-    go PendingSentence (WholeFrame m) a b e = let is : m ≡ n = cc in rw (← is) (frame.whole_some bytes m b)
-    go NoSentence (WholeFrame m) a b e = let is : m ≡ n = cc in rw (← is) (frame.whole_some bytes m b)
+    go : (s : SentenceShape) (f : FrameShape) → sentence_shape bytes ≡ s → frame_shape bytes ≡ f → first_of s f ≡ Packet kind n → (6 ≤ n) × (n ≤ length bytes)
+    go (WholeSentence m) f a b e = let is : m ≡ n = cc in rw (← is) (sentence.whole_least bytes m a)
+    go PendingSentence (WholeFrame m) a b e = let is : m ≡ n = cc in rw (← is) (frame_least bytes m b)
+    go NoSentence (WholeFrame m) a b e = let is : m ≡ n = cc in rw (← is) (frame_least bytes m b)
     go PendingSentence PendingFrame a b e = cc
     go PendingSentence NoFrame a b e = cc
     go NoSentence PendingFrame a b e = cc

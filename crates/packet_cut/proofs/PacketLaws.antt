@@ -1,5 +1,5 @@
 -- The laws of the packets of a list, for any items and for any head that is stable under more of them.
-use Rattle.std.proofs.Common.{◌≡◌, ◌≤◌, ◌<◌, ◌+◌, ◌-◌, ℕ, zero, suc, List, [], ◌∷◌, ◌++◌, length, take, refl, sym, ap, arith}
+use Rattle.std.proofs.Common.{◌≡◌, ◌≤◌, ◌+◌, ◌-◌, ◌*◌, ℕ, zero, suc, List, [], ◌∷◌, ◌++◌, length, take, refl, sym, ap, arith}
 use Rattle.std.proofs.lemmas.List.{take-append-le}
 use Rattle.gps_report.specs.declared.packet.PacketKind.{PacketKind}
 use Rattle.packet_cut.specs.declared.head.Head.{Head}
@@ -10,7 +10,7 @@ use Rattle.packet_cut.specs.Packets.{Part, by_head, parts_from, rest_from}
 pub record IsStable {A : Type 0} (head : List A → Head) : Type 0 where
   pub packet_stays : (items more : List A) (kind : PacketKind) (n : ℕ) → head items ≡ Packet kind n → head (items ++ more) ≡ Packet kind n
   pub junk_stays : (items more : List A) → head items ≡ Junk → head (items ++ more) ≡ Junk
-  pub packet_some : (items : List A) (kind : PacketKind) (n : ℕ) → head items ≡ Packet kind n → (0 < n) × (n ≤ length items)
+  pub packet_least : (items : List A) (kind : PacketKind) (n : ℕ) → head items ≡ Packet kind n → (6 ≤ n) × (n ≤ length items)
   pub pending_short : (items : List A) → head items ≡ Pending → length items ≤ 2055
 
 -- one step of the rule at the head of a list
@@ -55,10 +55,10 @@ module _ {A : Type 0} (head : List A → Head) (stable : IsStable head) where
       GoesOn place 0 at (item ∷ items) more
   step place at item items more (Packet kind n) is same behind =
       let longer : head (item ∷ (items ++ more)) ≡ Packet kind n = stable.packet_stays (item ∷ items) more kind n is in
-      let some : (0 < n) × (n ≤ length (item ∷ items)) = stable.packet_some (item ∷ items) kind n is in
+      let long : (6 ≤ n) × (n ≤ length (item ∷ items)) = stable.packet_least (item ∷ items) kind n is in
       let rest : rest_from head 0 (item ∷ items) ≡ rest_from head (n - 1) items = rest_packet head item items kind n is in
       let on : GoesOn (place + 1) (n - 1) at items more = behind (n - 1) (omega arith) (omega (arith, ap length rest)) in
-      let taken : take n (item ∷ (items ++ more)) ≡ take n (item ∷ items) = take-append-le n (item ∷ items) more (some.1) in
+      let taken : take n (item ∷ (items ++ more)) ≡ take n (item ∷ items) = take-append-le n (item ∷ items) more (long.1) in
       record {
         parts = rw (parts_packet head item (items ++ more) place kind n longer, parts_packet head item items place kind n is, rest, taken, on.parts) refl;
         rest = rw (rest_packet head item (items ++ more) kind n longer, rest) (on.rest);
@@ -104,6 +104,23 @@ module _ {A : Type 0} (head : List A → Head) (stable : IsStable head) where
       short (Packet kind n) is behind = behind (n - 1)
       short Pending is behind = stable.pending_short (item ∷ items) is
       short Junk is behind = behind 0
+
+  -- packets do not overlap, and each has at least 6 items
+  pub parts_few : (place skip : ℕ) (items : List A) → skip ≤ length items → 6 * length (parts_from head place skip items) + skip ≤ length items
+  unfolding parts_from
+  parts_few place zero [] inside = omega arith
+  parts_few place (suc skip) [] inside = absurd (omega arith)
+  parts_few place (suc skip) (item ∷ items) inside = omega (arith, parts_few (place + 1) skip items (omega arith))
+  parts_few place zero (item ∷ items) inside = few (head (item ∷ items)) refl (λ skip inside'. parts_few (place + 1) skip items inside')
+    where
+      few : (h : Head) → head (item ∷ items) ≡ h → ((skip : ℕ) → skip ≤ length items → 6 * length (parts_from head (place + 1) skip items) + skip ≤ length items) →
+          6 * length (by_head (λ kind n. part_at head item items place kind n ∷ parts_from head (place + 1) (n - 1) items) [] (parts_from head (place + 1) 0 items) h) + 0
+          ≤ length (item ∷ items)
+      few (Packet kind n) is behind =
+          let long : (6 ≤ n) × (n ≤ length (item ∷ items)) = stable.packet_least (item ∷ items) kind n is in
+          omega (arith, long, behind (n - 1) (omega (arith, long)))
+      few Pending is behind = omega arith
+      few Junk is behind = omega (arith, behind 0 (omega arith))
 
   -- the rest is the end of the list
   pub rest_end : (skip : ℕ) (items : List A) → length (rest_from head skip items) ≤ length items

@@ -16,7 +16,7 @@ use Rattle.packet_cut.specs.Next.{JunkUpTo, IsNextPacket, IsRest}
 use Rattle.std.proofs.Common.{append_assoc, add-zero, subst}
 use Rattle.std.proofs.lemmas.List.{drop-drop, append-nil, length-take-le, drop-map, take-map}
 use Rattle.packet_cut.specs.Packets.{parts_from, rest_from, found, found_of, Stamped, bytes_of, stamped, head_of_stream, packet, packets_of, rest_of}
-use Rattle.packet_cut.proofs.HeadLaws.{nothing_pending, packet_some}
+use Rattle.packet_cut.proofs.HeadLaws.{nothing_pending, packet_least}
 use Rattle.packet_cut.proofs.PacketLaws.{part_at, parts_packet, parts_pending, parts_junk, rest_packet, rest_pending, rest_junk}
 
 pub junk_none : (bytes : List ℕ) (place : ℕ) → place ≤ length bytes → JunkUpTo bytes place place
@@ -42,8 +42,8 @@ junk_more bytes place start before e = record {
 pub next_packet : (bytes : List ℕ) (place start len : ℕ) (kind : PacketKind) → JunkUpTo bytes place start → head_of (drop start bytes) ≡ Packet kind len →
     IsNextPacket bytes place (record { kind = kind; start = start; len = len })
 next_packet bytes place start len kind before e =
-    let some : (0 < len) × (len ≤ length (drop start bytes)) = packet_some (drop start bytes) kind len e in
-    record { before = before; head = e; some = some.0; inside = omega (arith, before.inside, length-drop start bytes) }
+    let long : (6 ≤ len) × (len ≤ length (drop start bytes)) = packet_least (drop start bytes) kind len e in
+    record { before = before; head = e; some = omega (arith, long); inside = omega (arith, before.inside, length-drop start bytes) }
 
 -- parts from place to place
 module _ {A : Type 0} (head : List A → Head) where

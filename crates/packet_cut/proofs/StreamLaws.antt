@@ -1,5 +1,5 @@
 -- The laws of packets for bytes and for stamped bytes.
-use Rattle.std.proofs.Common.{◌≡◌, ◌≤◌, ◌+◌, ◌-◌, ℕ, zero, suc, List, [], ◌∷◌, ◌++◌, length, take, map, refl, sym, ap, arith, ◌∙◌, add_assoc, add-zero}
+use Rattle.std.proofs.Common.{◌≡◌, ◌≤◌, ◌+◌, ◌-◌, ◌*◌, ℕ, zero, suc, List, [], ◌∷◌, ◌++◌, length, take, map, refl, sym, ap, arith, ◌∙◌, add_assoc, add-zero}
 use Rattle.std.proofs.lemmas.List.{length-map, map-append}
 use Rattle.std.proofs.lemmas.Simd.{map-map}
 use Rattle.gps_fixed.specs.Moment.{Moment}
@@ -8,10 +8,10 @@ use Rattle.packet_cut.specs.declared.head.Head.TheVariants.{Packet, Pending, Jun
 use Rattle.packet_cut.specs.Heads.{head_of}
 use Rattle.packet_cut.specs.Packets.{Part, by_head, parts_from, found, found_of, moved, rest_of_bytes, Stamped, bytes_of, stamped, head_of_stream, packet, packets_of, rest_of}
 use Rattle.packet_cut.proofs.HeadLaws as heads
-use Rattle.packet_cut.proofs.PacketLaws.{IsStable, GoesOn, goes_on, rest_short, rest_end}
+use Rattle.packet_cut.proofs.PacketLaws.{IsStable, GoesOn, goes_on, rest_short, rest_end, parts_few}
 
 pub bytes_are_stable : IsStable head_of
-bytes_are_stable = record { packet_stays = heads.packet_stays; junk_stays = heads.junk_stays; packet_some = heads.packet_some; pending_short = heads.pending_short }
+bytes_are_stable = record { packet_stays = heads.packet_stays; junk_stays = heads.junk_stays; packet_least = heads.packet_least; pending_short = heads.pending_short }
 
 pub bytes_of-append : (stream more : List Stamped) → bytes_of (stream ++ more) ≡ bytes_of stream ++ bytes_of more
 bytes_of-append stream more = map-append (λ byte. byte.1) stream more
@@ -30,7 +30,7 @@ pub streams_are_stable : IsStable head_of_stream
 streams_are_stable = record {
   packet_stays = λ stream more kind n e. rw (bytes_of-append stream more) (heads.packet_stays (bytes_of stream) (bytes_of more) kind n e);
   junk_stays = λ stream more e. rw (bytes_of-append stream more) (heads.junk_stays (bytes_of stream) (bytes_of more) e);
-  packet_some = λ stream kind n e. rw (length-bytes_of stream) at (heads.packet_some (bytes_of stream) kind n e);
+  packet_least = λ stream kind n e. rw (length-bytes_of stream) at (heads.packet_least (bytes_of stream) kind n e);
   pending_short = λ stream e. rw (length-bytes_of stream) at (heads.pending_short (bytes_of stream) e);
 }
 
@@ -98,3 +98,12 @@ found_gain bytes more =
 
 pub rest_of_short : (stream : List Stamped) → length (rest_of stream) ≤ 2055
 rest_of_short stream = rest_short head_of_stream streams_are_stable 0 stream
+
+-- each packet has at least 6 bytes
+pub packets_few : (stream : List Stamped) → 6 * length (packets_of stream) ≤ length stream
+packets_few stream =
+    omega (arith, parts_few head_of_stream streams_are_stable 0 0 stream (omega arith), length-map (parts_from head_of_stream 0 0 stream) packet)
+
+pub found_few : (bytes : List ℕ) → 6 * length (found_of bytes) ≤ length bytes
+found_few bytes =
+    omega (arith, parts_few head_of bytes_are_stable 0 0 bytes (omega arith), length-map (parts_from head_of 0 0 bytes) found)

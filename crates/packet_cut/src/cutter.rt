@@ -1,4 +1,4 @@
-ghost use Rattle.std.specs.Prelude.{◌≡◌, ◌+◌, ◌≤◌, ◌<◌, ◌++◌, [], List, IfOk, OnOk, OnErr, length, drop, vec_len, vec_capacity};
+ghost use Rattle.std.specs.Prelude.{◌≡◌, ◌+◌, ◌*◌, ◌≤◌, ◌<◌, ◌++◌, [], List, IfOk, OnOk, OnErr, length, drop, vec_len, vec_capacity};
 ghost use Rattle.packet_cut.specs.Packets.{Stamped, stamped, packets_of, rest_of};
 ghost use Rattle.packet_cut.specs.Standing.{StandsFor, Gains, IsCut, Fits, applied};
 
@@ -40,12 +40,15 @@ impl Cutter {
         }
     }
 
-    /// The packets that a piece completes, and the change that `put` makes of it. The cutter stays as it is.
+    /// The packets that a piece completes, and the change that `put` makes of it. The cutter stays as it is. Each packet
+    /// has at least 6 of the bytes that are pending, at most 2,055, and those of the piece.
     pub fn cut(&self, at: Stamp, piece: &[u8]) -> Result<Cut, NoMemory>
         ensures cut { IfOk result (λ cut. IsCut self.now at piece.now cut.packets.items cut.change) }
         ensures gains { IfOk result (λ cut. (stream : List Stamped) → StandsFor self.now stream
             → Gains stream (stamped at piece.now) cut.packets.items
             × StandsFor (applied cut.change self.now) (stream ++ stamped at piece.now)) }
+        ensures few { IfOk result (λ cut. 6 * length cut.packets.items ≤ length self.now + length piece.now) }
+        ensures most { length self.now ≤ 2055 }
     {
         cut_behind(self.alloc, self.kept.as_slice(), at, piece)
     }
@@ -64,13 +67,15 @@ impl Cutter {
         }
     }
 
-    /// The packets that a piece completes, each with the stamp of its first byte. A refusal leaves the cutter as it was.
+    /// The packets that a piece completes, each with the stamp of its first byte and at least 6 of the bytes that were
+    /// pending and those of the piece. A refusal leaves the cutter as it was.
     pub fn push(&mut self, at: Stamp, piece: &[u8]) -> Result<Vec<Packet>, NoMemory>
         ensures gains { IfOk result (λ packets. (stream : List Stamped) → StandsFor self.old stream
             → Gains stream (stamped at piece.now) packets.items
             × StandsFor self.new (stream ++ stamped at piece.now)) }
         ensures packets { IfOk result (λ packets. packets.items ≡ packets_of (self.old ++ stamped at piece.now)) }
         ensures rest { OnOk result (self.new ≡ rest_of (self.old ++ stamped at piece.now)) }
+        ensures few { IfOk result (λ packets. 6 * length packets.items ≤ length self.old + length piece.now) }
         ensures err { OnErr result (self.new ≡ self.old) }
     {
         let Cut { packets, change } = self.cut(at, piece)?;

@@ -1,6 +1,6 @@
 //! The laws of packets, as contracts of functions that do nothing.
 
-ghost use Rattle.std.specs.Prelude.{◌≡◌, ◌≤◌, ◌-◌, ℕ, List, ◌++◌, length, map};
+ghost use Rattle.std.specs.Prelude.{◌≡◌, ◌≤◌, ◌-◌, ◌*◌, ℕ, List, ◌++◌, length, map};
 ghost use Rattle.gps_report.specs.declared.packet.Packet.{Packet};
 ghost use Rattle.packet_cut.specs.declared.found.Found.{Found};
 ghost use Rattle.packet_cut.specs.Packets.{Stamped, bytes_of, packets_of, rest_of, found_of, moved, rest_of_bytes, found_packet};
@@ -17,6 +17,12 @@ pub fn packets_go_on()
     ensures rest { (stream more : List Stamped) → rest_of (stream ++ more) ≡ rest_of (rest_of stream ++ more) }
     ensures found { (bytes more : List ℕ) → found_of (bytes ++ more)
         ≡ found_of bytes ++ map (moved (length bytes - length (rest_of_bytes bytes))) (found_of (rest_of_bytes bytes ++ more)) }
+{}
+
+/// Packets do not overlap, and each has at least 6 bytes.
+pub fn packets_are_long()
+    ensures packets { (stream : List Stamped) → 6 * length (packets_of stream) ≤ length stream }
+    ensures found { (bytes : List ℕ) → 6 * length (found_of bytes) ≤ length bytes }
 {}
 
 /// The rest has at most 2,055 bytes.

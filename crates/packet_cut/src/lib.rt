@@ -20,4 +20,7 @@ pub use cut::Cut;
 pub use cutter::Cutter;
 pub use found::{Found, cut_all};
 pub use head::{Head, head_at};
-pub use laws::{packets_are_a_beginning, packets_go_on, rest_is_short, stamps_change_no_packet};
+pub use laws::{
+    packets_are_a_beginning, packets_are_long, packets_go_on, rest_is_short,
+    stamps_change_no_packet,
+};

@@ -15,7 +15,7 @@ IsSettled No = Unit {0}
 
 -- each answer is one that the whole list allows
 abbrev FitsLength : Shape → ℕ → Type 0
-FitsLength (Whole n) len = (0 < n) × (n ≤ len)
+FitsLength (Whole n) len = (8 ≤ n) × (n ≤ len)
 FitsLength Pending len = len < 2056
 FitsLength No len = Unit {0}
 
@@ -114,8 +114,8 @@ fits (first ∷ second ∷ rest) =
     let same : length rest + 2 ≡ length (first ∷ second ∷ rest) = omega arith in
     fits_cond (first == 0xb5) _ _ (fits_cond (second == 0x62) _ _ (subst (FitsLength (shape_behind_sync rest)) same (fits_behind_sync rest)))
 
-pub whole_some : (bytes : List ℕ) (n : ℕ) → shape_of bytes ≡ Whole n → (0 < n) × (n ≤ length bytes)
-whole_some bytes n is = subst (λ s. FitsLength s (length bytes)) is (fits bytes)
+pub whole_least : (bytes : List ℕ) (n : ℕ) → shape_of bytes ≡ Whole n → (8 ≤ n) × (n ≤ length bytes)
+whole_least bytes n is = subst (λ s. FitsLength s (length bytes)) is (fits bytes)
 
 pub pending_short : (bytes : List ℕ) → shape_of bytes ≡ Pending → length bytes < 2056
 pending_short bytes is = subst (λ s. FitsLength s (length bytes)) is (fits bytes)

@@ -6,12 +6,12 @@ ghost use Rattle.ubx_frame.specs.Scan.{shape_of};
 
 use crate::Shape;
 
-/// What is whole stays whole under more bytes, what is none stays none, a frame has bytes and lies in the list, and
-/// what is pending is shorter than the longest frame.
+/// What is whole stays whole under more bytes, what is none stays none, a frame has at least 8 bytes and lies in the
+/// list, and what is pending is shorter than the longest frame.
 pub fn shapes_are_stable()
     ensures whole_stays { (bytes more : List ℕ) (n : ℕ) → shape_of bytes ≡ Shape.Whole n → shape_of (bytes ++ more) ≡ Shape.Whole n }
     ensures no_stays { (bytes more : List ℕ) → shape_of bytes ≡ Shape.No → shape_of (bytes ++ more) ≡ Shape.No }
-    ensures whole_some { (bytes : List ℕ) (n : ℕ) → shape_of bytes ≡ Shape.Whole n → (0 < n) × (n ≤ length bytes) }
+    ensures whole_least { (bytes : List ℕ) (n : ℕ) → shape_of bytes ≡ Shape.Whole n → (8 ≤ n) × (n ≤ length bytes) }
     ensures pending_short { (bytes : List ℕ) → shape_of bytes ≡ Shape.Pending → length bytes < 2056 }
 {}
 

@@ -5,7 +5,7 @@ pub returns : goal.returns
 returns c = record {
   whole_stays = stable.whole_stays;
   no_stays = stable.no_stays;
-  whole_some = stable.whole_some;
+  whole_least = stable.whole_least;
   whole_short = stable.whole_short;
   pending_short = stable.pending_short;
 }

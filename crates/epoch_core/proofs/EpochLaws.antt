@@ -1,16 +1,16 @@
 -- Laws of epochs in their own words: they hold all notes in order, and reports are their closings and serial times.
-use Rattle.std.proofs.Common.{◌≡◌, refl, sym, ap, ◌∙◌, Bool, true, false, cond, List, [], ◌∷◌, ◌++◌, append_assoc, append-nil, reverse, Option, Some, None, option_map, option_to_list, unwrap_or}
+use Rattle.std.proofs.Common.{◌≡◌, refl, ap, ◌∙◌, Bool, true, false, cond, List, [], ◌∷◌, ◌++◌, append-nil, Option, Some, None, option_map, option_to_list, unwrap_or}
 use Rattle.std.specs.List.{filter}
 use Rattle.std.proofs.lemmas.List.Elements.{filter-append}
 use Rattle.gps_report.specs.declared.report.Body.{Body}
-use Rattle.gps_report.specs.declared.report.Body.TheVariants.{Packet, Tpv, Sky as SkyBody, Toff, Pps, Device}
+use Rattle.gps_report.specs.declared.report.Body.TheVariants.{Tpv, Sky as SkyBody, Toff}
 use Rattle.epoch_core.specs.declared.heard.Heard.{Heard}
 use Rattle.gps_fixed.specs.Moment.{Moment}
 use Rattle.gps_report.specs.declared.fix.Pair.{Pair}
-use Rattle.epoch_core.specs.Days.{Dated, dated}
+use Rattle.epoch_core.specs.Days.{Dated}
 use Rattle.epoch_core.specs.Quantities.{said}
 use Rattle.epoch_core.specs.Fixes.{fix_of}
-use Rattle.epoch_core.specs.Epochs.{all_closed, all_notes, all_told, begins, closed, closing, closings, epochs, epochs_of, has_ended, is_no_toff, joined, reports, sky_of, toff_of, toffs}
+use Rattle.epoch_core.specs.Epochs.{all_closed, all_notes, all_told, begins, closed, closing, closings, epochs, epochs_of, has_ended, is_no_toff, joined, reports, sky_of, toffs}
 
 split_notes : (b : Bool) (d : Dated) (epoch : List Dated) (earlier : List (List Dated))
     → all_notes (cond b ((d ∷ []) ∷ epoch ∷ earlier) ((d ∷ epoch) ∷ earlier)) ≡ d ∷ all_notes (epoch ∷ earlier)

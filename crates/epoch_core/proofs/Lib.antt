@@ -8,3 +8,5 @@ pub mod Renewed
 pub mod Told
 pub mod Low
 pub mod EpochLaws
+pub mod Slices
+pub mod Bounds

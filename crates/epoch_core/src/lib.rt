@@ -7,8 +7,10 @@
 mod days;
 mod epochs;
 mod fixes;
+mod grouped;
 mod heard;
 mod keys;
+mod known;
 mod laws;
 mod mark;
 mod once;
@@ -18,7 +20,9 @@ mod said;
 mod seen;
 #[cfg(test)]
 mod tests;
+mod whole;
 
 pub use epochs::Epochs;
+pub use grouped::{Grouped, all_fit, group_all};
 pub use heard::Heard;
 pub use laws::{epochs_hold_all_notes, reports_are_those_of_the_closed_epochs};

@@ -41,7 +41,7 @@ impl Model for Running {
     ghost invariant = { λ r. IsTidy r.sats r.seen };
 }
 
-fn is_gsa(kind: NoteKind) -> bool
+pub fn is_gsa(kind: NoteKind) -> bool
     ensures { result ≡ gsa kind }
 {
     matches!(kind, NoteKind::Gsa)
@@ -53,7 +53,7 @@ pub fn is_eoe(kind: NoteKind) -> bool
     matches!(kind, NoteKind::Eoe)
 }
 
-fn system_of(satellite: &Satellite) -> Option<u8>
+pub fn system_of(satellite: &Satellite) -> Option<u8>
     ensures { result ≡ named_system satellite.now }
 {
     match satellite.gnss {
@@ -96,7 +96,7 @@ fn marked(satellite: &Satellite, seen: &[Seen]) -> Satellite
     }
 }
 
-fn all_marked(
+pub fn all_marked(
     alloc: Global,
     satellites: &[Satellite],
     seen: &[Seen],

@@ -46,7 +46,7 @@ pub fn serial_time(tod: Option<u64>, day: Option<u32>) -> Option<Stamp>
     }
 }
 
-fn tod_tag(tag: Option<Tag>) -> Option<u64>
+pub fn tod_tag(tag: Option<Tag>) -> Option<u64>
     ensures { result ≡ tod_tag_of tag }
 {
     match tag {
@@ -55,7 +55,7 @@ fn tod_tag(tag: Option<Tag>) -> Option<u64>
     }
 }
 
-fn itow_tag(tag: Option<Tag>) -> Option<u32>
+pub fn itow_tag(tag: Option<Tag>) -> Option<u32>
     ensures { result ≡ itow_tag_of tag }
 {
     match tag {
@@ -65,7 +65,7 @@ fn itow_tag(tag: Option<Tag>) -> Option<u32>
 }
 
 /// An epoch with such a note has a fix.
-fn is_fix_kind(kind: NoteKind) -> bool
+pub fn is_fix_kind(kind: NoteKind) -> bool
     ensures { result ≡ fix_kind kind }
 {
     matches!(
@@ -75,7 +75,7 @@ fn is_fix_kind(kind: NoteKind) -> bool
 }
 
 /// An epoch with such a note has a sky.
-fn is_sky_kind(kind: NoteKind) -> bool
+pub fn is_sky_kind(kind: NoteKind) -> bool
     ensures { result ≡ sky_kind kind }
 {
     matches!(kind, NoteKind::Gsv | NoteKind::Sat)

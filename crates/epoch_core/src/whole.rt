@@ -1,0 +1,280 @@
+//! What one epoch of a whole list gives: each quantity is looked for in its notes.
+
+ghost use Rattle.std.specs.Prelude.{◌≡◌, ◌++◌, ◌∷◌, [], cond, Option, reverse, map, OnOk, IfOk};
+ghost use Rattle.std.specs.List.{list_any};
+ghost use Rattle.std.specs.Option.{option_flatten};
+ghost use Rattle.std.specs.Fn.{FnReturnsAt};
+ghost use Rattle.epoch_core.specs.Days.{Dated};
+ghost use Rattle.epoch_core.specs.Past.{latest as latest_of, earliest as earliest_of};
+ghost use Rattle.epoch_core.specs.Quantities.{said as said_in, breaks as breaks_from, timed, is_fix_kind as fix_kind, is_sky_kind as sky_kind};
+ghost use Rattle.epoch_core.specs.Satellites.{all_sats as sats_in, all_seen as all_seen_in, seen_in as seen_in_note, seen_by, firsts as firsts_of, same_satellite as same, satellites as satellites_in};
+ghost use Rattle.epoch_core.specs.Fixes.{fix_of as fix_made};
+ghost use Rattle.epoch_core.specs.Epochs.{begins as begins_after, closing, has_ended as ended, sky_of, toffs};
+
+use crate::fixes::fix_of;
+use crate::known::Known;
+use crate::running::{all_marked, is_eoe, is_gsa, system_of};
+use crate::said::{Said, is_fix_kind, is_sky_kind, itow_tag, tod_tag};
+use crate::seen::Seen;
+use gps_fixed::{NoMemory, Stamp};
+use gps_report::{Body, Note, Pair, Satellite, Sats, Sky, Tag};
+use std::alloc::Global;
+
+/// What the last note that gives it gives.
+fn latest<'a, T: Copy, F: Fn(&Known<'a>) -> Option<T>>(epoch: &[Known<'a>], given: F) -> Option<T>
+    requires { F.IsAlwaysCallable given }
+    ensures { (h : Dated → Option T) → ((d : Dated) (r : Option T) → FnReturnsAt F.Fn given d r → r ≡ h d) → result ≡ latest_of h (reverse epoch.now) }
+{
+    'notes: for known in epoch.iter().rev() {
+        let found = given(known);
+        if found.is_some() {
+            return found;
+        }
+    }
+    None
+}
+
+/// What the first note that gives it gives.
+fn earliest<'a, T: Copy, F: Fn(&Known<'a>) -> Option<T>>(epoch: &[Known<'a>], given: F) -> Option<T>
+    requires { F.IsAlwaysCallable given }
+    ensures { (h : Dated → Option T) → ((d : Dated) (r : Option T) → FnReturnsAt F.Fn given d r → r ≡ h d) → result ≡ earliest_of h (reverse epoch.now) }
+{
+    'notes: for known in epoch {
+        let found = given(known);
+        if found.is_some() {
+            return found;
+        }
+    }
+    None
+}
+
+/// The time of the last note that has a time of day, where the day is known at that note.
+fn last_time(epoch: &[Known]) -> Option<Stamp>
+    ensures { result ≡ option_flatten (latest_of timed (reverse epoch.now)) }
+{
+    latest(epoch, |known| known.timed()).flatten()
+}
+
+fn has_fix(epoch: &[Known]) -> bool
+    ensures { result ≡ list_any (λ d. fix_kind d.note.kind) epoch.now }
+{
+    epoch.iter().any(|known| is_fix_kind(known.note().kind))
+}
+
+fn has_sky(epoch: &[Known]) -> bool
+    ensures { result ≡ list_any (λ d. sky_kind d.note.kind) epoch.now }
+{
+    epoch.iter().any(|known| is_sky_kind(known.note().kind))
+}
+
+/// What the notes of an epoch say.
+#[tactic(auto, unfolding(crate::specs::Quantities::said))]
+fn said(epoch: &[Known]) -> Said
+    ensures { result ≡ said_in (reverse epoch.now) }
+{
+    Said {
+        first: earliest(epoch, |known| Some(known.first())),
+        tod_tag: latest(epoch, |known| tod_tag(known.note().tag)),
+        itow_tag: latest(epoch, |known| itow_tag(known.note().tag)),
+        time: last_time(epoch),
+        stamped: earliest(epoch, |known| known.stamp()),
+        status: latest(epoch, |known| known.note().status),
+        dim: latest(epoch, |known| known.note().dim),
+        position: latest(epoch, |known| known.note().position),
+        alt_hae: latest(epoch, |known| known.note().alt_hae),
+        alt_msl: latest(epoch, |known| known.note().alt_msl),
+        geoid_sep: latest(epoch, |known| known.note().geoid_sep),
+        track: latest(epoch, |known| known.note().track),
+        speed: latest(epoch, |known| known.note().speed),
+        climb: latest(epoch, |known| known.note().climb),
+        pdop: latest(epoch, |known| known.note().pdop),
+        hdop: latest(epoch, |known| known.note().hdop),
+        vdop: latest(epoch, |known| known.note().vdop),
+        has_fix: has_fix(epoch),
+        has_sky: has_sky(epoch),
+    }
+}
+
+/// Whether the epoch's last note is NAV-EOE.
+pub fn has_ended(epoch: &[Known]) -> bool
+    ensures { result ≡ ended (reverse epoch.now) }
+{
+    match epoch.last() {
+        Some(known) => is_eoe(known.note().kind),
+        None => false,
+    }
+}
+
+/// Whether the tag differs from the last of its variant in the epoch.
+#[tactic(auto, unfolding(crate::specs::Quantities::said, crate::specs::Quantities::breaks))]
+fn differs(tag: Option<Tag>, epoch: &[Known]) -> bool
+    ensures { result ≡ breaks_from tag (said_in (reverse epoch.now)) }
+{
+    match tag {
+        Some(Tag::Tod(tod)) => {
+            latest(epoch, |known| tod_tag(known.note().tag)).is_some_and(|last| last != tod)
+        }
+        Some(Tag::Itow(itow)) => {
+            latest(epoch, |known| itow_tag(known.note().tag)).is_some_and(|last| last != itow)
+        }
+        None => false,
+    }
+}
+
+/// Whether a note that follows the notes of this epoch begins another.
+pub fn begins(next: &Known, epoch: &[Known]) -> bool
+    ensures { result ≡ begins_after next.now (reverse epoch.now) }
+{
+    has_ended(epoch) || differs(next.note().tag, epoch)
+}
+
+/// All satellites of the epoch's notes, in order.
+#[tactic(auto, using(crate::proofs::Slices::sats_next))]
+fn all_sats(alloc: Global, epoch: &[Known]) -> Result<Vec<Satellite>, NoMemory>
+    ensures { IfOk result (λ sats. sats.items ≡ sats_in (reverse epoch.now)) }
+{
+    let mut sats = Vec::new(alloc);
+    'notes: for known in epoch {
+        sats.extend_from_slice(known.note().sats.as_slice())?;
+    }
+    Ok(sats)
+}
+
+fn all_seen_by(alloc: Global, system: Option<u8>, ids: &[u32]) -> Result<Vec<Seen>, NoMemory>
+    ensures { IfOk result (λ seen. seen.items ≡ map (seen_by system) ids.now) }
+{
+    let seen = ids
+        .iter()
+        .map(|id| Seen { id: *id, system })
+        .collect(alloc)?;
+    Ok(seen)
+}
+
+/// The ids that a GSA calls used, with its system.
+fn seen_in(alloc: Global, note: &Note) -> Result<Vec<Seen>, NoMemory>
+    ensures { IfOk result (λ seen. seen.items ≡ seen_in_note note.now) }
+{
+    if is_gsa(note.kind) {
+        all_seen_by(alloc, note.system, note.used.as_slice())
+    } else {
+        Ok(Vec::new(alloc))
+    }
+}
+
+/// All ids that the GSAs of the epoch call used.
+#[tactic(auto, using(crate::proofs::Slices::seen_next))]
+fn all_seen(alloc: Global, epoch: &[Known]) -> Result<Vec<Seen>, NoMemory>
+    ensures { IfOk result (λ seen. seen.items ≡ all_seen_in (reverse epoch.now)) }
+{
+    let mut seen = Vec::new(alloc);
+    'notes: for known in epoch {
+        let mut more = seen_in(alloc, known.note())?;
+        seen.append(&mut more)?;
+    }
+    Ok(seen)
+}
+
+fn is_same(a: &Satellite, b: &Satellite) -> bool
+    ensures { result ≡ same a.now b.now }
+{
+    system_of(a) == system_of(b) && a.prn == b.prn && a.signal == b.signal
+}
+
+fn has_same(satellites: &[Satellite], satellite: &Satellite) -> bool
+    ensures { result ≡ list_any (λ s. same s satellite.now) satellites.now }
+{
+    satellites.iter().any(|s| is_same(s, satellite))
+}
+
+/// Adds a satellite, unless an equal one stands before it.
+fn push_first(
+    first: &mut Vec<Satellite>,
+    before: &[Satellite],
+    satellite: &Satellite,
+) -> Result<(), NoMemory>
+    ensures { OnOk result (first.new.items ≡ first.old.items ++ cond (list_any (λ s. same s satellite.now) before.now) [] (satellite.now ∷ [])) }
+{
+    if !has_same(before, satellite) {
+        first.push(*satellite)?;
+    }
+    Ok(())
+}
+
+/// Of equal satellites the first.
+fn firsts(alloc: Global, satellites: &[Satellite]) -> Result<Vec<Satellite>, NoMemory>
+    ensures { IfOk result (λ first. first.items ≡ firsts_of same satellites.now) }
+{
+    let mut first = Vec::new(alloc);
+    'satellites: for (i, satellite) in satellites.iter().enumerate() {
+        push_first(&mut first, &satellites[..i], satellite)?;
+    }
+    Ok(first)
+}
+
+/// The satellites of the epoch, each once, and marked where it is used.
+#[tactic(auto, unfolding(crate::specs::Satellites::satellites))]
+fn satellites(alloc: Global, epoch: &[Known]) -> Result<Vec<Satellite>, NoMemory>
+    ensures { IfOk result (λ sats. sats.items ≡ satellites_in (reverse epoch.now)) }
+{
+    let all = all_sats(alloc, epoch)?;
+    let first = firsts(alloc, all.as_slice())?;
+    let seen = all_seen(alloc, epoch)?;
+    all_marked(alloc, first.as_slice(), seen.as_slice())
+}
+
+#[tactic(auto, unfolding(crate::specs::Epochs::sky_of))]
+fn sky(alloc: Global, epoch: &[Known]) -> Result<Sky, NoMemory>
+    ensures { IfOk result (λ sky. sky ≡ sky_of (reverse epoch.now)) }
+{
+    let said = said(epoch);
+    let sats = satellites(alloc, epoch)?;
+    Ok(Sky {
+        time: said.time,
+        pdop: said.pdop,
+        hdop: said.hdop,
+        vdop: said.vdop,
+        sats: Sats::from_vec(sats),
+    })
+}
+
+/// The serial time of the epoch.
+pub fn push_toffs(out: &mut Vec<Body>, epoch: &[Known]) -> Result<(), NoMemory>
+    ensures { OnOk result (out.new.items ≡ out.old.items ++ toffs (reverse epoch.now)) }
+{
+    let said = said(epoch);
+    if let Some(at) = said.stamped {
+        let host = said.first.unwrap_or(at);
+        out.push(Body::Toff(Pair {
+            reference: at,
+            host,
+        }))?;
+    }
+    Ok(())
+}
+
+fn push_fix(out: &mut Vec<Body>, said: &Said) -> Result<(), NoMemory>
+    ensures { OnOk result (out.new.items ≡ out.old.items ++ cond said.now.has_fix (Body.Tpv (fix_made said.now) ∷ []) []) }
+{
+    if said.has_fix {
+        out.push(Body::Tpv(fix_of(said)))?;
+    }
+    Ok(())
+}
+
+fn push_sky(alloc: Global, out: &mut Vec<Body>, epoch: &[Known]) -> Result<(), NoMemory>
+    ensures { OnOk result (out.new.items ≡ out.old.items ++ cond (said_in (reverse epoch.now)).has_sky (Body.Sky (sky_of (reverse epoch.now)) ∷ []) []) }
+{
+    if said(epoch).has_sky {
+        out.push(Body::Sky(sky(alloc, epoch)?))?;
+    }
+    Ok(())
+}
+
+/// The fix and the sky of the epoch.
+#[tactic(auto, unfolding(crate::specs::Epochs::closing))]
+pub fn push_closing(alloc: Global, out: &mut Vec<Body>, epoch: &[Known]) -> Result<(), NoMemory>
+    ensures { OnOk result (out.new.items ≡ out.old.items ++ closing (reverse epoch.now)) }
+{
+    push_fix(out, &said(epoch))?;
+    push_sky(alloc, out, epoch)
+}

@@ -1,5 +1,5 @@
 -- The day numbers of the dates that are read lie from 1970-01-01 to 2099-12-31.
-use Rattle.std.proofs.Common.{◌≡◌, ℕ, ◌+◌, ◌≤◌, refl, Bool, true, false, cond, arith, Option, Some, None, IfSome, ℤ, pos, negsuc, ◌≤ℤ◌}
+use Rattle.std.proofs.Common.{◌≡◌, ℕ, ◌≤◌, refl, Bool, true, false, cond, arith, Some, None, IfSome, ℤ, pos, negsuc}
 use Rattle.std.proofs.lemmas.Bool.Decides.{nat_tests}
 use Rattle.jiff_core.specs.Calendar.{IsCivilDate, days_from_civil, day_count, days_of_years, days_of_months}
 use Rattle.jiff_core.proofs.SignedLemmas.{signed_arith}

@@ -1,21 +1,19 @@
 -- Every note of a sentence keeps the ranges of its fields.
-use Rattle.std.proofs.Common.{◌≡◌, ℕ, zero, suc, ◌+◌, ◌*◌, ◌/◌, ◌%◌, ◌^◌, ◌<◌, ◌≤◌, refl, sym, ap, ◌∙◌, Bool, true, false, cond, ◌&&◌, ◌||◌, ◌==◌, nat_eq, nat_le, nat_lt, arith, List, [], ◌∷◌, ◌++◌, Option, Some, None, IfSome, ℤ, pos, negsuc, ◌≤ℤ◌, ◌-◌, subst, eq-eqb, not}
+use Rattle.std.proofs.Common.{◌≡◌, ℕ, zero, suc, ◌+◌, ◌*◌, ◌/◌, ◌%◌, ◌^◌, ◌<◌, ◌≤◌, refl, sym, ap, ◌∙◌, Bool, true, false, cond, ◌&&◌, ◌||◌, ◌==◌, nat_eq, nat_le, arith, List, [], ◌∷◌, ◌++◌, Option, Some, None, IfSome, IfOk, Result, Ok, Err, ℤ, pos, negsuc, ◌-◌, subst, eq-eqb}
 use Rattle.std.proofs.lemmas.Bool.Decides.{nat_tests}
 use Rattle.std.specs.Option.{option_map, option_and_then, option_to_list}
 use Rattle.std.specs.List.{list_all}
 use Rattle.gps_fixed.specs.Scaled.{scaled, digits_of}
-use Rattle.gps_fixed.specs.Civil.{day_number}
-use Rattle.gps_report.specs.Fits.{Fits, where_given, is_tod, is_day, is_dim, is_named_system, is_id, is_satellite, is_sentence_satellite}
+use Rattle.gps_report.specs.Fits.{Fits, where_given, is_tod, is_day, is_dim, is_named_system, is_id, is_satellite}
 use Rattle.gps_report.specs.Note.{empty_note}
 use Rattle.gps_report.specs.declared.note.Note.{Note}
 use Rattle.gps_report.specs.declared.note.NoteKind.{NoteKind}
 use Rattle.gps_report.specs.declared.note.NoteKind.TheVariants.{Gga, Rmc, Gll, Gsa, Gsv, Vtg, Zda, Pvt, Sat, Dop, Eoe, Other}
-use Rattle.gps_report.specs.declared.satellite.Satellite.{Satellite}
 use Rattle.nmea_frame.specs.Sentence.{hex_value}
-use Rattle.nmea_decode.specs.Fields.{behind, field, field_count, field_at, fields_of, address_of, skipped}
+use Rattle.nmea_decode.specs.Fields.{behind, field, field_count, field_at, address_of, skipped}
 use Rattle.nmea_decode.specs.Kinds.{dim_of, kind_of, stated_system, talker_system}
 use Rattle.nmea_decode.specs.Notes.{timed, gga, rmc, gll, gsa, gsv, vtg, zda, note_of_kind, body_note}
-use Rattle.nmea_decode.specs.Readings.{above_nought, clock, date_from, date_of, dated, day_ns, day_with, days_passed, full_year, id_of, later_by, long_date_of, number_up_to, plain_number, time_of, tod_of, up_to, IsOfCentury}
+use Rattle.nmea_decode.specs.Readings.{above_nought, clock, date_from, date_of, dated, day_with, days_passed, full_year, id_of, later_by, long_date_of, number_up_to, plain_number, time_of, tod_of, up_to, IsOfCentury}
 use Rattle.nmea_decode.specs.Satellites.{ids_in, satellite_of, satellites_in, satellites_of, signal_in, signal_of}
 use Rattle.nmea_decode.proofs.Days.{day_within}
 
@@ -269,6 +267,10 @@ kind_fits Dop talker text = empty_fits Other
 kind_fits Eoe talker text = empty_fits Other
 kind_fits Other talker text = empty_fits Other
 
-pub all_fit : (body : List ℕ) (note : Note) → note ≡ body_note body → Fits note
+all_fit : (body : List ℕ) (note : Note) → note ≡ body_note body → Fits note
 unfolding body_note
 all_fit body note is = subst Fits (sym is) (kind_fits (kind_of (address_of body)) _ _)
+
+pub result_fits : {E : Type 0} (body : List ℕ) (result : Result Note E) → IfOk result (λ note. note ≡ body_note body) → IfOk result (λ note. Fits note)
+result_fits body (Ok note) is = all_fit body note is
+result_fits body (Err e) is = tt

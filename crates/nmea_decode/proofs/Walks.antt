@@ -1,5 +1,5 @@
 -- Walks over fields: one turn of each loop, and its end.
-use Rattle.std.proofs.Common.{◌≡◌, ℕ, zero, suc, ◌-◌, ◌<◌, refl, sym, ap, ◌∙◌, arith, List, [], ◌∷◌, ◌++◌, Option, append_assoc, append-nil}
+use Rattle.std.proofs.Common.{◌≡◌, ℕ, zero, suc, ◌-◌, ◌<◌, refl, sym, ap, ◌∙◌, arith, List, ◌++◌, Option, append_assoc, append-nil}
 use Rattle.std.specs.Option.{option_to_list}
 use Rattle.gps_report.specs.declared.satellite.Satellite.{Satellite}
 use Rattle.nmea_decode.specs.Fields.{behind, field, skipped}
@@ -34,18 +34,37 @@ unfolding satellites_in
 groups_all n system signal rest sats all done is =
     sym (append-nil sats) ∙ ap (λ j. sats ++ satellites_in j system signal rest) (sym done) ∙ is
 
-pub ids_turn : (n : ℕ) (rest next : List ℕ) (ids more all : List ℕ)
+-- the ids that were read and those that are still to be read are all, and what stands behind them is the rest
+pub record IdsSoFar (left : ℕ) (rest ids all behind_all : List ℕ) : Type 0 where
+  pub read : ids ++ ids_in left rest ≡ all
+  pub skips : skipped left rest ≡ behind_all
+
+pub ids_begin : (n : ℕ) (text ids : List ℕ) → IdsSoFar n text ids (ids ++ ids_in n text) (skipped n text)
+ids_begin n text ids = record { read = refl; skips = refl }
+
+more_ids : (n : ℕ) (rest next : List ℕ) (ids more all : List ℕ)
     → 0 < n → next ≡ behind rest → more ≡ ids ++ option_to_list (id_of (field rest))
     → ids ++ ids_in n rest ≡ all → more ++ ids_in (n - 1) next ≡ all
 unfolding ids_in
-ids_turn zero rest next ids more all some step pushed is = absurd (omega (arith, some))
-ids_turn (suc k) rest next ids more all some step pushed is =
+more_ids zero rest next ids more all some step pushed is = absurd (omega (arith, some))
+more_ids (suc k) rest next ids more all some step pushed is =
     ap (λ j. more ++ ids_in j next) (one_less k)
     ∙ ap (λ t. more ++ ids_in k t) step
     ∙ ap (λ m. m ++ ids_in k (behind rest)) pushed
     ∙ append_assoc ids (option_to_list (id_of (field rest))) (ids_in k (behind rest))
     ∙ is
 
-pub ids_all : (n : ℕ) (rest ids all : List ℕ) → n ≡ 0 → ids ++ ids_in n rest ≡ all → ids ≡ all
+pub ids_turn : (n : ℕ) (rest next : List ℕ) (ids more all behind_all : List ℕ)
+    → 0 < n → next ≡ behind rest → more ≡ ids ++ option_to_list (id_of (field rest))
+    → IdsSoFar n rest ids all behind_all → IdsSoFar (n - 1) next more all behind_all
+ids_turn n rest next ids more all behind_all some step pushed so = record {
+  read = more_ids n rest next ids more all some step pushed so.read;
+  skips = skipped_turn n rest next behind_all some step so.skips;
+}
+
+pub ids_all : (n : ℕ) (rest ids all behind_all : List ℕ) → n ≡ 0 → IdsSoFar n rest ids all behind_all → (ids ≡ all) × (rest ≡ behind_all)
 unfolding ids_in
-ids_all n rest ids all done is = sym (append-nil ids) ∙ ap (λ j. ids ++ ids_in j rest) (sym done) ∙ is
+ids_all n rest ids all behind_all done so = (
+  sym (append-nil ids) ∙ ap (λ j. ids ++ ids_in j rest) (sym done) ∙ so.read,
+  skipped_all n rest behind_all done so.skips,
+)

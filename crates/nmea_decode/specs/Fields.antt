@@ -1,6 +1,6 @@
 -- The fields of a sentence: what stands between the commas of its body. The first is the address, and the others are numbered from 1.
 -- A text of fields is empty, or begins with the comma before its first field. NMEA 0183.
-use Rattle.std.specs.Prelude.{ℕ, zero, suc, ◌-◌, ◌==◌, Bool, List, [], ◌∷◌, drop, not, count_by}
+use Rattle.std.specs.Prelude.{ℕ, zero, suc, ◌-◌, ◌==◌, Bool, List, [], ◌∷◌, drop, count_by}
 use Rattle.std.specs.List.{before_first, position_or_len}
 
 abbrev pub is_comma : ℕ → Bool

@@ -1,6 +1,6 @@
 -- The kind of a sentence, by its address: the last three letters name the kind, the first two the talker. NMEA 0183; systems are numbered
 -- after u-blox's gnssId.
-use Rattle.std.specs.Prelude.{ℕ, ◌==◌, Bool, ◌&&◌, not, List, take, drop, length, nat_le, slice_index, Option, Some, None, codes, if◌then◌else◌}
+use Rattle.std.specs.Prelude.{ℕ, ◌==◌, Bool, ◌&&◌, not, List, drop, length, nat_le, slice_index, Option, Some, None, codes, if◌then◌else◌}
 use Rattle.std.specs.List.{list_all}
 use Rattle.std.specs.Str.{bytes_eq}
 use Rattle.gps_report.specs.declared.note.NoteKind.{NoteKind}

@@ -1,12 +1,11 @@
 -- What each kind of sentence says, field by field. NMEA 0183.
-use Rattle.std.specs.Prelude.{ℕ, ◌&&◌, ◌==◌, nat_le, Bool, true, false, List, [], ◌∷◌, take, drop, Option, Some, None, codes, if◌then◌else◌}
+use Rattle.std.specs.Prelude.{ℕ, ◌&&◌, ◌==◌, nat_le, Bool, true, false, List, [], ◌∷◌, take, Option, Some, None, codes, if◌then◌else◌}
 use Rattle.std.specs.Option.{option_map}
 use Rattle.std.specs.Str.{bytes_eq}
 use Rattle.gps_report.specs.Note.{empty_note}
 use Rattle.gps_report.specs.declared.note.Note.{Note}
 use Rattle.gps_report.specs.declared.note.NoteKind.{NoteKind}
-use Rattle.gps_report.specs.declared.note.NoteKind.TheVariants.{Gga, Rmc, Gll, Gsa, Gsv, Vtg, Zda, Pvt, Sat, Dop, Eoe, Other}
-use Rattle.gps_report.specs.declared.note.Tag.{Tag}
+use Rattle.gps_report.specs.declared.note.NoteKind.TheVariants.{Gga, Rmc, Gll, Gsa, Gsv, Vtg, Zda, Other}
 use Rattle.gps_report.specs.declared.note.Tag.TheVariants.{Tod}
 use Rattle.nmea_frame.specs.Sentence.{body_of}
 use Rattle.nmea_decode.specs.Fields.{address_of, field_at, fields_of, skipped}

@@ -1,6 +1,6 @@
 -- Latitudes and longitudes: degrees, minutes and a fraction of them, and a letter. NMEA 0183.
 use Rattle.std.specs.Prelude.{ℕ, ◌+◌, ◌*◌, ◌/◌, ◌%◌, ◌^◌, Bool, true, false, ◌&&◌, List, nat_le, nat_lt, Option, Some, None, ℤ, pos, neg_ℤ, codes, if◌then◌else◌}
-use Rattle.std.specs.Option.{option_map, option_and_then}
+use Rattle.std.specs.Option.{option_and_then}
 use Rattle.std.specs.Str.{bytes_eq}
 use Rattle.gps_fixed.specs.Scaled.{digits_of}
 use Rattle.gps_report.specs.declared.note.Position.{Position}

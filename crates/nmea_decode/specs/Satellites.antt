@@ -1,7 +1,7 @@
 -- The satellites of a GSV, in groups of four fields, and the ids of a GSA. NMEA 0183; that one hexadecimal digit behind the groups is a
 -- signal id is this project's own.
-use Rattle.std.specs.Prelude.{ℕ, zero, suc, ◌/◌, ◌%◌, ◌*◌, ◌==◌, List, [], ◌∷◌, ◌++◌, Option, Some, None, false, if◌then◌else◌}
-use Rattle.std.specs.Option.{option_map, option_and_then, option_to_list}
+use Rattle.std.specs.Prelude.{ℕ, zero, suc, ◌/◌, ◌%◌, ◌*◌, ◌==◌, List, [], ◌∷◌, ◌++◌, Option, None, false, if◌then◌else◌}
+use Rattle.std.specs.Option.{option_map, option_to_list}
 use Rattle.gps_report.specs.declared.satellite.Satellite.{Satellite}
 use Rattle.nmea_frame.specs.Sentence.{hex_value}
 use Rattle.nmea_decode.specs.Fields.{field, field_at, behind, skipped, field_count}

@@ -1,12 +1,56 @@
-ghost use Rattle.std.specs.Prelude.{◌≡◌, ◌≤◌, count_by, drop, length};
+ghost use Rattle.std.specs.Prelude.{◌≡◌, ◌≤◌, count_by, drop, length, map};
 ghost use Rattle.std.specs.List.{position_or_len};
+ghost use Rattle.std.specs.Simd.Lanes.{mask_l};
 ghost use Rattle.nmea_decode.specs.Fields.{address_of, behind, field, field_count, fields_of, is_comma, skipped};
 
-fn comma_place(text: &[u8]) -> usize
+use std::simd::prelude::*;
+
+/// Fields are looked for in rows of so many bytes.
+const ROW: usize = 16;
+
+/// The commas of a row, a bit for each byte.
+fn commas_of_row(row: u8x16) -> u64
+    ensures { result ≡ mask_l (map is_comma row) }
+{
+    row.simd_eq(u8x16::splat(b',')).to_bitmask()
+}
+
+/// How many bytes of a row come before its first comma.
+fn place_in_row(row: u8x16) -> usize
+    ensures place { result ≡ position_or_len is_comma row }
+    ensures within { result ≤ 16 }
+{
+    let commas = commas_of_row(row);
+    if commas == 0 {
+        ROW
+    } else {
+        commas.trailing_zeros() as usize
+    }
+}
+
+/// Where the first comma of a text stands. Mostly only its last bytes come here: out of line, so that the walks over fields stay short.
+#[inline(never)]
+fn place_by_bytes(text: &[u8]) -> usize
     ensures place { result ≡ position_or_len is_comma text.now }
     ensures within { result ≤ length text.now }
 {
     text.iter().take_while(|c| **c != b',').count()
+}
+
+/// The same. Fields are short, so mostly the comma is in the first row.
+fn comma_place(text: &[u8]) -> usize
+    ensures place { result ≡ position_or_len is_comma text.now }
+    ensures within { result ≤ length text.now }
+{
+    if text.len() < ROW {
+        return place_by_bytes(text);
+    }
+    let place = place_in_row(u8x16::from_slice(text));
+    if place < ROW {
+        place
+    } else {
+        ROW + place_by_bytes(&text[ROW..])
+    }
 }
 
 /// The address of a body, and the text of its fields.
@@ -44,10 +88,29 @@ pub(crate) fn skip(text: &[u8], count: usize) -> &[u8]
     rest
 }
 
+fn commas_in_row(row: u8x16) -> usize
+    ensures count { result ≡ count_by is_comma row }
+    ensures within { result ≤ 16 }
+{
+    commas_of_row(row).count_ones() as usize
+}
+
+fn commas_by_bytes(text: &[u8]) -> usize
+    ensures { result ≡ count_by is_comma text.now }
+{
+    text.iter().filter(|c| **c == b',').count()
+}
+
 /// How many fields there are.
 pub(crate) fn count(text: &[u8]) -> usize
     ensures count { result ≡ field_count text.now }
     ensures within { result ≤ length text.now }
 {
-    text.iter().filter(|c| **c == b',').count()
+    let mut commas = 0usize;
+    let mut at = 0;
+    'rows: while text.len() - at >= ROW {
+        commas += commas_in_row(u8x16::from_slice(&text[at..]));
+        at += ROW;
+    }
+    commas + commas_by_bytes(&text[at..])
 }

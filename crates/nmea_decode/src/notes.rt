@@ -8,9 +8,10 @@ use crate::fields::{next, skip, split_address};
 use crate::kinds::{dimensions, kind, system_of_talker, system_stated};
 use crate::places::position;
 use crate::readings::{date, day_beside, dilution, height, long_date, speed, time, tod, track};
-use crate::satellites::{ids, satellites};
+use crate::satellites::{push_ids, satellites};
 use gps_fixed::NoMemory;
-use gps_report::{Note, NoteKind, Tag};
+use gps_report::{Ids, Note, NoteKind, Tag};
+use memchr::memchr;
 use std::alloc::Global;
 
 /// A note with a time, which is its tag.
@@ -134,14 +135,15 @@ fn read_gsa(alloc: Global, text: &[u8]) -> Result<Note, NoMemory>
     ensures { IfOk result (λ note. note ≡ gsa text.now) }
 {
     let (dim, ids_text) = next(skip(text, 1));
-    let used = ids(alloc, ids_text, 12)?;
-    let (pdop, text) = next(skip(ids_text, 12));
+    let mut used = Vec::new(alloc);
+    let behind = push_ids(&mut used, ids_text, 12)?;
+    let (pdop, text) = next(behind);
     let (hdop, text) = next(text);
     let (vdop, text) = next(text);
     let (system, _) = next(text);
     Ok(Note {
         dim: dimensions(dim),
-        used,
+        used: Ids::from_vec(used),
         pdop: dilution(pdop),
         hdop: dilution(hdop),
         vdop: dilution(vdop),
@@ -190,6 +192,9 @@ fn read_zda(alloc: Global, text: &[u8]) -> Note
     }
 }
 
+// A note is large, and each function that hands it on would copy it: from here up to `note_of` all is inlined, so that it is made where it
+// is kept.
+#[inline(always)]
 fn read_kind(alloc: Global, kind: NoteKind, talker: &[u8], text: &[u8]) -> Result<Note, NoMemory>
     ensures { IfOk result (λ note. note ≡ note_of_kind kind talker.now text.now) }
 {
@@ -205,6 +210,7 @@ fn read_kind(alloc: Global, kind: NoteKind, talker: &[u8], text: &[u8]) -> Resul
     }
 }
 
+#[inline(always)]
 #[tactic(auto, unfolding(crate::specs::Notes::body_note))]
 fn read_body(alloc: Global, body: &[u8]) -> Result<Note, NoMemory>
     ensures { IfOk result (λ note. note ≡ body_note body.now) }
@@ -214,11 +220,15 @@ fn read_body(alloc: Global, body: &[u8]) -> Result<Note, NoMemory>
     read_kind(alloc, kind(address), talker, text)
 }
 
+#[tactic(auto, using(crate::proofs::Searching::place_is, crate::proofs::Searching::nowhere_is))]
 fn star_place(text: &[u8]) -> usize
     ensures place { result ≡ position_or_len (λ c. c == 42) text.now }
     ensures within { result ≤ length text.now }
 {
-    text.iter().take_while(|c| **c != b'*').count()
+    match memchr(b'*', text) {
+        Some(place) => place,
+        None => text.len(),
+    }
 }
 
 /// What stands between the `$` and the `*` of a sentence.
@@ -238,11 +248,11 @@ fn body(sentence: &[u8]) -> &[u8]
 ///
 /// The `$`, the checksum and the line's end are the framer's to look at: of bytes that are no sentence, what stands up to the first `*` is
 /// read in the same way. The tables of fields are those of NMEA 0183. Every note keeps the ranges that the grouping into epochs asks for.
-#[tactic(auto, using(crate::proofs::Fitting::all_fit), unfolding(crate::specs::Notes::sentence_note))]
+#[inline(always)]
+#[tactic(auto, unfolding(crate::specs::Notes::sentence_note))]
 pub fn note_of(alloc: Global, sentence: &[u8]) -> Result<Note, NoMemory>
     ensures note { IfOk result (λ note. note ≡ sentence_note sentence.now) }
     ensures fits { IfOk result (λ note. Fits note) }
 {
-    let note = read_body(alloc, body(sentence))?;
-    Ok(note)
+    read_body(alloc, body(sentence))
 }

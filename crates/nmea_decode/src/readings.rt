@@ -1,4 +1,6 @@
-ghost use Rattle.std.specs.Prelude.{◌≡◌, ◌*◌, ◌+◌, ◌^◌, ◌<◌, ◌≤◌, IfSome};
+ghost use Rattle.std.specs.Prelude.{◌≡◌, ◌*◌, ◌+◌, ◌^◌, ◌<◌, ◌≤◌, pos, Some, IfSome};
+ghost use Rattle.std.specs.Char.{is_ascii_digit};
+ghost use Rattle.gps_fixed.specs.Scaled.{scaled};
 ghost use Rattle.nmea_decode.specs.Readings.{above_nought, azimuth_of, clock, date_from, date_of, dated, day_ns, day_with, days_passed, dilution_of, elevation_of, full_year, height_of, id_of, later_by, long_date_of, number_up_to, plain_number, speed_of, strength_of, IsOfCentury, time_of, tod_of, track_of, up_to, within_right_angle};
 
 use gps_fixed::{day_of, nearest_ratio, read_digits, read_scaled};
@@ -20,13 +22,57 @@ fn number(text: &[u8], most: u32, decimals: u8) -> Option<u32>
     }
 }
 
+fn is_digit(c: u8) -> bool
+    ensures { result ≡ is_ascii_digit c }
+{
+    c.is_ascii_digit()
+}
+
+/// One to three digits and nothing else, as most fields of a satellite are.
+fn few_digits(text: &[u8]) -> Option<u32>
+    ensures { IfSome result (λ n. scaled 0 text.now ≡ Some (pos n)) }
+{
+    match text {
+        [a] if is_digit(*a) => Some(u32::from(*a - b'0')),
+        [a, b] if is_digit(*a) && is_digit(*b) => {
+            Some(10 * u32::from(*a - b'0') + u32::from(*b - b'0'))
+        }
+        [a, b, c] if is_digit(*a) && is_digit(*b) && is_digit(*c) => {
+            Some(100 * u32::from(*a - b'0') + 10 * u32::from(*b - b'0') + u32::from(*c - b'0'))
+        }
+        _ => None,
+    }
+}
+
+/// A number without its decimals.
+fn integer(text: &[u8]) -> Option<i64>
+    ensures { result ≡ scaled 0 text.now }
+{
+    match few_digits(text) {
+        Some(n) => Some(i64::from(n)),
+        None => read_scaled(text, 0),
+    }
+}
+
+/// The same, from 0 to `most`.
+#[tactic(auto, unfolding(crate::specs::Readings::number_up_to))]
+fn whole(text: &[u8], most: u32) -> Option<u32>
+    ensures number { result ≡ number_up_to most 0 text.now }
+    ensures within { IfSome result (λ n. n ≤ most) }
+{
+    match integer(text) {
+        Some(n) if n >= 0 && n <= i64::from(most) => Some(n as u32),
+        _ => None,
+    }
+}
+
 /// The id of a satellite, 1..=999.
 #[tactic(auto, unfolding(crate::specs::Readings::id_of))]
 pub(crate) fn id(text: &[u8]) -> Option<u32>
     ensures id { result ≡ id_of text.now }
     ensures within { IfSome result (λ n. n ≤ 999) }
 {
-    match number(text, 999, 0) {
+    match whole(text, 999) {
         Some(n) if n > 0 => Some(n),
         _ => None,
     }
@@ -37,7 +83,7 @@ pub(crate) fn id(text: &[u8]) -> Option<u32>
 pub(crate) fn elevation(text: &[u8]) -> Option<i32>
     ensures { result ≡ elevation_of text.now }
 {
-    match read_scaled(text, 0) {
+    match integer(text) {
         Some(n) if -90 <= n && n <= 90 => Some(n as i32),
         _ => None,
     }
@@ -47,14 +93,14 @@ pub(crate) fn elevation(text: &[u8]) -> Option<i32>
 pub(crate) fn azimuth(text: &[u8]) -> Option<u32>
     ensures { result ≡ azimuth_of text.now }
 {
-    number(text, 360, 0)
+    whole(text, 360)
 }
 
 /// Signal strength in dBHz, 0..=99.
 pub(crate) fn strength(text: &[u8]) -> Option<u32>
     ensures { result ≡ strength_of text.now }
 {
-    number(text, 99, 0)
+    whole(text, 99)
 }
 
 /// A dilution in hundredths, at most 99.99.
@@ -201,7 +247,7 @@ pub(crate) fn long_date(day: &[u8], month: &[u8], year: &[u8]) -> Option<i32>
     ensures date { result ≡ long_date_of day.now month.now year.now }
     ensures within { IfSome result IsOfCentury }
 {
-    match (plain(year, 4), number(month, 12, 0), number(day, 31, 0)) {
+    match (plain(year, 4), whole(month, 12), whole(day, 31)) {
         (Some(year), Some(month), Some(day)) => day_of(year as i32, month as u8, day as u8),
         _ => None,
     }

@@ -1,24 +1,29 @@
 ghost use Rattle.std.specs.Prelude.{◌≡◌, ◌≤◌, ◌++◌, IfOk, IfSome, OnOk, OnErr};
 ghost use Rattle.std.specs.Option.{option_to_list};
 ghost use Rattle.nmea_frame.specs.Sentence.{hex_value};
+ghost use Rattle.nmea_decode.specs.Fields.{field_count, skipped};
 ghost use Rattle.nmea_decode.specs.Satellites.{ids_in, satellite_of, satellites_in, satellites_of, signal_in, signal_of};
 
 use crate::fields::{count, next, skip};
 use crate::readings::{azimuth, elevation, id, strength};
 use gps_fixed::NoMemory;
-use gps_report::{Ids, Satellite, Sats};
+use gps_report::{Satellite, Sats};
 use std::alloc::Global;
 
-/// The satellite of a group of four fields, where its id is readable.
+/// How many ids a GSA has room for.
+const MOST_IDS: usize = 12;
+
+/// The satellite of a group of four fields, where its id is readable, and the text behind the group.
 #[tactic(auto, unfolding(crate::specs::Satellites::satellite_of))]
-fn satellite(text: &[u8], system: Option<u8>, signal: Option<u8>) -> Option<Satellite>
-    ensures { result ≡ satellite_of system signal text.now }
+fn satellite(text: &[u8], system: Option<u8>, signal: Option<u8>) -> (Option<Satellite>, &[u8])
+    ensures satellite { result.0 ≡ satellite_of system signal text.now }
+    ensures behind { result.1.now ≡ skipped 4 text.now }
 {
     let (id_text, text) = next(text);
     let (el, text) = next(text);
     let (az, text) = next(text);
-    let (ss, _) = next(text);
-    match id(id_text) {
+    let (ss, text) = next(text);
+    let satellite = match id(id_text) {
         Some(prn) => Some(Satellite {
             prn,
             el: elevation(el),
@@ -32,7 +37,8 @@ fn satellite(text: &[u8], system: Option<u8>, signal: Option<u8>) -> Option<Sate
             signal,
         }),
         None => None,
-    }
+    };
+    (satellite, text)
 }
 
 fn push_some(sats: &mut Vec<Satellite>, satellite: Option<Satellite>) -> Result<(), NoMemory>
@@ -58,8 +64,9 @@ fn satellites_of_groups(
     let mut rest = text;
     let mut left = groups;
     'groups: while left > 0 {
-        push_some(&mut sats, satellite(rest, system, signal))?;
-        rest = skip(rest, 4);
+        let (satellite, behind) = satellite(rest, system, signal);
+        push_some(&mut sats, satellite)?;
+        rest = behind;
         left -= 1;
     }
     Ok(sats)
@@ -86,10 +93,10 @@ fn signal_id(field: &[u8]) -> Option<u8>
 }
 
 #[tactic(auto, unfolding(crate::specs::Satellites::signal_of))]
-fn signal(text: &[u8]) -> Option<u8>
+fn signal(text: &[u8], fields: usize) -> Option<u8>
+    requires { fields ≡ field_count text.now }
     ensures { result ≡ signal_of text.now }
 {
-    let fields = count(text);
     if fields % 4 == 1 {
         let (last, _) = next(skip(text, fields / 4 * 4));
         signal_id(last)
@@ -103,32 +110,40 @@ fn signal(text: &[u8]) -> Option<u8>
 pub(crate) fn satellites(alloc: Global, text: &[u8], system: Option<u8>) -> Result<Sats, NoMemory>
     ensures { IfOk result (λ sats. sats ≡ satellites_of system text.now) }
 {
-    let sats = satellites_of_groups(alloc, text, count(text) / 4, system, signal(text))?;
+    let fields = count(text);
+    let sats = satellites_of_groups(alloc, text, fields / 4, system, signal(text, fields))?;
     Ok(Sats::from_vec(sats))
 }
 
+/// Adds an id at the end. The first one takes the room of all that a sentence may have.
 fn push_id(ids: &mut Vec<u32>, id: Option<u32>) -> Result<(), NoMemory>
     ensures { OnOk result (ids.new.items ≡ ids.old.items ++ option_to_list id) }
 {
     if let Some(id) = id {
+        if ids.is_empty() {
+            ids.reserve(MOST_IDS)?;
+        }
         ids.push(id)?;
     }
     Ok(())
 }
 
-/// The readable ids of the first fields.
-#[tactic(auto, using(crate::proofs::Walks::ids_turn, crate::proofs::Walks::ids_all))]
-pub(crate) fn ids(alloc: Global, text: &[u8], fields: usize) -> Result<Ids, NoMemory>
-    ensures { IfOk result (λ ids. ids ≡ ids_in fields text.now) }
+/// Adds the readable ids of the first fields, and gives the text behind these.
+pub(crate) fn push_ids<'a>(
+    ids: &mut Vec<u32>,
+    text: &'a [u8],
+    fields: usize,
+) -> Result<&'a [u8], NoMemory>
+    ensures ids { OnOk result (ids.new.items ≡ ids.old.items ++ ids_in fields text.now) }
+    ensures behind { IfOk result (λ rest. rest.now ≡ skipped fields text.now) }
 {
-    let mut ids = Vec::new(alloc);
     let mut rest = text;
     let mut left = fields;
     'fields: while left > 0 {
         let (field, behind) = next(rest);
-        push_id(&mut ids, id(field))?;
+        push_id(ids, id(field))?;
         rest = behind;
         left -= 1;
     }
-    Ok(Ids::from_vec(ids))
+    Ok(rest)
 }

@@ -1,11 +1,22 @@
+//! Sentences of receivers and of the standard's examples, and what each says.
+
 use crate::note_of;
 use gps_report::{NoteKind, Position, Satellite, Tag};
-use std::process::Abort;
+use std::alloc::Global;
 use std::test::Fail;
+
+type KindRow<'a> = (&'a [u8], NoteKind);
+
+fn is_of_kind(alloc: Global, row: &KindRow) -> bool {
+    match note_of(alloc, row.0) {
+        Ok(note) => note.kind == row.1,
+        Err(_) => false,
+    }
+}
 
 #[test]
 fn tells_kinds_by_their_address(rt: HostRuntime) -> Result<(), Fail> {
-    let kinds: [(&[u8], NoteKind); 7] = [
+    let rows: &[KindRow] = &[
         (b"$GPGGA,*00\r\n", NoteKind::Gga),
         (b"$GNRMC,*00\n", NoteKind::Rmc),
         (b"$GPZDA,*00\n", NoteKind::Zda),
@@ -14,16 +25,26 @@ fn tells_kinds_by_their_address(rt: HostRuntime) -> Result<(), Fail> {
         (b"$GPGGAX,*00\n", NoteKind::Other),
         (b"$GGA,*00\n", NoteKind::Other),
     ];
-    for (sentence, kind) in kinds {
-        let note = note_of(rt.alloc(), sentence)?;
-        assert_eq!(rt; note.kind, kind);
-    }
+    assert!(rt; rows.iter().all(|row| is_of_kind(rt.alloc(), row)));
     Ok(())
+}
+
+type TimeRow<'a> = (&'a [u8], Option<u64>, Option<i32>);
+
+fn tells_time(alloc: Global, row: &TimeRow) -> bool {
+    let tag = match row.1 {
+        Some(tod) => Some(Tag::Tod(tod)),
+        None => None,
+    };
+    match note_of(alloc, row.0) {
+        Ok(note) => note.tod == row.1 && note.day == row.2 && note.tag == tag,
+        Err(_) => false,
+    }
 }
 
 #[test]
 fn reads_times_and_days(rt: HostRuntime) -> Result<(), Fail> {
-    let times: [(&[u8], Option<u64>, Option<i32>); 10] = [
+    let rows: &[TimeRow] = &[
         (
             b"$GPRMC,123519,A,4807.038,N,01131.000,E,022.4,084.4,230394,003.1,W*6A\r\n",
             Some(45_319_000_000_000),
@@ -63,22 +84,26 @@ fn reads_times_and_days(rt: HostRuntime) -> Result<(), Fail> {
             None,
         ),
     ];
-    for (sentence, tod, day) in times {
-        let note = note_of(rt.alloc(), sentence)?;
-        assert_eq!(rt; note.tod, tod);
-        assert_eq!(rt; note.day, day);
-        let tag = match tod {
-            Some(tod) => Some(Tag::Tod(tod)),
-            None => None,
-        };
-        assert_eq!(rt; note.tag, tag);
-    }
+    assert!(rt; rows.iter().all(|row| tells_time(rt.alloc(), row)));
     Ok(())
+}
+
+type PlaceRow<'a> = (&'a [u8], Option<(i64, i64)>);
+
+fn tells_place(alloc: Global, row: &PlaceRow) -> bool {
+    let position = match row.1 {
+        Some((lat, lon)) => Some(Position { lat, lon }),
+        None => None,
+    };
+    match note_of(alloc, row.0) {
+        Ok(note) => note.position == position,
+        Err(_) => false,
+    }
 }
 
 #[test]
 fn reads_positions(rt: HostRuntime) -> Result<(), Fail> {
-    let places: [(&[u8], Option<(i64, i64)>); 9] = [
+    let rows: &[PlaceRow] = &[
         (
             b"$GPGLL,4807.038,N,01131.000,E,,A*00\n",
             Some((48_117_300_000, 11_516_666_667)),
@@ -101,20 +126,22 @@ fn reads_positions(rt: HostRuntime) -> Result<(), Fail> {
         (b"$GPGLL,4807.038,E,01131.000,E,,A*00\n", None),
         (b"$GPGLL,4807.038,N,01131.000,E,,V*00\n", None),
     ];
-    for (sentence, place) in places {
-        let note = note_of(rt.alloc(), sentence)?;
-        let position = match place {
-            Some((lat, lon)) => Some(Position { lat, lon }),
-            None => None,
-        };
-        assert_eq!(rt; note.position, position);
-    }
+    assert!(rt; rows.iter().all(|row| tells_place(rt.alloc(), row)));
     Ok(())
+}
+
+type CourseRow<'a> = (&'a [u8], Option<i64>, Option<i64>);
+
+fn tells_course(alloc: Global, row: &CourseRow) -> bool {
+    match note_of(alloc, row.0) {
+        Ok(note) => note.track == row.1 && note.speed == row.2,
+        Err(_) => false,
+    }
 }
 
 #[test]
 fn reads_speeds_and_tracks(rt: HostRuntime) -> Result<(), Fail> {
-    let courses: [(&[u8], Option<i64>, Option<i64>); 6] = [
+    let rows: &[CourseRow] = &[
         (
             b"$GPVTG,084.4,T,,M,022.4,N,041.5,K*00\n",
             Some(844_000),
@@ -130,17 +157,33 @@ fn reads_speeds_and_tracks(rt: HostRuntime) -> Result<(), Fail> {
         (b"$GPVTG,,T,,M,1000000,N*00\n", None, Some(514_444_444)),
         (b"$GPVTG,-1,T,,M,1000000.001,N*00\n", None, None),
     ];
-    for (sentence, track, speed) in courses {
-        let note = note_of(rt.alloc(), sentence)?;
-        assert_eq!(rt; note.track, track);
-        assert_eq!(rt; note.speed, speed);
-    }
+    assert!(rt; rows.iter().all(|row| tells_course(rt.alloc(), row)));
     Ok(())
+}
+
+type FixRow<'a> = (
+    &'a [u8],
+    Option<bool>,
+    Option<i64>,
+    Option<i64>,
+    Option<u32>,
+);
+
+fn tells_fix(alloc: Global, row: &FixRow) -> bool {
+    match note_of(alloc, row.0) {
+        Ok(note) => {
+            note.status == row.1
+                && note.alt_msl == row.2
+                && note.geoid_sep == row.3
+                && note.hdop == row.4
+        }
+        Err(_) => false,
+    }
 }
 
 #[test]
 fn reads_the_quality_of_a_fix(rt: HostRuntime) -> Result<(), Fail> {
-    let fixes: [(&[u8], Option<bool>, Option<i64>, Option<i64>, Option<u32>); 4] = [
+    let rows: &[FixRow] = &[
         (
             b"$GPGGA,123519,4807.038,N,01131.000,E,1,08,0.9,545.4,M,46.9,M,,*47\r\n",
             Some(true),
@@ -170,19 +213,31 @@ fn reads_the_quality_of_a_fix(rt: HostRuntime) -> Result<(), Fail> {
             None,
         ),
     ];
-    for (sentence, status, altitude, separation, hdop) in fixes {
-        let note = note_of(rt.alloc(), sentence)?;
-        assert_eq!(rt; note.status, status);
-        assert_eq!(rt; note.alt_msl, altitude);
-        assert_eq!(rt; note.geoid_sep, separation);
-        assert_eq!(rt; note.hdop, hdop);
-    }
+    assert!(rt; rows.iter().all(|row| tells_fix(rt.alloc(), row)));
     Ok(())
 }
 
+type ActiveRow<'a> = (&'a [u8], &'a [u32], Option<u8>, Option<u8>);
+
+fn tells_active(alloc: Global, row: &ActiveRow) -> bool {
+    match note_of(alloc, row.0) {
+        Ok(note) => note.used.as_slice() == row.1 && note.dim == row.2 && note.system == row.3,
+        Err(_) => false,
+    }
+}
+
+type DilutionRow<'a> = (&'a [u8], Option<u32>, Option<u32>, Option<u32>);
+
+fn tells_dilutions(alloc: Global, row: &DilutionRow) -> bool {
+    match note_of(alloc, row.0) {
+        Ok(note) => note.pdop == row.1 && note.hdop == row.2 && note.vdop == row.3,
+        Err(_) => false,
+    }
+}
+
 #[test]
-fn reads_used_satellites(rt: HostRuntime) -> Result<(), Fail> {
-    let active: [(&[u8], &[u32], Option<u8>, Option<u8>); 5] = [
+fn reads_used_satellites_and_dilutions(rt: HostRuntime) -> Result<(), Fail> {
+    let active: &[ActiveRow] = &[
         (
             b"$GPGSA,A,3,04,05,,09,12,,,24,,,,,2.5,1.3,2.1*39\r\n",
             &[4, 5, 9, 12, 24],
@@ -209,21 +264,14 @@ fn reads_used_satellites(rt: HostRuntime) -> Result<(), Fail> {
         ),
         (b"$GNGSA,A,3,1,2*00\n", &[1, 2], Some(3), None),
     ];
-    for (sentence, used, dim, system) in active {
-        let note = note_of(rt.alloc(), sentence)?;
-        assert_eq!(rt; note.used.as_slice(), used);
-        assert_eq!(rt; note.dim, dim);
-        assert_eq!(rt; note.system, system);
-    }
-    Ok(())
-}
-
-#[test]
-fn reads_dilutions(rt: HostRuntime) -> Result<(), Fail> {
-    let note = note_of(rt.alloc(), b"$GPGSA,A,3,,,,,,,,,,,,,2.5,99.999,100*00\n")?;
-    assert_eq!(rt; note.pdop, Some(250));
-    assert_eq!(rt; note.hdop, Some(9_999));
-    assert_eq!(rt; note.vdop, None);
+    let dilutions: DilutionRow = (
+        b"$GPGSA,A,3,,,,,,,,,,,,,2.5,99.999,100*00\n",
+        Some(250),
+        Some(9_999),
+        None,
+    );
+    assert!(rt; active.iter().all(|row| tells_active(rt.alloc(), row)));
+    assert!(rt; tells_dilutions(rt.alloc(), &dilutions));
     Ok(())
 }
 
@@ -240,9 +288,18 @@ fn seen(prn: u32, gnss: Option<(u8, u16)>, signal: Option<u8>) -> Satellite {
     }
 }
 
+type ViewRow<'a> = (&'a [u8], Option<Satellite>);
+
+fn tells_first(alloc: Global, row: &ViewRow) -> bool {
+    match note_of(alloc, row.0) {
+        Ok(note) => note.sats.as_slice().first().copied() == row.1,
+        Err(_) => false,
+    }
+}
+
 #[test]
 fn names_satellites_by_system_and_signal(rt: HostRuntime) -> Result<(), Fail> {
-    let views: [(&[u8], Option<Satellite>); 8] = [
+    let rows: &[ViewRow] = &[
         (
             b"$GPGSV,1,1,01,01,40,083,46*00\n",
             Some(seen(1, Some((0, 1)), None)),
@@ -270,35 +327,38 @@ fn names_satellites_by_system_and_signal(rt: HostRuntime) -> Result<(), Fail> {
         (b"$GPGSV,1,1,01,5,40,083*00\n", None),
         (b"$GPGSV,1,1,01,1000,40,083,46*00\n", None),
     ];
-    for (sentence, satellite) in views {
-        let note = note_of(rt.alloc(), sentence)?;
-        assert_eq!(rt; note.sats.as_slice().first().copied(), satellite);
-    }
+    assert!(rt; rows.iter().all(|row| tells_first(rt.alloc(), row)));
     Ok(())
+}
+
+type Quantities = (u32, Option<i32>, Option<u32>, Option<u32>);
+
+fn quantities(satellite: &Satellite) -> Quantities {
+    (satellite.prn, satellite.el, satellite.az, satellite.ss)
+}
+
+fn tells_three(alloc: Global, sentence: &[u8], expected: &[Quantities; 3]) -> bool {
+    match note_of(alloc, sentence) {
+        Ok(note) => match note.sats.as_slice() {
+            [first, second, third] => {
+                quantities(first) == expected[0]
+                    && quantities(second) == expected[1]
+                    && quantities(third) == expected[2]
+            }
+            _ => false,
+        },
+        Err(_) => false,
+    }
 }
 
 #[test]
 fn keeps_each_whole_group(rt: HostRuntime) -> Result<(), Fail> {
-    let note = note_of(
-        rt.alloc(),
-        b"$GPGSV,2,1,08,01,40,083,46,,17,308,41,12,-90,360,,14,91,361,100*00\n",
-    )?;
-    let [first, second, third] = note.sats.as_slice() else {
-        return fails(&rt);
-    };
-    assert_eq!(rt; first.prn, 1);
-    assert_eq!(rt;
-        (second.prn, second.el, second.az, second.ss),
-        (12, Some(-90), Some(360), None)
-    );
-    assert_eq!(rt;
-        (third.prn, third.el, third.az, third.ss),
-        (14, None, None, None)
-    );
-    Ok(())
-}
-
-fn fails(rt: &impl Abort) -> Result<(), Fail> {
-    assert!(rt; false, "another number of satellites");
+    let sentence = b"$GPGSV,2,1,08,01,40,083,46,,17,308,41,12,-90,360,,14,91,361,100*00\n";
+    let expected = [
+        (1, Some(40), Some(83), Some(46)),
+        (12, Some(-90), Some(360), None),
+        (14, None, None, None),
+    ];
+    assert!(rt; tells_three(rt.alloc(), sentence, &expected));
     Ok(())
 }

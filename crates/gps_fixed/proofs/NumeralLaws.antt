@@ -1,16 +1,17 @@
 -- Numbers of decimal digits, and where a run of digits ends.
-use Rattle.std.proofs.Common.{◌≡◌, ℕ, zero, suc, ◌+◌, ◌-◌, ◌*◌, ◌^◌, ◌<◌, ◌≤◌, min, refl, sym, ap, ◌∙◌, subst, inl, inr, Bool, true, false, cond, arith, List, [], ◌∷◌, ◌++◌, length, take, get_or, replicate, length-append, length-take, zero-add, take_all, mul_assoc, mul_comm}
-use Rattle.std.proofs.lemmas.List.{length-replicate, take-replicate, take-append-le}
-use Rattle.std.proofs.lemmas.List.Folds.{list_all-append}
+use Rattle.std.proofs.Common.{◌≡◌, ℕ, zero, suc, ◌+◌, ◌-◌, ◌*◌, ◌^◌, ◌<◌, ◌≤◌, min, refl, sym, ap, ◌∙◌, subst, inl, inr, Bool, true, false, cond, nat_lt, Option, Some, None, unwrap_or, drop, arith, List, [], ◌∷◌, ◌++◌, length, take, get_or, replicate, length-append, length-take, zero-add, take_all, take-append-drop, mul_assoc, mul_comm}
+use Rattle.std.proofs.lemmas.List.{length-replicate, length-take-le, take-replicate, take-append-le}
+use Rattle.std.proofs.lemmas.List.Folds.{list_all-append, list_all_more, length-prefix_len}
 use Rattle.std.proofs.Math.Seq.{take-append-add}
 use Rattle.std.proofs.lemmas.Nat.{pow-add}
 use Rattle.std.proofs.Math.Nat.{mul-le-mul_right, one-le-pow, pow-suc, pow-zero, pow-le-pow_right}
-use Rattle.std.proofs.lemmas.Bool.{cases_lt, and_parts, and_from}
+use Rattle.std.proofs.lemmas.Bool.{cases_lt, and_parts, and_from, cond-true, cond-false}
 use Rattle.std.proofs.lemmas.Bool.Decides.{nat_tests}
 use Rattle.std.proofs.lemmas.List.Sums.{fold_more, fold-append, prefix_len-le-length}
 use Rattle.std.specs.List.{fold, list_all, prefix_len}
 use Rattle.std.specs.Char.{is_ascii_digit}
-use Rattle.gps_fixed.specs.Numeral.{number, first_digits}
+use Rattle.gps_fixed.specs.declared.numeral.Numeral.{Numeral}
+use Rattle.gps_fixed.specs.Numeral.{number, first_digits, if_digits, numeral_behind, numeral_of, numeral}
 
 abbrev step : ℕ → ℕ → ℕ
 step n c = n * 10 + (c - 48)
@@ -45,27 +46,39 @@ all_take (c ∷ ds) (suc i) all =
     let parts = and_parts (is_ascii_digit c) (list_all is_ascii_digit ds) all in
     and_from (is_ascii_digit c) (list_all is_ascii_digit (take i ds)) parts.0 (all_take ds i parts.1)
 
--- one more digit in front of the loop over them
+-- one more digit of a run of digits
 pub record Turn (ds : List ℕ) (i value : ℕ) : Type 0 where
   pub small : value < 10 ^ 17
   pub from : 48 ≤ get_or ds i 0
   pub to : get_or ds i 0 ≤ 57
+  pub digits : list_all is_ascii_digit (take (i + 1) ds) ≡ true
   pub next : 10 * value + (get_or ds i 0 - 48) ≡ number (take (i + 1) ds)
 
-pub turn : (ds : List ℕ) (i value : ℕ) → list_all is_ascii_digit ds ≡ true → length ds ≤ 18 → i < length ds → value ≡ number (take i ds) → Turn ds i value
-turn ds i value all few h e =
-    let digit = digit_bounds (get_or ds i 0) (all_at ds i all h) in
-    let below = number_below (take i ds) (all_take ds i all) in
-    let within : length (take i ds) ≤ 17 = omega (arith, length-take i ds) in
+pub turn : (ds : List ℕ) (i value : ℕ) → list_all is_ascii_digit (take i ds) ≡ true → i ≤ 17 → i < length ds → is_ascii_digit (get_or ds i 0) ≡ true → value ≡ number (take i ds) → Turn ds i value
+turn ds i value all few h d e =
+    let digit = digit_bounds (get_or ds i 0) d in
+    let below = number_below (take i ds) all in
+    let within : length (take i ds) ≤ 17 = omega (arith, length-take i ds, few) in
     let power = pow-le-pow_right {n = 10} (omega arith) within in
     let more = fold_more step 0 ds i 0 h in
-    record { small = omega (arith, e, below, power); from = digit.0; to = digit.1; next = omega (arith, e, more) }
+    record {
+      small = omega (arith, e, below, power);
+      from = digit.0;
+      to = digit.1;
+      digits = list_all_more is_ascii_digit ds i 0 h ∙ and_from (list_all is_ascii_digit (take i ds)) (is_ascii_digit (get_or ds i 0)) all d;
+      next = omega (arith, e, more);
+    }
 
 -- all digits passed
-pub all_passed : (ds : List ℕ) (i value : ℕ) → list_all is_ascii_digit ds ≡ true → i ≤ length ds → length ds ≤ i → value ≡ number (take i ds) → (value ≡ number ds) × (value < 10 ^ length ds)
-all_passed ds i value all within ended e =
-    let whole : value ≡ number ds = e ∙ ap number (take_all i ds ended) in
-    (whole, subst (λ v. v < 10 ^ length ds) (sym whole) (number_below ds all))
+pub all_passed : (ds : List ℕ) (i value : ℕ) → list_all is_ascii_digit (take i ds) ≡ true → length ds ≤ i → value ≡ number (take i ds) → value < 10 ^ length ds
+all_passed ds i value all ended e =
+    let whole : take i ds ≡ ds = take_all i ds ended in
+    subst (λ v. v < 10 ^ length ds) (sym (e ∙ ap number whole)) (number_below ds (subst (λ d. list_all is_ascii_digit d ≡ true) whole all))
+
+-- the number of the digits that begin a text
+pub below_leading : (text : List ℕ) (i value : ℕ) → list_all is_ascii_digit (take i text) ≡ true → i ≤ length text → value ≡ number (take i text) → value < 10 ^ i
+below_leading text i value all within e =
+    subst (λ n. value < 10 ^ n) (length-take-le i text within) (subst (λ v. v < 10 ^ length (take i text)) (sym e) (number_below (take i text) all))
 
 pub record Leading (text : List ℕ) : Type 0 where
   pub within : prefix_len is_ascii_digit text ≤ length text
@@ -86,6 +99,19 @@ leading_digits_pass (c ∷ text) = passes c text (is_ascii_digit c) refl (leadin
 
 pub leading : (text : List ℕ) → Leading text
 leading text = record { within = leading_within text; digits = leading_digits_pass text }
+
+pub read_some : (k len : ℕ) (text : List ℕ) (r : Option Numeral) → len ≡ prefix_len is_ascii_digit text → len ≤ 9 → r ≡ numeral_behind k (take len text) (drop len text) → r ≡ numeral k text
+unfolding numeral
+read_some k len text r e few h =
+    let short : nat_lt 9 (length (take len text)) ≡ false = grind (arith, nat_tests, length-take len text, few) in
+    h ∙ (sym (cond-false (nat_lt 9 (length (take len text))) None (numeral_behind k (take len text) (drop len text)) short) ∙ ap (λ n. numeral_of k (take n text) (drop n text)) e)
+
+pub read_none : (k : ℕ) (text : List ℕ) → 9 < prefix_len is_ascii_digit text → None ≡ numeral k text
+unfolding numeral
+read_none k text many =
+    let before = prefix_len is_ascii_digit text in
+    let long : nat_lt 9 (length (take before text)) ≡ true = grind (arith, nat_tests, length-prefix_len is_ascii_digit text, many) in
+    sym (cond-true (nat_lt 9 (length (take before text))) None (numeral_behind k (take before text) (drop before text)) long)
 
 list_all-replicate : (k : ℕ) → list_all is_ascii_digit (replicate k 48) ≡ true
 list_all-replicate zero = refl
@@ -116,11 +142,8 @@ first_small k ds all =
     let long : length (first_digits k ds) ≡ k = length-take k (ds ++ replicate k 48) ∙ omega (arith, length-append ds (replicate k 48), length-replicate {A = ℕ} k 48) in
     subst (λ n. number (first_digits k ds) < 10 ^ n) long (number_below (first_digits k ds) (first_pass k ds all))
 
-pub used_pass : (k used : ℕ) (ds : List ℕ) → list_all is_ascii_digit ds ≡ true → list_all is_ascii_digit (take used ds) ≡ true
-used_pass k used ds all = all_take ds used all
-
 -- the first digits, with zeros where there are fewer, as the code computes them
-pub first_value : (k used value : ℕ) (ds : List ℕ) → list_all is_ascii_digit ds ≡ true → used ≡ min (length ds) k → value ≡ number (take used ds) → value * 10 ^ (k - used) ≡ number (first_digits k ds)
+first_value : (k used value : ℕ) (ds : List ℕ) → list_all is_ascii_digit ds ≡ true → used ≡ min (length ds) k → value ≡ number (take used ds) → value * 10 ^ (k - used) ≡ number (first_digits k ds)
 first_value k used value ds all e v =
     elim (cases_lt (length ds) k) [
       | inl fewer ↦
@@ -133,9 +156,31 @@ first_value k used value ds all e v =
           ap (λ n. value * 10 ^ n) none ∙ (omega (arith, pow-zero 10) ∙ (v ∙ ap number (ap (λ n. take n ds) whole ∙ sym (take-append-le k ds (replicate k 48) enough))))
     ]
 
-pub first_bound : (k used value power : ℕ) (ds : List ℕ) → list_all is_ascii_digit ds ≡ true → used ≡ min (length ds) k → value ≡ number (take used ds) → power ≡ 10 ^ (k - used) → value * power < 10 ^ k
-first_bound k used value power ds all e v p =
-    subst (λ n. n < 10 ^ k) (sym (ap (λ q. value * q) p ∙ first_value k used value ds all e v)) (first_small k ds all)
+-- what should be digits is, where a number was read of it
+if_some : (b : Bool) (n value : ℕ) → Some value ≡ if_digits b n → (b ≡ true) × (value ≡ n)
+if_some true n value e = (refl, ap (λ o. unwrap_or o 0) e)
+if_some false n value e = absurd (cc)
+
+all_digits : (used : ℕ) (ds : List ℕ) → list_all is_ascii_digit (take used ds) ≡ true → list_all is_ascii_digit (drop used ds) ≡ true → list_all is_ascii_digit ds ≡ true
+all_digits used ds front back =
+    ap (list_all is_ascii_digit) (sym (take-append-drop used ds))
+    ∙ (list_all-append is_ascii_digit (take used ds) (drop used ds) ∙ and_from (list_all is_ascii_digit (take used ds)) (list_all is_ascii_digit (drop used ds)) front back)
+
+pub fraction_value : (k used value power : ℕ) (ds first rest : List ℕ) → used ≡ min (length ds) k → first ≡ take used ds → rest ≡ drop used ds
+    → Some value ≡ if_digits (list_all is_ascii_digit first) (number first) → list_all is_ascii_digit rest ≡ true → power ≡ 10 ^ (k - used) → Some (value * power) ≡ if_digits (list_all is_ascii_digit ds) (number (first_digits k ds))
+fraction_value k used value power ds first rest e f r read back p =
+    let front = if_some (list_all is_ascii_digit first) (number first) value read in
+    let all = all_digits used ds (subst (λ d. list_all is_ascii_digit d ≡ true) f front.0) (subst (λ d. list_all is_ascii_digit d ≡ true) r back) in
+    let read_is = front.1 ∙ ap number f in
+    ap (λ q. Some (value * q)) p ∙ (ap Some (first_value k used value ds all e read_is) ∙ sym (cond-true (list_all is_ascii_digit ds) (Some (number (first_digits k ds))) None all))
+
+pub fraction_small : (k used value power : ℕ) (ds first rest : List ℕ) → used ≡ min (length ds) k → first ≡ take used ds → rest ≡ drop used ds
+    → Some value ≡ if_digits (list_all is_ascii_digit first) (number first) → list_all is_ascii_digit rest ≡ true → power ≡ 10 ^ (k - used) → value * power < 10 ^ k
+fraction_small k used value power ds first rest e f r read back p =
+    let front = if_some (list_all is_ascii_digit first) (number first) value read in
+    let all = all_digits used ds (subst (λ d. list_all is_ascii_digit d ≡ true) f front.0) (subst (λ d. list_all is_ascii_digit d ≡ true) r back) in
+    let read_is = front.1 ∙ ap number f in
+    subst (λ n. n < 10 ^ k) (sym (ap (λ q. value * q) p ∙ first_value k used value ds all e read_is)) (first_small k ds all)
 
 -- digits before the point and digits behind it, as one number
 pub scaled_small : (a k whole power behind : ℕ) → whole < 10 ^ a → power ≡ 10 ^ k → behind < 10 ^ k → whole * power + behind < 10 ^ (a + k)

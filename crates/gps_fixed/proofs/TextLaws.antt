@@ -1,7 +1,7 @@
 -- Digits of numbers, as they are written one by one.
-use Rattle.std.proofs.Common.{◌≡◌, ℕ, zero, suc, ◌+◌, ◌-◌, ◌/◌, ◌%◌, ◌^◌, ◌<◌, ◌≤◌, refl, sym, ap, ◌∙◌, arith, List, [], ◌∷◌, ◌++◌, length, drop, take, map, append_assoc, zero-add, take_all}
+use Rattle.std.proofs.Common.{◌≡◌, ℕ, zero, suc, ◌+◌, ◌-◌, ◌/◌, ◌%◌, ◌^◌, ◌<◌, ◌≤◌, refl, sym, ap, ◌∙◌, arith, [], ◌∷◌, ◌++◌, length, drop, take, map, zero-add, take_all}
 use Rattle.std.proofs.lemmas.Nat.{div-add-mod'}
-use Rattle.std.proofs.Math.Nat.{mod-lt, div-le_self, one-le-pow, pow-le-pow_right}
+use Rattle.std.proofs.Math.Nat.{mod-eq_of_lt, mod-lt, div-le_self, one-le-pow, pow-le-pow_right}
 use Rattle.std.proofs.lemmas.List.{map-append}
 use Rattle.std.specs.Fmt.{decimal}
 use Rattle.std.specs.Int.Digits.{digits_of}
@@ -9,8 +9,11 @@ use Rattle.std.proofs.lemmas.Fmt.{decimal_digit, decimal-digits_of}
 use Rattle.std.proofs.lemmas.Int.Digits.{digits_of_step}
 use Rattle.gps_fixed.specs.Text.{digits_in}
 
+pub decimal_one : (n : ℕ) → n < 10 → decimal n ≡ (48 + n % 10) ∷ []
+decimal_one n h = decimal_digit n h ∙ ap (λ d. (48 + d) ∷ []) (sym (mod-eq_of_lt h))
+
 -- one more digit behind the others
-pub decimal_more : (n : ℕ) → n < 2 ^ 64 → 10 ≤ n → decimal n ≡ decimal (n / 10) ++ (48 + n % 10) ∷ []
+decimal_more : (n : ℕ) → n < 2 ^ 64 → 10 ≤ n → decimal n ≡ decimal (n / 10) ++ (48 + n % 10) ∷ []
 decimal_more n h ten =
     let some : 0 < n = omega (arith, ten) in
     let ten_some : 0 < 10 = omega arith in
@@ -20,6 +23,23 @@ decimal_more n h ten =
     ∙ (ap (map (λ d. 48 + d)) (digits_of_step 10 n (omega arith) some)
     ∙ (map-append (λ d. 48 + d) (digits_of 10 (n / 10)) (n % 10 ∷ [])
     ∙ ap (λ ds. ds ++ (48 + n % 10) ∷ []) (sym (decimal-digits_of (n / 10) front small))))
+
+pub decimal_two : (n : ℕ) → 10 ≤ n → n < 100 → decimal n ≡ (48 + n / 10 % 10) ∷ (48 + n % 10) ∷ []
+decimal_two n ten hundred =
+    let big : n < 2 ^ 64 = omega (arith, hundred) in
+    let front : n / 10 < 10 = omega (arith, hundred) in
+    decimal_more n big ten ∙ ap (λ ds. ds ++ (48 + n % 10) ∷ []) (decimal_one (n / 10) front)
+
+pub decimal_three : (n : ℕ) → 100 ≤ n → n < 1_000 → decimal n ≡ (48 + n / 100 % 10) ∷ (48 + n / 10 % 10) ∷ (48 + n % 10) ∷ []
+decimal_three n hundred thousand =
+    let big : n < 2 ^ 64 = omega (arith, thousand) in
+    let ten : 10 ≤ n = omega (arith, hundred) in
+    let from : 10 ≤ n / 10 = omega (arith, hundred) in
+    let to : n / 10 < 100 = omega (arith, thousand) in
+    let twice : n / 10 / 10 ≡ n / 100 = omega arith in
+    decimal_more n big ten
+    ∙ (ap (λ ds. ds ++ (48 + n % 10) ∷ []) (decimal_two (n / 10) from to)
+    ∙ ap (λ q. (48 + q % 10) ∷ (48 + n / 10 % 10) ∷ (48 + n % 10) ∷ []) twice)
 
 pub digits_dropped : (j k n : ℕ) → drop j (digits_in (j + k) n) ≡ digits_in k n
 digits_dropped zero k n = ap (λ m. digits_in m n) (zero-add k)
@@ -38,9 +58,6 @@ last_digits k n h =
     ap (take (9 - (9 - k))) (ap (λ m. drop (9 - k) (digits_in m n)) parts ∙ digits_dropped (9 - k) k n)
     ∙ take_all (9 - (9 - k)) (digits_in k n) (omega (arith, h, length-digits_in k n))
 
-pub decimal_one : (n : ℕ) → n < 10 → decimal n ≡ (48 + n) ∷ []
-decimal_one n h = decimal_digit n h
-
 -- a power of ten as a divisor
 pub unit_some : (k unit : ℕ) → unit ≡ 10 ^ k → 0 < unit
 unit_some k unit e = omega (arith, e, one-le-pow k 10 (omega arith))
@@ -49,8 +66,3 @@ pub rest_small : (k unit n : ℕ) → unit ≡ 10 ^ k → k ≤ 9 → n % unit <
 rest_small k unit n e h =
     let few = pow-le-pow_right {n = 10} (omega arith) h in
     omega (arith, e, few, mod-lt n (unit_some k unit e))
-
--- what a number's text is, given the text of its front and its last digit
-pub written : (n : ℕ) (old front new : List ℕ) → n < 2 ^ 64 → 10 ≤ n → front ≡ old ++ decimal (n / 10) → new ≡ front ++ (48 + n % 10) ∷ [] → new ≡ old ++ decimal n
-written n old front new h ten f e =
-    e ∙ (ap (λ t. t ++ (48 + n % 10) ∷ []) f ∙ (append_assoc old (decimal (n / 10)) ((48 + n % 10) ∷ []) ∙ ap (λ t. old ++ t) (sym (decimal_more n h ten))))

@@ -1,6 +1,6 @@
 -- Decimal texts: digits, and behind a point further digits. NMEA 0183 writes its numeric fields so; that at most nine digits stand before the
 -- point is this project's own.
-use Rattle.std.specs.Prelude.{◌≡◌, ℕ, ◌+◌, ◌-◌, ◌*◌, ◌^◌, ◌≤◌, true, ◌&&◌, ◌==◌, nat_lt, List, [], ◌∷◌, ◌++◌, length, take, drop, replicate, Option, Some, None, if◌then◌else◌}
+use Rattle.std.specs.Prelude.{◌≡◌, ℕ, Bool, ◌+◌, ◌-◌, ◌*◌, ◌^◌, ◌≤◌, true, ◌&&◌, ◌==◌, nat_lt, List, [], ◌∷◌, ◌++◌, length, take, drop, replicate, Option, Some, None, if◌then◌else◌}
 use Rattle.std.specs.List.{fold, list_all, prefix_len}
 use Rattle.std.specs.Option.{option_map}
 use Rattle.std.specs.Char.{is_ascii_digit}
@@ -46,6 +46,10 @@ reading k p = record { before = length p.whole; behind = option_map length p.beh
 -- n is what a text is read as
 abbrev pub IsNumeral : ℕ → List ℕ → Numeral → Type 0
 IsNumeral k text n = (p : Parts) × AreParts p × (text ≡ spelling p) × (n ≡ reading k p)
+
+-- a number, where what should write it is all digits
+abbrev pub if_digits : Bool → ℕ → Option ℕ
+if_digits all n = if all then Some n else None
 
 -- the same as a function: the digits that begin a text, and what may stand behind them
 abbrev pub numeral_behind : ℕ → List ℕ → List ℕ → Option Numeral

@@ -91,6 +91,13 @@ impl Bytes {
         Ok(())
     }
 
+    /// Drops all bytes; the room for them stays.
+    pub fn clear(&mut self)
+        ensures { self.new ≡ [] }
+    {
+        self.items.clear();
+    }
+
     pub fn copy(&self) -> Result<Bytes, NoMemory>
         ensures { IfOk result (λ b. b ≡ self.now) }
     {

@@ -1,9 +1,9 @@
-ghost use Rattle.std.specs.Prelude.{◌≡◌, ◌↔◌, ◌^◌, ◌<◌, ◌≤◌, ◌+◌, true, length, Some, IfSome};
+ghost use Rattle.std.specs.Prelude.{◌≡◌, ◌↔◌, ◌^◌, ◌<◌, ◌≤◌, ◌+◌, true, length, take, Some, None, IfSome};
 ghost use Rattle.std.specs.List.{list_all, prefix_len};
 ghost use Rattle.std.specs.Char.{is_ascii_digit};
 ghost use Rattle.gps_fixed.specs.declared.numeral.Numeral.{Numeral};
 ghost use Rattle.gps_fixed.specs.Scaled.{has_digits, has_whole, is_whole};
-ghost use Rattle.gps_fixed.specs.Numeral.{number, first_digits, numeral_behind, numeral_of, numeral, IsNumeral};
+ghost use Rattle.gps_fixed.specs.Numeral.{number, first_digits, numeral_behind, numeral, if_digits, IsNumeral};
 
 /// A decimal text, read: digits, and behind a point further digits.
 #[derive(Clone, Copy, Debug, PartialEq, Eq)]
@@ -16,7 +16,13 @@ pub struct Numeral {
     pub magnitude: u64,
 }
 
-#[tactic(auto, using(crate::proofs::NumeralLaws::leading, crate::proofs::NumeralTheorem::numeral_exact), unfolding(crate::specs::Numeral::numeral))]
+/// The digits that begin a text: how many, at most nine, and the number that they write.
+#[derive(Clone, Copy)]
+struct Digits {
+    len: usize,
+    value: u64,
+}
+
 /// Reads at most nine digits, and behind a point any number of them; the value is scaled by `10^decimals`.
 ///
 /// `None` comes exactly where the text is not of this form. The text may have no digit at all.
@@ -27,55 +33,82 @@ pub fn read_numeral(text: &[u8], decimals: u8) -> Option<Numeral>
     ensures small { IfSome result (λ n. n.magnitude < 10 ^ (n.before + decimals)) }
     ensures few { IfSome result (λ n. n.before ≤ 9) }
 {
-    let (whole, rest) = text.split_at(leading_digits(text));
-    numeral_of(decimals, whole, rest)
+    let numeral = numeral_in(text, decimals);
+    numeral
 }
 
-fn numeral_of(decimals: u8, whole: &[u8], rest: &[u8]) -> Option<Numeral>
-    requires decimals { decimals ≤ 9 }
-    requires digits { list_all is_ascii_digit whole.now ≡ true }
-    ensures value { result ≡ numeral_of decimals whole.now rest.now }
+#[tactic(auto, using(crate::proofs::NumeralLaws::read_some, crate::proofs::NumeralLaws::read_none))]
+fn numeral_in(text: &[u8], decimals: u8) -> Option<Numeral>
+    requires { decimals ≤ 9 }
+    ensures value { result ≡ numeral decimals text.now }
     ensures small { IfSome result (λ n. n.magnitude < 10 ^ (n.before + decimals)) }
     ensures few { IfSome result (λ n. n.before ≤ 9) }
 {
-    if whole.len() > 9 {
-        None
-    } else {
-        numeral_behind(decimals, whole, rest)
+    match leading_digits(text) {
+        Some(digits) => {
+            let (whole, rest) = text.split_at(digits.len);
+            numeral_behind(decimals, whole, digits.value, rest)
+        }
+        None => None,
     }
 }
 
-/// The numeral of at most nine digits and what stands behind them.
+/// The digits that begin a text, where there are at most nine.
+#[tactic(auto, using(crate::proofs::NumeralLaws::below_leading))]
+fn leading_digits(text: &[u8]) -> Option<Digits>
+    ensures none { result ≡ None → 9 < prefix_len is_ascii_digit text.now }
+    ensures len { IfSome result (λ l. l.len ≡ prefix_len is_ascii_digit text.now) }
+    ensures within { IfSome result (λ l. l.len ≤ length text.now) }
+    ensures few { IfSome result (λ l. l.len ≤ 9) }
+    ensures digits { IfSome result (λ l. list_all is_ascii_digit (take l.len text.now) ≡ true) }
+    ensures value { IfSome result (λ l. l.value ≡ number (take l.len text.now)) }
+    ensures below { IfSome result (λ l. l.value < 10 ^ l.len) }
+{
+    let mut value = 0u64;
+    let mut len = 0usize;
+    for c in text {
+        if !c.is_ascii_digit() {
+            return Some(Digits { len, value });
+        }
+        if len == 9 {
+            return None;
+        }
+        value = 10 * value + (*c - b'0') as u64;
+        len += 1;
+    }
+    Some(Digits { len, value })
+}
+
+/// The numeral of at most nine digits, with their value, and what stands behind them.
 #[tactic(auto, using(crate::proofs::NumeralLaws::no_fraction, crate::proofs::NumeralLaws::scaled_small, crate::proofs::NumeralLaws::whole_small))]
-fn numeral_behind(decimals: u8, whole: &[u8], rest: &[u8]) -> Option<Numeral>
+fn numeral_behind(decimals: u8, whole: &[u8], value: u64, rest: &[u8]) -> Option<Numeral>
     requires decimals { decimals ≤ 9 }
     requires digits { list_all is_ascii_digit whole.now ≡ true }
     requires few { length whole.now ≤ 9 }
+    requires number { value ≡ number whole.now }
+    requires below { value < 10 ^ length whole.now }
     ensures value { result ≡ numeral_behind decimals whole.now rest.now }
     ensures small { IfSome result (λ n. n.magnitude < 10 ^ (n.before + decimals)) }
     ensures few { IfSome result (λ n. n.before ≤ 9) }
 {
     let before = whole.len();
-    let units = number(whole) * 10u64.pow(decimals as u32);
+    let units = value * power_of_ten(decimals);
     match rest {
         [] => Some(Numeral {
             before,
             behind: None,
             magnitude: units,
         }),
-        [b'.', digits @ ..] if are_digits(digits) => Some(Numeral {
-            before,
-            behind: Some(digits.len()),
-            magnitude: units + number_of_first(digits, decimals),
-        }),
+        [b'.', digits @ ..] => match fraction(digits, decimals) {
+            Some(parts) => Some(Numeral {
+                before,
+                behind: Some(digits.len()),
+                magnitude: units + parts,
+            }),
+            None => None,
+        },
         _ => None,
     }
-}
-
-fn leading_digits(text: &[u8]) -> usize
-    ensures { result ≡ prefix_len is_ascii_digit text.now }
-{
-    text.iter().take_while(|c| c.is_ascii_digit()).count()
 }
 
 fn are_digits(text: &[u8]) -> bool
@@ -84,30 +117,52 @@ fn are_digits(text: &[u8]) -> bool
     text.iter().all(|c| c.is_ascii_digit())
 }
 
-/// The number that at most eighteen digits write.
-fn number(digits: &[u8]) -> u64
-    requires digits { list_all is_ascii_digit digits.now ≡ true }
-    requires few { length digits.now ≤ 18 }
-    ensures value { result ≡ number digits.now }
-    ensures small { result < 10 ^ length digits.now }
+/// The number that at most eighteen digits write; `None` where one of them is no digit.
+fn number_of(text: &[u8]) -> Option<u64>
+    requires few { length text.now ≤ 18 }
+    ensures value { result ≡ if_digits (list_all is_ascii_digit text.now) (number text.now) }
+    ensures small { IfSome result (λ n. n < 10 ^ length text.now) }
 {
     let mut value = 0u64;
-    for digit in digits {
-        value = 10 * value + (*digit - b'0') as u64;
+    for c in text {
+        if !c.is_ascii_digit() {
+            return None;
+        }
+        value = 10 * value + (*c - b'0') as u64;
     }
-    value
+    Some(value)
 }
 
-#[tactic(auto, using(crate::proofs::NumeralLaws::first_value, crate::proofs::NumeralLaws::used_pass))]
-/// The number that the first digits write, with zeros where there are fewer.
-fn number_of_first(digits: &[u8], count: u8) -> u64
-    requires digits { list_all is_ascii_digit digits.now ≡ true }
+/// The number that the first digits behind a point write, with zeros where there are fewer; `None` where what stands there is not all digits.
+fn fraction(text: &[u8], count: u8) -> Option<u64>
     requires few { count ≤ 9 }
-    ensures value { result ≡ number (first_digits count digits.now) }
-    ensures small { result < 10 ^ count }
+    ensures value { result ≡ if_digits (list_all is_ascii_digit text.now) (number (first_digits count text.now)) }
+    ensures small { IfSome result (λ n. n < 10 ^ count) }
 {
-    let used = digits.len().min(count as usize);
-    number(&digits[..used]) * 10u64.pow(count as u32 - used as u32)
+    let used = text.len().min(count as usize);
+    let (first, rest) = text.split_at(used);
+    match number_of(first) {
+        Some(value) if are_digits(rest) => Some(value * power_of_ten(count - used as u8)),
+        _ => None,
+    }
+}
+
+pub(crate) fn power_of_ten(exponent: u8) -> u64
+    requires { exponent ≤ 9 }
+    ensures { result ≡ 10 ^ exponent }
+{
+    match exponent {
+        0 => 1,
+        1 => 10,
+        2 => 100,
+        3 => 1_000,
+        4 => 10_000,
+        5 => 100_000,
+        6 => 1_000_000,
+        7 => 10_000_000,
+        8 => 100_000_000,
+        _ => 1_000_000_000,
+    }
 }
 
 impl Numeral {

@@ -2,24 +2,51 @@ ghost use Rattle.std.specs.Prelude.{◌≡◌, ◌+◌, ◌%◌, ◌≤◌, ◌+
 ghost use Rattle.std.specs.Fmt.{decimal};
 ghost use Rattle.gps_fixed.specs.Text.{digits_in, unsigned_text, scaled_text};
 
+use crate::numeral::power_of_ten;
 use crate::{Bytes, NoMemory};
+use itoa::Buffer;
 use std::alloc::Global;
 
 /// Adds a whole number, in decimal digits without leading zeros.
-#[tactic(auto, using(crate::proofs::TextLaws::decimal_one, crate::proofs::TextLaws::written))]
+#[inline(always)]
+#[tactic(auto, using(crate::proofs::TextLaws::decimal_one, crate::proofs::TextLaws::decimal_two, crate::proofs::TextLaws::decimal_three))]
 pub fn push_decimal(out: &mut Bytes, n: u64) -> Result<(), NoMemory>
     ensures { OnOk result (out.new ≡ out.old ++ decimal n) }
 {
-    if n < 10 {
-        return out.push(b'0' + n as u8);
+    match n {
+        0..=9 => out.push(digit(n as u32)),
+        10..=99 => out.extend_from_slice(&[digit(n as u32 / 10), digit(n as u32)]),
+        100..=999 => out.extend_from_slice(&[
+            digit(n as u32 / 100),
+            digit(n as u32 / 10),
+            digit(n as u32),
+        ]),
+        _ => push_long(out, n),
     }
-    push_decimal(out, n / 10)?;
-    out.push(b'0' + (n % 10) as u8)
+}
+
+#[inline(never)]
+fn push_long(out: &mut Bytes, n: u64) -> Result<(), NoMemory>
+    ensures { OnOk result (out.new ≡ out.old ++ decimal n) }
+{
+    let mut digits = Buffer::new();
+    out.extend_from_slice(digits.format(n).as_bytes())
+}
+
+/// Adds the last `count` digits of a number, at most nine, with zeros in front where it has fewer.
+pub fn push_digits(out: &mut Bytes, n: u32, count: u8) -> Result<(), NoMemory>
+    requires { count ≤ 9 }
+    ensures { OnOk result (out.new ≡ out.old ++ digits_in count n) }
+{
+    match count {
+        2 => out.extend_from_slice(&two_digits(n)),
+        3 => out.extend_from_slice(&three_digits(n)),
+        _ => push_some_of_nine(out, n, count),
+    }
 }
 
 #[tactic(auto, using(crate::proofs::TextLaws::last_digits))]
-/// Adds the last `count` digits of a number, at most nine, with zeros in front where it has fewer.
-pub fn push_digits(out: &mut Bytes, n: u32, count: u8) -> Result<(), NoMemory>
+fn push_some_of_nine(out: &mut Bytes, n: u32, count: u8) -> Result<(), NoMemory>
     requires { count ≤ 9 }
     ensures { OnOk result (out.new ≡ out.old ++ digits_in count n) }
 {
@@ -44,7 +71,7 @@ fn push_unsigned(out: &mut Bytes, magnitude: u64, decimals: u8) -> Result<(), No
     requires { decimals ≤ 9 }
     ensures { OnOk result (out.new ≡ out.old ++ unsigned_text decimals magnitude) }
 {
-    let unit = 10u64.pow(decimals as u32);
+    let unit = power_of_ten(decimals);
     push_decimal(out, magnitude / unit)?;
     out.push(b'.')?;
     push_digits(out, (magnitude % unit) as u32, decimals)
@@ -67,6 +94,18 @@ pub(crate) fn digit(n: u32) -> u8
     ensures { result ≡ 48 + n % 10 }
 {
     b'0' + (n % 10) as u8
+}
+
+fn two_digits(n: u32) -> [u8; 2]
+    ensures { result ≡ digits_in 2 n }
+{
+    [digit(n / 10), digit(n)]
+}
+
+fn three_digits(n: u32) -> [u8; 3]
+    ensures { result ≡ digits_in 3 n }
+{
+    [digit(n / 100), digit(n / 10), digit(n)]
 }
 
 fn nine_digits(n: u32) -> [u8; 9]

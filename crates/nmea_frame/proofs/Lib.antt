@@ -1,3 +1,4 @@
+mod Runs
 mod Lists
 mod Tails
 mod Theorem

@@ -1,2 +1,3 @@
 pub mod Sentence
 pub mod Scan
+pub mod Blocks

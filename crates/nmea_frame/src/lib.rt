@@ -4,6 +4,7 @@
 //! (NMEA 0183). That its checksum is required, and that it has at most 128 bytes, is this project's own.
 #![tactic(auto)]
 
+mod body_length;
 mod laws;
 mod sentence;
 #[cfg(test)]

@@ -1,7 +1,8 @@
 ghost use Rattle.std.specs.Prelude.{◌≡◌, ◌≤◌, ◌↔◌, ℕ, length, take};
-ghost use Rattle.std.specs.List.{prefix_len};
-ghost use Rattle.nmea_frame.specs.Sentence.{IsSentence, IsProperPrefix, is_body_byte as body_byte, hex_value as value, read_sum as sum_read, checksum as sum_of};
+ghost use Rattle.nmea_frame.specs.Sentence.{IsSentence, IsProperPrefix, hex_value as value, read_sum as sum_read, checksum as sum_of};
 ghost use Rattle.nmea_frame.specs.Scan.{shape_of, after_dollar as dollar_shape, after_body as body_shape, after_star as star_shape, ending as ending_shape, after_return as return_shape, whole_if as shape_if};
+
+use crate::body_length::body_len;
 
 /// What a list of bytes begins with.
 #[derive(Clone, Copy, Debug, PartialEq, Eq)]
@@ -112,19 +113,6 @@ fn whole_if(right: bool, len: usize) -> Shape
     ensures { result ≡ shape_if right len }
 {
     if right { Shape::Whole(len) } else { Shape::No }
-}
-
-fn body_len(text: &[u8]) -> usize
-    ensures len { result ≡ prefix_len body_byte text.now }
-    ensures within { result ≤ length text.now }
-{
-    text.iter().take_while(|byte| is_body_byte(**byte)).count()
-}
-
-fn is_body_byte(byte: u8) -> bool
-    ensures { result ≡ body_byte byte }
-{
-    matches!(byte, b' '..=b'~') && byte != b'$' && byte != b'*'
 }
 
 fn hex_value(digit: u8) -> Option<u8>

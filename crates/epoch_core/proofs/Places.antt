@@ -50,6 +50,24 @@ pub any_map : {X : Type 0} (key : X → ℕ) (k : ℕ) → (xs : List X) → lis
 any_map key k [] = refl
 any_map key k (x ∷ xs) = ap (λ b. b || list_any (nat_eq k) (map key xs)) (nat_eq_equiv.symm k (key x)) ∙ ap (λ b. nat_eq (key x) k || b) (any_map key k xs)
 
+any_of_keys : {X : Type 0} (key : X → ℕ) (k : ℕ) → (xs : List X) → list_any (λ q. nat_eq q k) (map key xs) ≡ list_any (λ x. nat_eq (key x) k) xs
+any_of_keys key k [] = refl
+any_of_keys key k (x ∷ xs) = ap (λ b. nat_eq (key x) k || b) (any_of_keys key k xs)
+
+pub keys_more : {X : Type 0} (key : X → ℕ) (xs ys : List X) (x : X) (ks ls : List ℕ) (k : ℕ) → ks ≡ map key xs → ys ≡ xs ++ x ∷ [] → ls ≡ ks ++ k ∷ [] → k ≡ key x → ls ≡ map key ys
+keys_more key xs ys x ks ls k e grown more same =
+    more ∙ (ap (λ q. ks ++ q ∷ []) same ∙ (ap (λ q. q ++ key x ∷ []) e ∙ (sym (map-append key xs (x ∷ [])) ∙ ap (map key) (sym grown))))
+
+pub keys_front : {X : Type 0} (key : X → ℕ) (n : ℕ) (xs ys : List X) (ks ls : List ℕ) → ks ≡ map key xs → ys ≡ take n xs → ls ≡ take n ks → ls ≡ map key ys
+keys_front key n xs ys ks ls e front same = same ∙ (ap (take n) e ∙ (take-map key n xs ∙ ap (map key) (sym front)))
+
+pub keys_nothing : {X : Type 0} (key : X → ℕ) (xs : List X) (ks : List ℕ) → xs ≡ [] → ks ≡ [] → ks ≡ map key xs
+keys_nothing key xs ks e none = none ∙ ap (map key) (sym e)
+
+pub any_key : {X : Type 0} (key : X → ℕ) (k : ℕ) (r : Bool) (slice ks : List ℕ) (xs vs : List X) → r ≡ list_any (λ q. nat_eq q k) slice → slice ≡ ks → ks ≡ map key xs → xs ≡ vs → r ≡ list_any (λ x. nat_eq (key x) k) vs
+any_key key k r slice ks xs vs is same keys view =
+    is ∙ (ap (list_any (λ q. nat_eq q k)) (same ∙ keys) ∙ (any_of_keys key k xs ∙ ap (list_any (λ x. nat_eq (key x) k)) view))
+
 pub distinct_push : {X : Type 0} (key : X → ℕ) (xs : List X) (x : X) → IsDistinct nat_eq (map key xs) → list_any (λ y. nat_eq (key y) (key x)) xs ≡ false → IsDistinct nat_eq (map key (xs ++ x ∷ []))
 distinct_push key xs x d apart =
     let e : map key (xs ++ x ∷ []) ≡ map key xs ++ key x ∷ [] = map-append key xs (x ∷ []) in

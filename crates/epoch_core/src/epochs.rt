@@ -9,7 +9,7 @@ ghost use Rattle.epoch_core.specs.Kept.{Ran, Kept, Held, StandsFor};
 ghost use Rattle.epoch_core.specs.Steps.{nothing_ran, kept_caused, kept_after, ran_closing, ran_grown, ran_before, ran_caused};
 
 use crate::days::Days;
-use crate::mark::{Mark, put_aside};
+use crate::mark::{Mark, set_aside};
 use crate::running::{Running, is_eoe};
 use gps_fixed::{NoMemory, Stamp};
 use gps_report::{Body, Note, NoteKind};
@@ -63,8 +63,7 @@ impl Epochs {
         ensures { self.new ≡ record { now = record self.old.now { ran = fresh }; back = self.old.back } }
     {
         let old = mem::replace(&mut self.running, fresh);
-        let mark = mem::replace(&mut self.mark, None);
-        self.mark = put_aside(mark, old);
+        set_aside(&mut self.mark, old);
     }
 
     /// Notes the present state as the mark, in place of an earlier one. Takes no memory.

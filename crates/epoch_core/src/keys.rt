@@ -1,23 +1,14 @@
 ghost use Rattle.std.specs.Prelude.{◌≡◌, ◌≤◌};
 ghost use Rattle.epoch_core.specs.Keys.{satellite_key, seen_key, system_place as place_of_system, signal_place as place_of_signal, system_number as number_of_system};
-ghost use Rattle.epoch_core.specs.Satellites.{system_of as named_system};
 
 use crate::once::Keyed;
+use crate::running::system_of;
 use crate::seen::Seen;
 use gps_report::Satellite;
 
 /// So many satellites can be told apart that sentences name: five systems, the absent one among them, 999 numbers and
 /// 17 signals.
 const OF_SENTENCES: u64 = 84_915;
-
-fn system_of(satellite: &Satellite) -> Option<u8>
-    ensures { result ≡ named_system satellite.now }
-{
-    match satellite.gnss {
-        Some((system, _)) => Some(system),
-        None => None,
-    }
-}
 
 fn system_place(system: Option<u8>) -> u64
     ensures place { result ≡ place_of_system system }

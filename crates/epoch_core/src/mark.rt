@@ -1,5 +1,5 @@
 ghost use Rattle.std.specs.Prelude.{◌≡◌};
-ghost use Rattle.epoch_core.specs.Marks.{put_aside as put_by, moved_aside};
+ghost use Rattle.epoch_core.specs.Marks.{put_aside};
 
 use crate::days::Days;
 use crate::point::Point;
@@ -13,28 +13,13 @@ pub struct Mark {
     pub aside: Option<Running>,
 }
 
-fn older(aside: Option<Running>, old: Running) -> Option<Running>
-    ensures { result ≡ moved_aside aside old }
-{
-    match aside {
-        Some(older) => Some(older),
-        None => Some(old),
-    }
-}
-
 /// Keeps the epoch that stood at the mark; a later one is dropped.
-pub fn put_aside(mark: Option<Mark>, old: Running) -> Option<Mark>
-    ensures { result ≡ put_by mark old }
+pub fn set_aside(mark: &mut Option<Mark>, old: Running)
+    ensures { mark.new ≡ put_aside mark.old old }
 {
-    match mark {
-        Some(mark) => {
-            let Mark { days, point, aside } = mark;
-            Some(Mark {
-                days,
-                point,
-                aside: older(aside, old),
-            })
+    if let Some(mark) = mark {
+        if mark.aside.is_none() {
+            mark.aside = Some(old);
         }
-        None => None,
     }
 }

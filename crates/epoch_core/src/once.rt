@@ -18,33 +18,38 @@ pub trait Keyed: Copy {
         ensures { result ≡ key self.now };
 }
 
+/// The first element takes the room for so many.
+const USUAL: usize = 16;
+
 /// So many elements are searched one by one; a longer list has a map of its places.
 const FEW: usize = 64;
 
 /// A list that takes each key once, in the order in which they came.
 ///
-/// `places` may know keys that the list has lost again: a place counts only where the list has that key.
+/// The keys stand beside it, so that a search makes none anew. `places` may know keys that the list has lost again: a place counts only
+/// where the list has that key.
 #[derive(Debug, Drop)]
 pub struct Once<T: Keyed> {
     items: Vec<T>,
+    keys: Vec<u64>,
     places: BTreeMap<u64, usize>,
 }
 
 impl<T: Keyed> Model for Once<T> {
-    ghost use Rattle.std.specs.Prelude.{List};
+    ghost use Rattle.std.specs.Prelude.{◌≡◌, List, map};
     ghost use Rattle.epoch_core.specs.Keys.{IsOnce};
 
     ghost Value = { List T };
 
     ghost view = { λ o. o.items.items };
 
-    ghost invariant = { λ o. IsOnce T.key o.items.items o.places };
+    ghost invariant = { λ o. IsOnce T.key o.items.items o.places × (o.keys.items ≡ map T.key o.items.items) };
 }
 
-fn has_key<T: Keyed>(items: &[T], key: u64) -> bool
-    ensures { result ≡ list_any (λ x. nat_eq (T.key x) key) items.now }
+fn is_among(key: u64, keys: &[u64]) -> bool
+    ensures { result ≡ list_any (λ k. nat_eq k key) keys.now }
 {
-    items.iter().any(|x| x.key() == key)
+    keys.iter().any(|k| *k == key)
 }
 
 fn item_at<T: Keyed>(items: &[T], place: usize) -> Option<T>
@@ -136,6 +141,7 @@ impl<T: Keyed> Once<T> {
     {
         Once {
             items: Vec::new(alloc),
+            keys: Vec::new(alloc),
             places: BTreeMap::new(alloc),
         }
     }
@@ -158,7 +164,7 @@ impl<T: Keyed> Once<T> {
         ensures { result ≡ list_any (λ x. nat_eq (T.key x) key) self.now }
     {
         if self.items.len() <= FEW {
-            has_key(self.items.as_slice(), key)
+            is_among(key, self.keys.as_slice())
         } else {
             is_placed(self.items.as_slice(), &self.places, key)
         }
@@ -174,7 +180,11 @@ impl<T: Keyed> Once<T> {
             return Ok(());
         }
         place_next(self.items.as_slice(), &mut self.places, key)?;
-        self.items.push(item)?;
+        let room = if self.items.is_empty() { USUAL } else { 1 };
+        self.keys.reserve(room)?;
+        self.items.reserve(room)?;
+        self.items.push_reserved(item);
+        self.keys.push_reserved(key);
         Ok(())
     }
 
@@ -183,6 +193,7 @@ impl<T: Keyed> Once<T> {
         ensures { self.new ≡ take len self.old }
     {
         self.items.truncate(len);
+        self.keys.truncate(len);
     }
 
     /// Adds elements in order, each unless one with its key is there. A refusal changes nothing.
@@ -209,6 +220,11 @@ impl<T: Keyed> Once<T> {
     {
         let places = places_of(alloc, self.items.as_slice())?;
         let items = Vec::from_slice(alloc, self.items.as_slice())?;
-        Ok(Once { items, places })
+        let keys = Vec::from_slice(alloc, self.keys.as_slice())?;
+        Ok(Once {
+            items,
+            keys,
+            places,
+        })
     }
 }

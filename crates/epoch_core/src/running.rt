@@ -1,13 +1,13 @@
-ghost use Rattle.std.specs.Prelude.{◌≡◌, ◌∷◌, ◌++◌, ◌≤◌, ◌+◌, [], true, cond, is_some, map, length, IfOk, OnOk, OnErr, List, None};
+ghost use Rattle.std.specs.Prelude.{◌≡◌, ◌∷◌, ◌++◌, ◌≤◌, ◌+◌, [], true, cond, is_some, is_none, ◌||◌, map, length, IfOk, OnOk, OnErr, List, None};
 ghost use Rattle.std.specs.List.{list_all, list_any};
 ghost use Rattle.gps_report.specs.Fits.{Fits, is_tod, is_id, is_satellite, is_named_system, where_given};
 ghost use Rattle.epoch_core.specs.Days.{is_known_day};
 ghost use Rattle.epoch_core.specs.Quantities.{serial_time as serial_time_of, breaks as breaks_from};
 ghost use Rattle.epoch_core.specs.Satellites.{is_used as used_by, marked as marked_by, speaks_of as speaks, is_gsa as gsa, seen_by, seen_in, same_seen, same_satellite, system_of as named_system, same_number as same_numbers};
-ghost use Rattle.epoch_core.specs.Epochs.{is_eoe as eoe, toff_of};
+ghost use Rattle.epoch_core.specs.Epochs.{is_eoe as eoe};
 ghost use Rattle.epoch_core.specs.Fixes.{fix_of as fix_made};
 ghost use Rattle.epoch_core.specs.Kept.{Ran};
-ghost use Rattle.epoch_core.specs.Steps.{all_added, nothing_ran, ran_grown, ran_sky, ran_closing, ran_told};
+ghost use Rattle.epoch_core.specs.Steps.{all_added, nothing_ran, ran_grown, ran_sky, ran_closing, ran_told, toff_told};
 ghost use Rattle.epoch_core.specs.Keys.{by_key, seen_key};
 ghost use Rattle.epoch_core.specs.Tidy.{is_seen};
 ghost use Rattle.epoch_core.specs.Marks.{point_of, ran_at};
@@ -62,15 +62,21 @@ pub fn system_of(satellite: &Satellite) -> Option<u8>
     }
 }
 
+/// Where both name a system, it is the same.
+fn agree(one: Option<u8>, other: Option<u8>) -> bool
+    ensures { result ≡ (is_none one || is_none other || same_numbers one other) }
+{
+    match (one, other) {
+        (Some(one), Some(other)) => one == other,
+        _ => true,
+    }
+}
+
 /// The id is the satellite's, and where both name a system, it is the same.
 fn speaks_of(satellite: &Satellite, seen: &Seen) -> bool
     ensures { result ≡ speaks satellite.now seen.now }
 {
-    let fits = match (seen.system, system_of(satellite)) {
-        (Some(a), Some(b)) => a == b,
-        _ => true,
-    };
-    seen.id == satellite.prn && fits
+    seen.id == satellite.prn && agree(seen.system, system_of(satellite))
 }
 
 fn is_seen_used(satellite: &Satellite, seen: &[Seen]) -> bool
@@ -107,17 +113,23 @@ pub fn all_marked(
     Ok(all)
 }
 
-/// The Toff of an epoch, where the note between the two sayings is the first that has a serial time.
-fn push_toff(out: &mut Vec<Body>, before: &Said, after: &Said) -> Result<(), NoMemory>
-    ensures { OnOk result (out.new.items ≡ out.old.items ++ cond (is_some before.now.stamped) [] (toff_of after.now)) }
+/// The Toff of an epoch, where its next note is the first that has a serial time.
+#[tactic(auto, unfolding(crate::specs::Steps::toff_told, crate::specs::Steps::said_grown))]
+fn push_toff(
+    out: &mut Vec<Body>,
+    said: &Said,
+    note: &Note,
+    first: Stamp,
+    day: Option<u32>,
+) -> Result<(), NoMemory>
+    requires fits { Fits note.now }
+    requires day { where_given is_known_day day ≡ true }
+    ensures { OnOk result (out.new.items ≡ out.old.items ++ toff_told said.now (record { note = note.now; first = first; day = day })) }
 {
-    match (before.stamped, after.stamped) {
-        (None, Some(at)) => {
-            let host = after.first.unwrap_or(at);
-            out.push(Body::Toff(Pair {
-                reference: at,
-                host,
-            }))?;
+    match (said.stamped, serial_time(note.tod, day)) {
+        (None, Some(reference)) => {
+            let host = said.first.unwrap_or(first);
+            out.push(Body::Toff(Pair { reference, host }))?;
             Ok(())
         }
         _ => Ok(()),
@@ -236,14 +248,14 @@ impl Running {
 
     /// One more note of this epoch. A refusal changes nothing.
     #[tactic(auto, unfolding(crate::specs::Steps::ran_grown))]
-    pub fn grow(&mut self, note: &Note, first: Stamp, day: Option<u32>) -> Result<(), NoMemory>
+    fn grow(&mut self, note: &Note, first: Stamp, day: Option<u32>) -> Result<(), NoMemory>
         requires fits { Fits note.now }
         requires day { where_given is_known_day day ≡ true }
         ensures ok { OnOk result (self.new ≡ ran_grown self.old (record { note = note.now; first = first; day = day })) }
         ensures err { OnErr result (self.new ≡ self.old) }
     {
         add_lists(&mut self.sats, &mut self.seen, note)?;
-        self.said = self.said.grown(note, first, serial_time(note.tod, day));
+        self.said.grow(note, first, serial_time(note.tod, day));
         Ok(())
     }
 
@@ -291,7 +303,7 @@ impl Running {
 
     /// One more note of this epoch, and what it tells: a Toff, and the closing where the note ends the epoch.
     /// A refusal changes nothing but `out`.
-    #[tactic(auto, unfolding(crate::specs::Steps::ran_told, crate::specs::Steps::toff_told, crate::specs::Steps::ran_grown), using(crate::proofs::Grown::grown_back))]
+    #[tactic(auto, unfolding(crate::specs::Steps::ran_told))]
     pub fn tell(
         &mut self,
         alloc: Global,
@@ -306,31 +318,38 @@ impl Running {
         ensures told { OnOk result (out.new.items ≡ out.old.items ++ ran_told self.old (record { note = note.now; first = first; day = day })) }
         ensures err { OnErr result (self.new ≡ self.old) }
     {
+        push_toff(out, &self.said, note, first, day)?;
+        if is_eoe(note.kind) {
+            self.end(alloc, note, first, day, out)
+        } else {
+            self.grow(note, first, day)
+        }
+    }
+
+    /// The last note of this epoch, which then closes. A refusal changes nothing but `out`.
+    #[tactic(auto, using(crate::proofs::Grown::grown_back))]
+    fn end(
+        &mut self,
+        alloc: Global,
+        note: &Note,
+        first: Stamp,
+        day: Option<u32>,
+        out: &mut Vec<Body>,
+    ) -> Result<(), NoMemory>
+        requires fits { Fits note.now }
+        requires day { where_given is_known_day day ≡ true }
+        ensures ok { OnOk result (self.new ≡ ran_grown self.old (record { note = note.now; first = first; day = day })) }
+        ensures told { OnOk result (out.new.items ≡ out.old.items ++ ran_closing self.new) }
+        ensures err { OnErr result (self.new ≡ self.old) }
+    {
         let before = self.point();
         self.grow(note, first, day)?;
-        match self.push_told(alloc, &before.said, note.kind, out) {
+        match self.close(alloc, out) {
             Ok(()) => Ok(()),
             Err(refused) => {
                 self.undo(&before);
                 Err(refused)
             }
-        }
-    }
-
-    fn push_told(
-        &self,
-        alloc: Global,
-        before: &Said,
-        kind: NoteKind,
-        out: &mut Vec<Body>,
-    ) -> Result<(), NoMemory>
-        ensures { OnOk result (out.new.items ≡ out.old.items ++ (cond (is_some before.now.stamped) [] (toff_of self.now.said) ++ cond (eoe kind) (ran_closing self.now) [])) }
-    {
-        push_toff(out, before, &self.said)?;
-        if is_eoe(kind) {
-            self.close(alloc, out)
-        } else {
-            Ok(())
         }
     }
 

@@ -1,4 +1,5 @@
 ghost use Rattle.std.specs.Prelude.{◌≡◌, [], true};
+ghost use Rattle.std.specs.Option.{option_or};
 ghost use Rattle.gps_report.specs.Fits.{is_tod, where_given};
 ghost use Rattle.epoch_core.specs.Days.{is_known_day};
 ghost use Rattle.epoch_core.specs.Quantities.{said, serial_time as serial_time_of, tod_tag as tod_tag_of, itow_tag as itow_tag_of, is_fix_kind as fix_kind, is_sky_kind as sky_kind, differs as differs_from, breaks as breaks_from};
@@ -81,12 +82,30 @@ pub fn is_sky_kind(kind: NoteKind) -> bool
     matches!(kind, NoteKind::Gsv | NoteKind::Sat)
 }
 
-fn retime(tod: Option<u64>, at: Option<Stamp>, last: Option<Stamp>) -> Option<Stamp>
-    ensures { result ≡ retimed tod at last }
+/// The time of a note that has a time of day takes the place of an earlier one.
+fn retime(time: &mut Option<Stamp>, tod: Option<u64>, at: &Option<Stamp>)
+    ensures { time.new ≡ retimed tod at.now time.old }
 {
-    match tod {
-        Some(_) => at,
-        None => last,
+    if tod.is_some() {
+        *time = *at;
+    }
+}
+
+/// A quantity that is the first given stays.
+fn keep<T: Copy>(quantity: &mut Option<T>, given: &Option<T>)
+    ensures { quantity.new ≡ option_or quantity.old given.now }
+{
+    if quantity.is_none() {
+        *quantity = *given;
+    }
+}
+
+/// A quantity that is given takes the place of an earlier one.
+fn renew<T: Copy>(quantity: &mut Option<T>, given: Option<T>)
+    ensures { quantity.new ≡ option_or given quantity.old }
+{
+    if given.is_some() {
+        *quantity = given;
     }
 }
 
@@ -131,31 +150,29 @@ impl Said {
         }
     }
 
-    /// What the epoch has said with one more note, whose serial time is `at`.
+    /// One more note of the epoch, whose serial time is `at`.
     #[tactic(auto, unfolding(crate::specs::Steps::said_grown))]
-    pub fn grown(&self, note: &Note, first: Stamp, at: Option<Stamp>) -> Said
-        ensures { result ≡ said_grown self.now note.now first at }
+    pub fn grow(&mut self, note: &Note, first: Stamp, at: Option<Stamp>)
+        ensures { self.new ≡ said_grown self.old note.now first at }
     {
-        Said {
-            first: self.first.or(Some(first)),
-            tod_tag: tod_tag(note.tag).or(self.tod_tag),
-            itow_tag: itow_tag(note.tag).or(self.itow_tag),
-            time: retime(note.tod, at, self.time),
-            stamped: self.stamped.or(at),
-            status: note.status.or(self.status),
-            dim: note.dim.or(self.dim),
-            position: note.position.or(self.position),
-            alt_hae: note.alt_hae.or(self.alt_hae),
-            alt_msl: note.alt_msl.or(self.alt_msl),
-            geoid_sep: note.geoid_sep.or(self.geoid_sep),
-            track: note.track.or(self.track),
-            speed: note.speed.or(self.speed),
-            climb: note.climb.or(self.climb),
-            pdop: note.pdop.or(self.pdop),
-            hdop: note.hdop.or(self.hdop),
-            vdop: note.vdop.or(self.vdop),
-            has_fix: is_fix_kind(note.kind) || self.has_fix,
-            has_sky: is_sky_kind(note.kind) || self.has_sky,
-        }
+        self.has_fix = is_fix_kind(note.kind) || self.has_fix;
+        self.has_sky = is_sky_kind(note.kind) || self.has_sky;
+        keep(&mut self.first, &Some(first));
+        keep(&mut self.stamped, &at);
+        retime(&mut self.time, note.tod, &at);
+        renew(&mut self.tod_tag, tod_tag(note.tag));
+        renew(&mut self.itow_tag, itow_tag(note.tag));
+        renew(&mut self.status, note.status);
+        renew(&mut self.dim, note.dim);
+        renew(&mut self.position, note.position);
+        renew(&mut self.alt_hae, note.alt_hae);
+        renew(&mut self.alt_msl, note.alt_msl);
+        renew(&mut self.geoid_sep, note.geoid_sep);
+        renew(&mut self.track, note.track);
+        renew(&mut self.speed, note.speed);
+        renew(&mut self.climb, note.climb);
+        renew(&mut self.pdop, note.pdop);
+        renew(&mut self.hdop, note.hdop);
+        renew(&mut self.vdop, note.vdop);
     }
 }

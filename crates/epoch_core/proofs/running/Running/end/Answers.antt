@@ -1,5 +1,5 @@
 use Rattle.epoch_core.proofs.Grown.{grown_back}
-use Rattle.epoch_core.proofs.running.Running.tell.Goals as goal
+use Rattle.epoch_core.proofs.running.Running.end.Goals as goal
 
 pub returns-in-Err-clause-err : goal.returns-in-Err-clause-err
 returns-in-Err-clause-err c =

@@ -90,7 +90,8 @@ pub(crate) fn take_packets(
     ensures few { IfOk result (λ r. length r.0.items ≤ 6 * length packets.items) }
     ensures back { epochs.new.back ≡ epochs.old.back }
 {
-    let mut out = Vec::new(alloc);
+    // Few packets cause more than one report.
+    let mut out = Vec::with_capacity(alloc, packets.len().saturating_mul(2))?;
     let mut last = toff;
     'packets: for packet in packets {
         last = take_packet(alloc, epochs, packet, last, &mut out)?;

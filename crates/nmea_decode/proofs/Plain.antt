@@ -2,8 +2,8 @@
 use Rattle.std.proofs.Common.{◌≡◌, ℕ, ◌+◌, ◌*◌, ◌-◌, ◌<◌, ◌≤◌, refl, sym, ap, arith, Bool, true, false, ◌&&◌, List, [], ◌∷◌, length, append-nil, slice_index, Some, None, pos}
 use Rattle.std.specs.Char.{is_ascii_digit}
 use Rattle.std.specs.List.{list_all}
-use Rattle.gps_fixed.specs.Numeral.{number}
-use Rattle.gps_fixed.specs.Scaled.{scaled, IsScaled}
+use Rattle.gps_fixed.specs.Numeral.{number, numeral}
+use Rattle.gps_fixed.specs.Scaled.{scaled, magnitude, IsScaled}
 use Rattle.gps_fixed.proofs.ScaledTheorem.{scaled_exact}
 
 digits_are : (text : List ℕ) (n : ℕ) → list_all is_ascii_digit text ≡ true → 0 < length text → length text ≤ 9 → n ≡ number text → IsScaled 0 text (pos n)
@@ -20,6 +20,11 @@ digits_read : (text : List ℕ) (n : ℕ) → list_all is_ascii_digit text ≡ t
 digits_read text n all some few is =
     let exact = scaled_exact 0 text (pos n) in
     exact.1 (digits_are text n all some few is)
+
+pub nothing_read : (text : List ℕ) → length text ≡ 0 → None ≡ scaled 0 text
+unfolding scaled magnitude numeral
+nothing_read [] none = refl
+nothing_read (c ∷ text) none = absurd (omega (arith, none))
 
 all_of : (a b : Bool) → a ≡ true → b ≡ true → (a && b) ≡ true
 all_of true b first second = second

@@ -44,12 +44,15 @@ fn few_digits(text: &[u8]) -> Option<u32>
     }
 }
 
-/// A number without its decimals.
+/// A number without its decimals. Many fields are empty.
+#[inline(always)]
+#[tactic(auto, using(crate::proofs::Plain::nothing_read))]
 fn integer(text: &[u8]) -> Option<i64>
     ensures { result ≡ scaled 0 text.now }
 {
     match few_digits(text) {
         Some(n) => Some(i64::from(n)),
+        None if text.is_empty() => None,
         None => read_scaled(text, 0),
     }
 }

@@ -70,9 +70,9 @@ fn stamp_all(
     ensures items { IfOk result (λ all. all.items ≡ stamped at bytes.now) }
     ensures room { IfOk result (λ all. room ≤ vec_capacity all) }
 {
-    let mut all = Vec::with_capacity(alloc, room)?;
+    let mut all = Vec::with_capacity(alloc, room.max(bytes.len()))?;
     'bytes: for byte in bytes {
-        all.push((at, *byte))?;
+        all.push_reserved((at, *byte));
     }
     Ok(all)
 }

@@ -10,6 +10,9 @@ use gps_fixed::{Bytes, NoMemory, Stamp};
 use gps_report::Packet;
 use std::alloc::Global;
 
+/// Few packets are shorter; so there is room for all of a piece at once, mostly.
+const USUAL_PACKET: usize = 48;
+
 /// What a piece of bytes completes, and what a cutter keeps then.
 #[derive(Drop)]
 pub struct Cut {
@@ -37,7 +40,7 @@ fn packets_in(
     requires { bytes.now ≡ bytes_of (stream_of kept.now at bytes.now) }
     ensures { IfOk result (λ found. IsFound (stream_of kept.now at bytes.now) found.packets.items found.rest) }
 {
-    let mut packets = Vec::new(alloc);
+    let mut packets = Vec::with_capacity(alloc, bytes.len() / USUAL_PACKET)?;
     let mut place = 0usize;
     'packets: loop {
         match next_from(bytes, place) {
@@ -133,7 +136,7 @@ fn joined(alloc: Global, kept: &[(Stamp, u8)], piece: &[u8]) -> Result<Vec<u8>, 
 {
     let mut all = Vec::with_capacity(alloc, kept.len().saturating_add(piece.len()))?;
     'kept: for byte in kept {
-        all.push(byte.1)?;
+        all.push_reserved(byte.1);
     }
     all.extend_from_slice(piece)?;
     Ok(all)

@@ -170,10 +170,13 @@ fn the_thousandth_quiet_ends_a_reading(rt: HostRuntime) -> Result<(), Fail> {
 fn reads_a_real_file(rt: HostRuntime) -> Result<(), Fail> {
     let name = format!(in rt.alloc(); "/tmp/gps_outside_{}", process::id(rt.process()))?;
     let path = name.as_str();
-    let text = [b'x'; 1_300];
-    fs::write(&rt, path, text)?;
+    let mut text = Vec::new(rt.alloc());
+    for i in 0..70_000u32 {
+        text.push((i % 251) as u8)?;
+    }
+    fs::write(&rt, path, text.as_slice())?;
     let mut source = RealSource::of_file(File::open(&rt, path)?);
-    let (bytes, ending) = read_all(rt.alloc(), &mut source, 2_000)?;
+    let (bytes, ending) = read_all(rt.alloc(), &mut source, 80_000)?;
     fs::remove_file(&rt, path)?;
     assert_eq!(rt;
         (bytes.as_slice(), ending),

@@ -25,15 +25,6 @@ pub fn names_of_input(alloc: Global) -> Result<Names, NoMemory>
     }
 }
 
-/// The same buffer without its bytes.
-fn emptied(text: Bytes) -> Bytes
-    ensures { result ≡ [] }
-{
-    let mut items = text.into_vec();
-    items.clear();
-    Bytes::from_vec(items)
-}
-
 /// Adds a report's JSON object as a line.
 #[tactic(auto, using(crate::proofs::LineTexts::line_added))]
 fn push_object(out: &mut Bytes, names: &Names, body: Body) -> Result<(), NoMemory>
@@ -72,7 +63,7 @@ fn push_reports(out: &mut Bytes, names: &Names, bodies: Vec<Body>) -> Result<(),
 pub fn write_lines<K: Sink>(
     names: &Names,
     bodies: Vec<Body>,
-    text: Bytes,
+    mut text: Bytes,
     sink: &mut K,
 ) -> Result<Bytes, Fault>
     requires { names.now ≡ codes "stdin" ∷ [] }
@@ -80,7 +71,7 @@ pub fn write_lines<K: Sink>(
     ensures cause { WriteCause result (K.faults sink.old) (K.faults sink.new) }
     ensures faults_stay { K.faults sink.old ≤ K.faults sink.new }
 {
-    let mut text = emptied(text);
+    text.clear();
     match push_reports(&mut text, names, bodies) {
         Ok(()) => {}
         Err(NoMemory) => return Err(Fault::NoMemory),

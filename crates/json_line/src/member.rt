@@ -8,6 +8,14 @@ use crate::names::{Key, push_label};
 use gps_fixed::{Bytes, NoMemory, Stamp, push_decimal, push_iso, push_scaled};
 use gps_report::Name;
 
+/// A whole number. It stays a call, so that the code of each member is short.
+#[inline(never)]
+pub fn push_whole(out: &mut Bytes, value: u64) -> Result<(), NoMemory>
+    ensures { OnOk result (out.new ≡ out.old ++ decimal value) }
+{
+    push_decimal(out, value)
+}
+
 /// A text in quotes.
 #[tactic(auto, unfolding(crate::specs::Json::member, crate::specs::Json::quoted))]
 pub fn push_text(out: &mut Bytes, key: Key, text: &[u8]) -> Result<(), NoMemory>
@@ -52,7 +60,7 @@ pub fn push_number(out: &mut Bytes, key: Key, value: u64) -> Result<(), NoMemory
     ensures { OnOk result (out.new ≡ out.old ++ member key (decimal value)) }
 {
     push_label(out, key)?;
-    push_decimal(out, value)
+    push_whole(out, value)
 }
 
 #[tactic(auto, unfolding(crate::specs::Json::member))]
@@ -60,7 +68,7 @@ pub fn push_u32(out: &mut Bytes, key: Key, value: u32) -> Result<(), NoMemory>
     ensures { OnOk result (out.new ≡ out.old ++ member key (decimal value)) }
 {
     push_label(out, key)?;
-    push_decimal(out, u64::from(value))
+    push_whole(out, u64::from(value))
 }
 
 /// The whole seconds of a stamp.
@@ -69,7 +77,7 @@ pub fn push_seconds(out: &mut Bytes, key: Key, at: Stamp) -> Result<(), NoMemory
     ensures { OnOk result (out.new ≡ out.old ++ member key (seconds at)) }
 {
     push_label(out, key)?;
-    push_decimal(out, at.sec.unsigned_abs())
+    push_whole(out, at.sec.unsigned_abs())
 }
 
 /// A number, where there is one.
@@ -80,7 +88,7 @@ pub fn push_number_if(out: &mut Bytes, key: Key, value: Option<u32>) -> Result<(
     match value {
         Some(value) => {
             push_label(out, key)?;
-            push_decimal(out, u64::from(value))
+            push_whole(out, u64::from(value))
         }
         None => Ok(()),
     }
@@ -92,7 +100,7 @@ pub fn push_byte(out: &mut Bytes, key: Key, value: u8) -> Result<(), NoMemory>
     ensures { OnOk result (out.new ≡ out.old ++ member key (decimal value)) }
 {
     push_label(out, key)?;
-    push_decimal(out, u64::from(value))
+    push_whole(out, u64::from(value))
 }
 
 /// A small number, where there is one.
@@ -103,7 +111,7 @@ pub fn push_byte_if(out: &mut Bytes, key: Key, value: Option<u8>) -> Result<(), 
     match value {
         Some(value) => {
             push_label(out, key)?;
-            push_decimal(out, u64::from(value))
+            push_whole(out, u64::from(value))
         }
         None => Ok(()),
     }
@@ -116,7 +124,7 @@ fn push_sign_and_digits(out: &mut Bytes, value: i32) -> Result<(), NoMemory>
     if value < 0 {
         out.push(b'-')?;
     }
-    push_decimal(out, u64::from(value.unsigned_abs()))
+    push_whole(out, u64::from(value.unsigned_abs()))
 }
 
 /// A number with a sign, where there is one.

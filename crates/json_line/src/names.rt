@@ -147,6 +147,7 @@ pub fn push_head(out: &mut Bytes, class: Class) -> Result<(), NoMemory>
 }
 
 /// What stands before the value of a member: a comma, the name in quotes and a colon.
+#[inline(always)]
 pub fn push_label(out: &mut Bytes, key: Key) -> Result<(), NoMemory>
     ensures { OnOk result (out.new ≡ out.old ++ label_of key) }
 {

@@ -6,10 +6,10 @@ ghost use Rattle.json_line.specs.Names.{satellite_head};
 
 use crate::member::{
     push_byte_if, push_hundredths_if, push_number, push_number_if, push_signed_if, push_text,
-    push_time_if, push_truth,
+    push_time_if, push_truth, push_whole,
 };
 use crate::names::{Class, Key, push_head, push_label};
-use gps_fixed::{Bytes, NoMemory, push_decimal};
+use gps_fixed::{Bytes, NoMemory};
 use gps_report::{Satellite, Sky};
 
 #[tactic(auto, unfolding(crate::specs::Names::satellite_head))]
@@ -17,7 +17,7 @@ fn push_number_of_satellite(out: &mut Bytes, prn: u32) -> Result<(), NoMemory>
     ensures { OnOk result (out.new ≡ out.old ++ satellite_head ++ decimal prn) }
 {
     out.extend_from_slice(b"{\"PRN\":")?;
-    push_decimal(out, u64::from(prn))
+    push_whole(out, u64::from(prn))
 }
 
 #[tactic(auto, unfolding(crate::specs::Lines::gnss_members))]

@@ -6,7 +6,7 @@ use Rattle.gps_outside.specs.Counts.{Rose}
 use Rattle.gps_outside.specs.Told.{Stream, Goes, Stays, Passes, IsAtEnd, MayLose}
 use Rattle.gps_outside.specs.declared.intake.IntakeStep.TheVariants.{Piece, Quiet, Last, End, Failed, TooQuiet}
 use Rattle.gps_outside.specs.declared.whole.Ending.TheVariants.{AtEnd, Full, Failed as EndsFailed, TooQuiet as EndsTooQuiet}
-use Rattle.gps_outside.specs.Turns.{Budget, FitsRoom, Spends, Hands, HasTaken, PassesMore, TakesAll, TakesSome, TakesFirst, ReadsToEnd}
+use Rattle.gps_outside.specs.Turns.{Budget, FitsRoom, Spends, Hands, HasTaken, PassesMore, TakesAll, TakesSome, ReadsToEnd}
 use Rattle.gps_outside.proofs.Going.{goes_as, goes_on}
 
 -- of a piece that is longer than the room, more than the room's part passes
@@ -117,19 +117,3 @@ ends_too_quiet limit bytes buf b before now after quiets quiets' taken handed = 
   let h = taken.room in omega arith,
   goes_on (Passes bytes) Stays (Passes bytes) before now after (λ x y z p q. subst (Passes bytes x) q p) taken.passed handed,
 )
-
--- where a reading is given up, its bytes are the first of those that were taken
-pub first_of_piece : (bytes : List ℕ) (before after : Option Stream) → Goes (Passes bytes) before after → Goes (TakesFirst bytes) before after
-first_of_piece bytes before after passed =
-    goes_as (Passes bytes) (TakesFirst bytes) before after
-    (λ x y p. record { next = (y.left, p.next); joins = ([], p.joins ∙ sym (append-nil (x.taken ++ bytes))) })
-    passed
-
-pub first_of_last : (bytes : List ℕ) (before after : Option Stream) → Goes (PassesMore bytes) before after → Goes (TakesFirst bytes) before after
-first_of_last bytes before after passed =
-    goes_as (PassesMore bytes) (TakesFirst bytes) before after
-    (λ x y p. record {
-      next = (p.0 ++ y.left, p.1.1.next ∙ append_assoc bytes p.0 y.left);
-      joins = (p.0, p.1.1.joins ∙ sym (append_assoc x.taken bytes p.0));
-    })
-    passed

@@ -73,11 +73,6 @@ pub record TakesSome (bytes : List ℕ) (before after : Stream) : Type 0 where
   pub next : IsPrefix bytes before.left
   pub joins : after.taken ≡ before.taken ++ bytes
 
--- the bytes are the first of those that were taken, and what came behind them is not said
-pub record TakesFirst (bytes : List ℕ) (before after : Stream) : Type 0 where
-  pub next : IsPrefix bytes before.left
-  pub joins : IsPrefix (before.taken ++ bytes) after.taken
-
 -- what a reading's ending says of the content, for the bytes that it handed on
 abbrev pub ReadsToEnd : Ending → ℕ → List ℕ → Option Stream → Option Stream → Type 0
 ReadsToEnd AtEnd limit bytes before after = (length bytes ≤ limit) × Goes (TakesAll bytes) before after

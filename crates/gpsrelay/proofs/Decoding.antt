@@ -1,31 +1,31 @@
 -- The reading of `decode`, turn by turn, and how it ends.
-use Rattle.std.proofs.Common.{◌≡◌, ℕ, ◌≤◌, List, [], ◌∷◌, ◌++◌, length, take, map, Option, Some, None, Result, Ok, Err, refl, sym, ◌∙◌, ap, subst, append_assoc, arith}
+use Rattle.std.proofs.Common.{◌≡◌, ℕ, ◌≤◌, inl, inr, List, [], ◌∷◌, ◌++◌, length, take, Option, Some, None, Result, Ok, Err, refl, sym, ◌∙◌, ap, subst, arith}
 use Rattle.std.proofs.lemmas.List.{append-nil, map-append}
 use Rattle.std.proofs.lemmas.List.Concat.{flat_map-append}
 use Rattle.gps_fixed.specs.Moment.{Moment}
 use Rattle.gps_report.specs.declared.edge.Symbol.{Symbol}
 use Rattle.gps_report.specs.declared.report.Body.{Body}
-use Rattle.gps_outside.specs.Told.{Stream, Goes, Stays, Passes, IsAtEnd, Appends, AppendsPart}
+use Rattle.gps_outside.specs.Told.{Stream, Goes, Passes, Appends, AppendsPart}
 use Rattle.gps_outside.specs.Ticks.{Dial, Gives, GivesAll}
 use Rattle.gps_outside.specs.Counts.{Rose}
-use Rattle.gps_outside.specs.Turns.{Budget, FitsRoom, Spends, Hands, HasTaken, TakesFirst, TakesSome, PassesMore}
+use Rattle.gps_outside.specs.Turns.{Budget, FitsRoom, Spends, Hands, HasTaken, TakesAll, TakesSome, PassesMore}
 use Rattle.gps_outside.specs.declared.intake.IntakeStep.TheVariants.{Piece, Quiet, Last, End, Failed, TooQuiet}
 use Rattle.gps_outside.proofs.Going.{goes_as, goes_on}
 use Rattle.gps_outside.proofs.Dials.{gives_more}
 use Rattle.gps_outside.proofs.Writing.{appends_on, part_on, part_of, appends_none}
-use Rattle.gps_outside.proofs.Turns.{taken_none, taken_piece, taken_quiet, ends_at_end, ends_full, ends_failed, ends_too_quiet, first_of_piece, first_of_last}
+use Rattle.gps_outside.proofs.Turns.{taken_none, taken_piece, taken_quiet, ends_at_end, ends_full, ends_failed, ends_too_quiet}
 use Rattle.device_core.specs.Stream.{piece}
 use Rattle.device_core.specs.Reports.{reports_from, device_reports, device_close, Gains}
 use Rattle.device_core.specs.Standing.{Kept, StandsFor}
 use Rattle.device_core.proofs.Streams.{reports-append}
 use Rattle.gpsrelay.specs.declared.outcome.Outcome.{Outcome}
-use Rattle.gpsrelay.specs.declared.outcome.Outcome.TheVariants.{Done, ReadFault, WriteFault, Full, NoMemory}
+use Rattle.gpsrelay.specs.declared.outcome.Outcome.TheVariants.{Done, ReadFault, Full, NoMemory}
 use Rattle.gpsrelay.specs.declared.outcome.Fault.{Fault}
 use Rattle.gpsrelay.specs.declared.outcome.Fault.TheVariants.{Sink, NoMemory as NoMemoryFault}
 use Rattle.gpsrelay.specs.Outcomes.{outcome_of}
 use Rattle.gpsrelay.specs.Readings.{Reading, bytes_of, stamps_of, stream_of}
-use Rattle.gpsrelay.specs.Lines.{line_of, lines_of, lines_so_far, lines_to_end}
-use Rattle.gpsrelay.specs.Decode.{Decoded, HandsOn, Written}
+use Rattle.gpsrelay.specs.Lines.{line_of, lines_of, lines_so_far}
+use Rattle.gpsrelay.specs.Decode.{BrokeOff, Decoded, HandsOn, HasReadSoFar, Written}
 
 -- one reading more
 abbrev pub with_next : List Reading → Moment → List ℕ → List Reading
@@ -48,13 +48,6 @@ lines_join a b = flat_map-append line_of a b
 
 lines_next : (stream more : List Symbol) (out : List Body) → Gains stream more out → lines_so_far (stream ++ more) ≡ lines_so_far stream ++ lines_of out
 lines_next stream more out gains = ap lines_of gains ∙ lines_join (device_reports stream) out
-
--- a part of what begins a text is a part of the text
-part_longer : (a b : List ℕ) (before after : Option (List ℕ)) → Goes (AppendsPart a) before after → Goes (AppendsPart (a ++ b)) before after
-part_longer a b before after wrote =
-    goes_as (AppendsPart a) (AppendsPart (a ++ b)) before after
-    (λ x y p. (p.0, ((p.1.0.0 ++ b, ap (λ l. l ++ b) p.1.0.1 ∙ append_assoc p.0 p.1.0.0 b), p.1.1)))
-    wrote
 
 -- So far these readings were handed on, the device stands for their stream, and its lines were written.
 pub record UnderWay (history : ℕ) (budget : Budget) (kept : Kept) (source source' : Option Stream) (quiets quiets' : ℕ) (clock clock' : Option Dial) (sink sink' : Option (List ℕ)) : Type 0 where
@@ -129,37 +122,44 @@ after_quiet history buf budget budget' kept source now after quiets quiets' quie
 -- where a fault ends the writing: the lines that were due have the written part at their beginning
 broken_lines : (fault : Fault) (s more : List Symbol) (kept : Kept) (sink sink' sink'' : Option (List ℕ))
     → Goes (Appends (lines_so_far s)) sink sink' → HandsOn {X = List ℕ} (Err fault) s more kept sink' sink''
-    → Goes (AppendsPart (lines_to_end (s ++ more))) sink sink''
+    → Goes (AppendsPart (lines_so_far (s ++ more))) sink sink''
 broken_lines Sink s more kept sink sink' sink'' wrote h =
-    part_longer (lines_so_far (s ++ more)) (lines_of (device_close (s ++ more))) sink sink''
-    (subst (λ l. Goes (AppendsPart l) sink sink'') (sym (lines_next s more h.0 h.1.0))
-    (part_on (lines_so_far s) (lines_of h.0) sink sink' sink'' wrote h.1.1))
+    subst (λ l. Goes (AppendsPart l) sink sink'') (sym (lines_next s more h.0 h.1.0))
+    (part_on (lines_so_far s) (lines_of h.0) sink sink' sink'' wrote h.1.1)
 broken_lines NoMemoryFault s more kept sink sink' sink'' wrote h =
-    part_longer (lines_so_far (s ++ more)) (lines_of (device_close (s ++ more))) sink sink''
-    (subst (λ l. Goes (AppendsPart l) sink sink'') (sym (lines_next s more (reports_from s more) (reports-append [] s more)))
-    (part_of (lines_so_far s) (lines_of (reports_from s more)) sink sink'' (subst (λ k. Goes (Appends (lines_so_far s)) sink k) h wrote)))
+    subst (λ l. Goes (AppendsPart l) sink sink'') (sym (lines_next s more (reports_from s more) (reports-append [] s more)))
+    (part_of (lines_so_far s) (lines_of (reports_from s more)) sink sink'' (subst (λ k. Goes (Appends (lines_so_far s)) sink k) h wrote))
+
+broken_so_far : (fault : Fault) (history : ℕ) (readings : List Reading) (at : Moment) (bytes : List ℕ) (kept : Kept)
+    (source after : Option Stream) (sink sink' sink'' : Option (List ℕ))
+    → HasReadSoFar history (bytes_of readings ++ bytes) source after
+    → Goes (Appends (lines_so_far (stream_of readings))) sink sink'
+    → HandsOn {X = List ℕ} (Err fault) (stream_of readings) (piece at bytes) kept sink' sink''
+    → BrokeOff history (with_next readings at bytes) source after sink sink''
+broken_so_far fault history readings at bytes kept source after sink sink' sink'' read wrote h =
+    inl (
+      subst (λ b. HasReadSoFar history b source after) (sym (bytes_next readings at bytes)) read,
+      subst (λ t. Goes (AppendsPart (lines_so_far t)) sink sink'') (sym (stream_next readings at bytes))
+          (broken_lines fault (stream_of readings) (piece at bytes) kept sink sink' sink'' wrote h),
+    )
 
 -- a command that was broken off by a fault, with the readings up to it
 broken_off : (fault : Fault) (history : ℕ) (readings : List Reading) (at : Moment) (bytes : List ℕ) (kept : Kept)
     (source after : Option Stream) (clock clock' clock'' : Option Dial) (sink sink' sink'' : Option (List ℕ))
-    → length (bytes_of readings ++ bytes) ≤ history → Goes (TakesFirst (bytes_of readings ++ bytes)) source after
+    → HasReadSoFar history (bytes_of readings ++ bytes) source after
     → Goes (GivesAll (stamps_of readings)) clock clock' → Goes (Gives at) clock' clock''
     → Goes (Appends (lines_so_far (stream_of readings))) sink sink'
     → HandsOn {X = List ℕ} (Err fault) (stream_of readings) (piece at bytes) kept sink' sink''
     → Decoded (outcome_of fault) history source after clock clock'' sink sink''
-broken_off Sink history readings at bytes kept source after clock clock' clock'' sink sink' sink'' short first all given wrote h = record {
+broken_off Sink history readings at bytes kept source after clock clock' clock'' sink sink' sink'' read all given wrote h = record {
   readings = with_next readings at bytes;
-  read = subst (λ b. (length b ≤ history) × Goes (TakesFirst b) source after) (sym (bytes_next readings at bytes)) (short, first);
   stamps = stamps_on readings at bytes clock clock' clock'' all given;
-  wrote = subst (λ t. Goes (AppendsPart (lines_to_end t)) sink sink'') (sym (stream_next readings at bytes))
-      (broken_lines Sink (stream_of readings) (piece at bytes) kept sink sink' sink'' wrote h);
+  ends = broken_so_far Sink history readings at bytes kept source after sink sink' sink'' read wrote h;
 }
-broken_off NoMemoryFault history readings at bytes kept source after clock clock' clock'' sink sink' sink'' short first all given wrote h = record {
+broken_off NoMemoryFault history readings at bytes kept source after clock clock' clock'' sink sink' sink'' read all given wrote h = record {
   readings = with_next readings at bytes;
-  read = subst (λ b. (length b ≤ history) × Goes (TakesFirst b) source after) (sym (bytes_next readings at bytes)) (short, first);
   stamps = stamps_on readings at bytes clock clock' clock'' all given;
-  wrote = subst (λ t. Goes (AppendsPart (lines_to_end t)) sink sink'') (sym (stream_next readings at bytes))
-      (broken_lines NoMemoryFault (stream_of readings) (piece at bytes) kept sink sink' sink'' wrote h);
+  ends = broken_so_far NoMemoryFault history readings at bytes kept source after sink sink' sink'' read wrote h;
 }
 
 pub broken_in_piece : (n history : ℕ) (buf : List ℕ) (budget budget' : Budget) (kept kept' : Kept) (at : Moment) (fault : Fault)
@@ -174,8 +174,7 @@ broken_in_piece n history buf budget budget' kept kept' at fault source now afte
     let all : HasTaken history (bytes_of u.readings ++ take n buf) budget' source after quiets quiets'' =
     taken_piece n history (bytes_of u.readings) buf budget budget' source now after quiets quiets' quiets'' u.taken fits spent handed more in
     subst (λ o. Decoded o history source after clock clock'' sink sink'') (sym is) (broken_off fault history u.readings at (take n buf) kept' source after clock clock' clock'' sink sink' sink''
-    (let r = all.room in omega arith)
-    (first_of_piece (bytes_of u.readings ++ take n buf) source after all.passed)
+    (inl (let r = all.room in omega arith, all.passed))
     u.stamps given u.wrote (lines (stream_of u.readings) u.stands))
 
 pub broken_in_last : (n history : ℕ) (buf : List ℕ) (budget budget' : Budget) (kept kept' : Kept) (at : Moment) (fault : Fault)
@@ -190,8 +189,7 @@ broken_in_last n history buf budget budget' kept kept' at fault source now after
     let all : (length (bytes_of u.readings ++ take n buf) ≡ history) × Goes (PassesMore (bytes_of u.readings ++ take n buf)) source after =
     ends_full n history (bytes_of u.readings) buf budget budget' source now after quiets quiets' u.taken fits spent handed in
     subst (λ o. Decoded o history source after clock clock'' sink sink'') (sym is) (broken_off fault history u.readings at (take n buf) kept' source after clock clock' clock'' sink sink' sink''
-    (let r = all.0 in omega arith)
-    (first_of_last (bytes_of u.readings ++ take n buf) source after all.1)
+    (inr all)
     u.stamps given u.wrote (lines (stream_of u.readings) u.stands))
 
 pub filled : (n history : ℕ) (buf : List ℕ) (budget budget' : Budget) (kept kept' : Kept) (at : Moment) (text : List ℕ)
@@ -204,14 +202,20 @@ pub filled : (n history : ℕ) (buf : List ℕ) (budget budget' : Budget) (kept 
 filled n history buf budget budget' kept kept' at text source now after quiets quiets' clock clock' clock'' sink sink' sink'' u fits spent handed given lines =
     let s : List Symbol = stream_of u.readings in
     let h : HandsOn {X = List ℕ} (Ok text) s (piece at (take n buf)) kept' sink' sink'' = lines s u.stands in
+    let next : List Reading = with_next u.readings at (take n buf) in
+    let read : (length (bytes_of next) ≡ history) × Goes (PassesMore (bytes_of next)) source after =
+    subst (λ b. (length b ≡ history) × Goes (PassesMore b) source after) (sym (bytes_next u.readings at (take n buf)))
+    (ends_full n history (bytes_of u.readings) buf budget budget' source now after quiets quiets' u.taken fits spent handed) in
     record {
-      readings = with_next u.readings at (take n buf);
-      read = subst (λ b. (length b ≡ history) × Goes (PassesMore b) source after) (sym (bytes_next u.readings at (take n buf)))
-          (ends_full n history (bytes_of u.readings) buf budget budget' source now after quiets quiets' u.taken fits spent handed);
+      readings = next;
       stamps = stamps_on u.readings at (take n buf) clock clock' clock'' u.stamps given;
-      wrote = subst (λ t. Goes (Appends (lines_so_far t)) sink sink'') (sym (stream_next u.readings at (take n buf)))
-          (subst (λ l. Goes (Appends l) sink sink'') (sym (lines_next s (piece at (take n buf)) h.1.0 h.1.1.0))
-          (appends_on (lines_so_far s) (lines_of h.1.0) sink sink' sink'' u.wrote h.1.1.1));
+      ends = (
+        read.0,
+        read.1,
+        subst (λ t. Goes (Appends (lines_so_far t)) sink sink'') (sym (stream_next u.readings at (take n buf)))
+            (subst (λ l. Goes (Appends l) sink sink'') (sym (lines_next s (piece at (take n buf)) h.1.0 h.1.1.0))
+            (appends_on (lines_so_far s) (lines_of h.1.0) sink sink' sink'' u.wrote h.1.1.1)),
+      );
     }
 
 pub ended : (history : ℕ) (buf : List ℕ) (budget : Budget) (kept : Kept) (text : List ℕ)
@@ -220,18 +224,19 @@ pub ended : (history : ℕ) (buf : List ℕ) (budget : Budget) (kept : Kept) (te
     → Hands End buf now after
     → ((stream : List Symbol) → StandsFor kept stream → Written {X = List ℕ} (Ok text) (lines_of (device_close stream)) sink' sink'')
     → Decoded Done history source after clock clock' sink sink''
-ended history buf budget kept text source now after quiets quiets' clock clock' sink sink' sink'' u handed lines = record {
-  readings = u.readings;
-  read = ends_at_end history (bytes_of u.readings) buf budget source now after quiets quiets' u.taken handed;
-  stamps = u.stamps;
-  wrote = appends_on (lines_so_far (stream_of u.readings)) (lines_of (device_close (stream_of u.readings))) sink sink' sink'' u.wrote
-      (lines (stream_of u.readings) u.stands);
-}
-
-still_passed : (bytes : List ℕ) (source now after : Option Stream) → Goes (Passes bytes) source now → Goes IsAtEnd now after → Goes (TakesFirst bytes) source after
-still_passed bytes source now after passed at_end =
-    first_of_piece bytes source after
-    (goes_on (Passes bytes) IsAtEnd (Passes bytes) source now after (λ x y z p q. subst (Passes bytes x) q.same p) passed at_end)
+ended history buf budget kept text source now after quiets quiets' clock clock' sink sink' sink'' u handed lines =
+    let read : (length (bytes_of u.readings) ≤ history) × Goes (TakesAll (bytes_of u.readings)) source after =
+    ends_at_end history (bytes_of u.readings) buf budget source now after quiets quiets' u.taken handed in
+    record {
+      readings = u.readings;
+      stamps = u.stamps;
+      ends = (
+        read.0,
+        read.1,
+        appends_on (lines_so_far (stream_of u.readings)) (lines_of (device_close (stream_of u.readings))) sink sink' sink'' u.wrote
+            (lines (stream_of u.readings) u.stands),
+      );
+    }
 
 at_end_broken : (history : ℕ) (buf : List ℕ) (budget : Budget) (kept : Kept) (fault : Fault)
     (source now after : Option Stream) (quiets quiets' : ℕ) (clock clock' : Option Dial) (sink sink' sink'' : Option (List ℕ))
@@ -239,20 +244,32 @@ at_end_broken : (history : ℕ) (buf : List ℕ) (budget : Budget) (kept : Kept)
     → Hands End buf now after
     → ((stream : List Symbol) → StandsFor kept stream → Written {X = List ℕ} (Err fault) (lines_of (device_close stream)) sink' sink'')
     → Decoded (outcome_of fault) history source after clock clock' sink sink''
-at_end_broken history buf budget kept Sink source now after quiets quiets' clock clock' sink sink' sink'' u handed lines = record {
-  readings = u.readings;
-  read = (let r = u.taken.room in omega arith, still_passed (bytes_of u.readings) source now after u.taken.passed handed);
-  stamps = u.stamps;
-  wrote = part_on (lines_so_far (stream_of u.readings)) (lines_of (device_close (stream_of u.readings))) sink sink' sink'' u.wrote
-      (lines (stream_of u.readings) u.stands);
-}
-at_end_broken history buf budget kept NoMemoryFault source now after quiets quiets' clock clock' sink sink' sink'' u handed lines = record {
-  readings = u.readings;
-  read = (let r = u.taken.room in omega arith, still_passed (bytes_of u.readings) source now after u.taken.passed handed);
-  stamps = u.stamps;
-  wrote = part_of (lines_so_far (stream_of u.readings)) (lines_of (device_close (stream_of u.readings))) sink sink''
-      (subst (λ k. Goes (Appends (lines_so_far (stream_of u.readings))) sink k) (lines (stream_of u.readings) u.stands) u.wrote);
-}
+at_end_broken history buf budget kept Sink source now after quiets quiets' clock clock' sink sink' sink'' u handed lines =
+    let read : (length (bytes_of u.readings) ≤ history) × Goes (TakesAll (bytes_of u.readings)) source after =
+    ends_at_end history (bytes_of u.readings) buf budget source now after quiets quiets' u.taken handed in
+    record {
+      readings = u.readings;
+      stamps = u.stamps;
+      ends = inr (
+        read.0,
+        read.1,
+        part_on (lines_so_far (stream_of u.readings)) (lines_of (device_close (stream_of u.readings))) sink sink' sink'' u.wrote
+            (lines (stream_of u.readings) u.stands),
+      );
+    }
+at_end_broken history buf budget kept NoMemoryFault source now after quiets quiets' clock clock' sink sink' sink'' u handed lines =
+    let read : (length (bytes_of u.readings) ≤ history) × Goes (TakesAll (bytes_of u.readings)) source after =
+    ends_at_end history (bytes_of u.readings) buf budget source now after quiets quiets' u.taken handed in
+    record {
+      readings = u.readings;
+      stamps = u.stamps;
+      ends = inr (
+        read.0,
+        read.1,
+        part_of (lines_so_far (stream_of u.readings)) (lines_of (device_close (stream_of u.readings))) sink sink''
+            (subst (λ k. Goes (Appends (lines_so_far (stream_of u.readings))) sink k) (lines (stream_of u.readings) u.stands) u.wrote),
+      );
+    }
 
 pub broken_at_end : (history : ℕ) (buf : List ℕ) (budget : Budget) (kept : Kept) (fault : Fault)
     (source now after : Option Stream) (quiets quiets' : ℕ) (clock clock' : Option Dial) (sink sink' sink'' : Option (List ℕ))
@@ -270,12 +287,10 @@ pub failed : (history : ℕ) (buf : List ℕ) (budget : Budget) (kept : Kept)
     → UnderWay history budget kept source now quiets quiets' clock clock' sink sink'
     → Hands Failed buf now after
     → Decoded ReadFault history source after clock clock' sink sink'
-failed history buf budget kept source now after quiets quiets' clock clock' sink sink' u handed = record {
-  readings = u.readings;
-  read = ends_failed history (bytes_of u.readings) buf budget source now after quiets quiets' u.taken handed;
-  stamps = u.stamps;
-  wrote = u.wrote;
-}
+failed history buf budget kept source now after quiets quiets' clock clock' sink sink' u handed =
+    let read : (length (bytes_of u.readings) ≤ history) × Goes (TakesSome (bytes_of u.readings)) source after =
+    ends_failed history (bytes_of u.readings) buf budget source now after quiets quiets' u.taken handed in
+    record { readings = u.readings; stamps = u.stamps; ends = (read.0, read.1, u.wrote) }
 
 pub too_quiet : (history : ℕ) (buf : List ℕ) (budget : Budget) (kept : Kept)
     (source now after : Option Stream) (quiets quiets' : ℕ) (clock clock' : Option Dial) (sink sink' : Option (List ℕ))
@@ -287,13 +302,13 @@ too_quiet history buf budget kept source now after quiets quiets' clock clock' s
     ends_too_quiet history (bytes_of u.readings) buf budget source now after quiets quiets' u.taken handed in
     record {
       readings = u.readings;
-      read = (
+      stamps = u.stamps;
+      ends = (
         all.0,
         goes_as (Passes (bytes_of u.readings)) (TakesSome (bytes_of u.readings)) source after
             (λ x y p. record { next = (y.left, p.next); joins = p.joins }) all.1,
+        u.wrote,
       );
-      stamps = u.stamps;
-      wrote = u.wrote;
     }
 
 passes_none : (source : Option Stream) → Goes (Passes []) source source
@@ -305,9 +320,12 @@ pub nothing_done : (history : ℕ) (source : Option Stream) (clock : Option Dial
     → Decoded NoMemory history source source clock clock sink sink
 nothing_done history source clock sink = record {
   readings = [];
-  read = (omega arith, first_of_piece [] source source (passes_none source));
   stamps = no_stamps clock;
-  wrote = part_of (lines_so_far []) (lines_of (device_close [])) sink sink (subst (λ l. Goes (Appends l) sink sink) (sym no_lines) (appends_none sink));
+  ends = inl (
+    inl (omega arith, passes_none source),
+    subst (λ l. Goes (AppendsPart l) sink sink) (append-nil (lines_so_far []))
+        (part_of (lines_so_far []) [] sink sink (subst (λ l. Goes (Appends l) sink sink) (sym no_lines) (appends_none sink))),
+  );
 }
 
 -- what the device gained was written

@@ -1,5 +1,5 @@
 -- The line of a report of the one device.
-use Rattle.std.proofs.Common.{◌≡◌, ℕ, List, [], ◌∷◌, ◌++◌, codes, refl, sym, ◌∙◌, ap}
+use Rattle.std.proofs.Common.{◌≡◌, ℕ, List, [], ◌∷◌, ◌++◌, codes, ◌∙◌, ap}
 use Rattle.gps_report.specs.declared.policy.Form.TheVariants.{Json}
 use Rattle.gps_report.specs.declared.report.Body.{Body}
 use Rattle.json_line.specs.Lines.{name_of, text, text_of}

@@ -1,5 +1,5 @@
 -- What the status of a command says of its outcome.
-use Rattle.std.proofs.Common.{◌≡◌, ℕ, ◌+◌, ◌<◌, ◌≤◌, List, ◌++◌, length, Option, Some, None, ◌⊎◌, inl, inr, refl, ◌∙◌, ap, length-append, arith}
+use Rattle.std.proofs.Common.{◌≡◌, ℕ, ◌+◌, ◌<◌, List, ◌++◌, length, Option, Some, None, ◌⊎◌, inl, inr, refl, ◌∙◌, ap, length-append, arith}
 use Rattle.gps_outside.specs.Counts.{Rose, RoseBy}
 use Rattle.gps_outside.specs.Told.{Stream, Goes}
 use Rattle.gps_outside.specs.Ticks.{Dial}
@@ -55,5 +55,5 @@ completes ReadFault history source source' clock clock' sink sink' faults faults
 completes ReadFault history source source' clock clock' sink sink' faults faults' quiets quiets' sunk sunk' done (inr rose) within sound lively unbroken = absurd (lively rose)
 completes WriteFault history source source' clock clock' sink sink' faults faults' quiets quiets' sunk sunk' done cause within sound lively unbroken = absurd (unbroken cause)
 completes Full history source source' clock clock' sink sink' faults faults' quiets quiets' sunk sunk' done cause within sound lively unbroken =
-    absurd (no_more history (bytes_of done.readings) source source' within done.read.0 done.read.1)
+    absurd (no_more history (bytes_of done.readings) source source' within done.ends.0 done.ends.1)
 completes NoMemory history source source' clock clock' sink sink' faults faults' quiets quiets' sunk sunk' done cause within sound lively unbroken = inr refl

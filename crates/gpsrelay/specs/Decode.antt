@@ -1,12 +1,12 @@
 -- What `decode` promises of the bytes that it reads, of the stamps that it asks for, and of the bytes that it writes. This project's own.
-use Rattle.std.specs.Prelude.{◌≡◌, ℕ, ◌≤◌, List, ◌++◌, length, Option, Some, None, Result, Ok, Err}
+use Rattle.std.specs.Prelude.{◌≡◌, ℕ, ◌≤◌, ◌⊎◌, List, ◌++◌, length, Option, Some, None, Result, Ok, Err}
 use Rattle.gps_report.specs.declared.edge.Symbol.{Symbol}
 use Rattle.gps_report.specs.declared.report.Body.{Body}
 use Rattle.gps_outside.specs.Counts.{Rose}
-use Rattle.gps_outside.specs.Told.{Stream, Goes, Stays, Appends, AppendsPart}
+use Rattle.gps_outside.specs.Told.{Stream, Goes, Passes, Appends, AppendsPart}
 use Rattle.gps_outside.specs.Ticks.{Dial, GivesAll}
-use Rattle.gps_outside.specs.Turns.{PassesMore, TakesAll, TakesFirst, TakesSome}
-use Rattle.device_core.specs.Reports.{device_close, Gains}
+use Rattle.gps_outside.specs.Turns.{PassesMore, TakesAll, TakesSome}
+use Rattle.device_core.specs.Reports.{Gains}
 use Rattle.device_core.specs.Standing.{Kept, StandsFor}
 use Rattle.gpsrelay.specs.declared.outcome.Outcome.{Outcome}
 use Rattle.gpsrelay.specs.declared.outcome.Outcome.TheVariants.{Done, ReadFault, WriteFault, Full, NoMemory}
@@ -15,31 +15,37 @@ use Rattle.gpsrelay.specs.declared.outcome.Fault.TheVariants.{Sink, NoMemory as 
 use Rattle.gpsrelay.specs.Readings.{Reading, bytes_of, stamps_of, stream_of}
 use Rattle.gpsrelay.specs.Lines.{lines_of, lines_so_far, lines_to_end}
 
--- How many bytes were read, and which of the source's: all that was left; those before a fault; those before one more than the history
--- allows; or those before the command gave up.
-abbrev pub HasRead : Outcome → ℕ → List ℕ → Option Stream → Option Stream → Type 0
-HasRead Done history bytes before after = (length bytes ≤ history) × Goes (TakesAll bytes) before after
-HasRead ReadFault history bytes before after = (length bytes ≤ history) × Goes (TakesSome bytes) before after
-HasRead WriteFault history bytes before after = (length bytes ≤ history) × Goes (TakesFirst bytes) before after
-HasRead Full history bytes before after = (length bytes ≡ history) × Goes (PassesMore bytes) before after
-HasRead NoMemory history bytes before after = (length bytes ≤ history) × Goes (TakesFirst bytes) before after
+-- Where a command breaks off in mid-source, all bytes that it took were read: none more than the history allows, or as many as it allows where
+-- more came.
+abbrev pub HasReadSoFar : ℕ → List ℕ → Option Stream → Option Stream → Type 0
+HasReadSoFar history bytes before after =
+    ((length bytes ≤ history) × Goes (Passes bytes) before after) ⊎ ((length bytes ≡ history) × Goes (PassesMore bytes) before after)
 
--- What was written for the stream of what was read: at the input's end all its lines; at a fault of the source, or where the history is full,
--- the lines so far; else a part of the lines from their beginning.
-abbrev pub HasWritten : Outcome → List Symbol → Option (List ℕ) → Option (List ℕ) → Type 0
-HasWritten Done stream before after = Goes (Appends (lines_to_end stream)) before after
-HasWritten ReadFault stream before after = Goes (Appends (lines_so_far stream)) before after
-HasWritten WriteFault stream before after = Goes (AppendsPart (lines_to_end stream)) before after
-HasWritten Full stream before after = Goes (Appends (lines_so_far stream)) before after
-HasWritten NoMemory stream before after = Goes (AppendsPart (lines_to_end stream)) before after
+-- Of the lines that were due a part was written, from their beginning: of the lines so far in mid-source, and of all lines at the source's end.
+abbrev pub BrokeOff : ℕ → List Reading → Option Stream → Option Stream → Option (List ℕ) → Option (List ℕ) → Type 0
+BrokeOff history readings source source' sink sink' =
+    (HasReadSoFar history (bytes_of readings) source source' × Goes (AppendsPart (lines_so_far (stream_of readings))) sink sink')
+    ⊎ ((length (bytes_of readings) ≤ history) × Goes (TakesAll (bytes_of readings)) source source'
+    × Goes (AppendsPart (lines_to_end (stream_of readings))) sink sink')
+
+-- Which bytes were read, and what was written for their stream: all that was left, and all its lines; those before a fault, or before one more
+-- than the history allows, and the lines so far; or those before the command broke off, and a part of the lines due.
+abbrev pub Ends : Outcome → ℕ → List Reading → Option Stream → Option Stream → Option (List ℕ) → Option (List ℕ) → Type 0
+Ends Done history readings source source' sink sink' =
+    (length (bytes_of readings) ≤ history) × Goes (TakesAll (bytes_of readings)) source source' × Goes (Appends (lines_to_end (stream_of readings))) sink sink'
+Ends ReadFault history readings source source' sink sink' =
+    (length (bytes_of readings) ≤ history) × Goes (TakesSome (bytes_of readings)) source source' × Goes (Appends (lines_so_far (stream_of readings))) sink sink'
+Ends WriteFault history readings source source' sink sink' = BrokeOff history readings source source' sink sink'
+Ends Full history readings source source' sink sink' =
+    (length (bytes_of readings) ≡ history) × Goes (PassesMore (bytes_of readings)) source source' × Goes (Appends (lines_so_far (stream_of readings))) sink sink'
+Ends NoMemory history readings source source' sink sink' = BrokeOff history readings source source' sink sink'
 
 -- There are readings such that their bytes were read, the clock gave their stamps in order, and the lines of their stream were written. Of an
 -- object of the outside that does not tell its content nothing is said here: then the readings may be any.
 pub record Decoded (outcome : Outcome) (history : ℕ) (source source' : Option Stream) (clock clock' : Option Dial) (sink sink' : Option (List ℕ)) : Type 0 where
   pub readings : List Reading
-  pub read : HasRead outcome history (bytes_of readings) source source'
   pub stamps : Goes (GivesAll (stamps_of readings)) clock clock'
-  pub wrote : HasWritten outcome (stream_of readings) sink sink'
+  pub ends : Ends outcome history readings source source' sink sink'
 
 -- the source tells that no more is left than the history allows
 abbrev pub IsWithin : ℕ → Option Stream → Type 0

@@ -1,5 +1,6 @@
 -- What the words ask for, without the program's name: the first chooses the command, which reads them all.
--- No answer where the first is no command or is missing, where clap finds a fault, or where a number is none.
+-- No answer where the first is no command or is missing, where clap finds a fault, or where a number is none. This
+-- project's own.
 use Rattle.std.specs.Prelude.{List, [], ◌∷◌, Option, None, codes, if◌then◌else◌}
 use Rattle.std.specs.Str.{bytes_eq}
 use Rattle.clap.specs.Walk.{Text}

@@ -1,6 +1,6 @@
 mod Runs
 mod Lists
 mod Tails
-mod Theorem
+pub mod Theorem
 mod Body
 pub mod Stable

@@ -1,4 +1,5 @@
--- The next packet of a list of bytes from a place on, or where the rest begins: what the search from place to place answers.
+-- The next packet of a list of bytes from a place on, or where the rest begins: what the search from place to place answers. This
+-- project's own.
 use Rattle.std.specs.Prelude.{◌≡◌, ℕ, ◌+◌, ◌<◌, ◌≤◌, List, length, drop}
 use Rattle.packet_cut.specs.declared.head.Head.TheVariants.{Packet, Pending, Junk}
 use Rattle.packet_cut.specs.declared.found.Found.{Found}

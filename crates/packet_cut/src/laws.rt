@@ -1,9 +1,23 @@
 //! The laws of packets, as contracts of functions that do nothing.
 
-ghost use Rattle.std.specs.Prelude.{◌≡◌, ◌≤◌, ◌-◌, ◌*◌, ℕ, List, ◌++◌, length, map};
+ghost use Rattle.std.specs.Prelude.{◌≡◌, ◌≤◌, ◌↔◌, ◌⊎◌, ◌-◌, ◌*◌, ℕ, true, List, ◌++◌, length, take, map};
+ghost use Rattle.std.specs.List.{list_all};
+ghost use Rattle.nmea_frame.specs.Sentence.{IsSentence, IsProperPrefix as BeginsSentence};
+ghost use Rattle.ubx_frame.specs.Frame.{IsFrame, is_byte, IsProperPrefix as BeginsFrame};
 ghost use Rattle.gps_report.specs.declared.packet.Packet.{Packet};
 ghost use Rattle.packet_cut.specs.declared.found.Found.{Found};
+ghost use Rattle.packet_cut.specs.Heads.{head_of};
 ghost use Rattle.packet_cut.specs.Packets.{Stamped, bytes_of, packets_of, rest_of, found_of, moved, rest_of_bytes, found_packet};
+
+use crate::Head;
+use gps_report::PacketKind;
+
+/// What a list of bytes begins with goes by the sets of sentences and frames, and of their beginnings.
+pub fn heads_go_by_the_sets()
+    ensures sentence { (bytes : List ℕ) (n : ℕ) → (head_of bytes ≡ Head.Packet PacketKind.Nmea n) ↔ ((n ≤ length bytes) × IsSentence (take n bytes)) }
+    ensures frame { (bytes : List ℕ) → list_all is_byte bytes ≡ true → (n : ℕ) → (head_of bytes ≡ Head.Packet PacketKind.Ubx n) ↔ ((n ≤ length bytes) × IsFrame (take n bytes)) }
+    ensures pending { (bytes : List ℕ) → list_all is_byte bytes ≡ true → (head_of bytes ≡ Head.Pending) ↔ (BeginsSentence bytes ⊎ BeginsFrame bytes) }
+{}
 
 /// More bytes take no packet away and change none.
 pub fn packets_are_a_beginning()

@@ -21,6 +21,6 @@ pub use cutter::Cutter;
 pub use found::{Found, cut_all};
 pub use head::{Head, head_at};
 pub use laws::{
-    packets_are_a_beginning, packets_are_long, packets_go_on, rest_is_short,
+    heads_go_by_the_sets, packets_are_a_beginning, packets_are_long, packets_go_on, rest_is_short,
     stamps_change_no_packet,
 };

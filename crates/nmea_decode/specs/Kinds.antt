@@ -1,5 +1,5 @@
 -- The kind of a sentence, by its address: the last three letters name the kind, the first two the talker. NMEA 0183; systems are numbered
--- after u-blox's gnssId.
+-- after u-blox's gnssId. That the talker names the system of a GSV, the talker GB, and the values of a GSA's system id are this project's own.
 use Rattle.std.specs.Prelude.{ℕ, ◌==◌, Bool, ◌&&◌, not, List, drop, length, nat_le, slice_index, Option, Some, None, codes, if◌then◌else◌}
 use Rattle.std.specs.List.{list_all}
 use Rattle.std.specs.Str.{bytes_eq}

@@ -1,4 +1,5 @@
--- What each kind of sentence says, field by field. NMEA 0183.
+-- What each kind of sentence says, field by field. NMEA 0183; the place of a GSA's system id, and the system of a GSV's satellites, are this
+-- project's own.
 use Rattle.std.specs.Prelude.{ℕ, ◌&&◌, ◌==◌, nat_le, Bool, true, false, List, [], ◌∷◌, take, Option, Some, None, codes, if◌then◌else◌}
 use Rattle.std.specs.Option.{option_map}
 use Rattle.std.specs.Str.{bytes_eq}

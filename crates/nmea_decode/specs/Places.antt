@@ -1,4 +1,4 @@
--- Latitudes and longitudes: degrees, minutes and a fraction of them, and a letter. NMEA 0183.
+-- Latitudes and longitudes: degrees, minutes and a fraction of them, and a letter. NMEA 0183; the rounding to nanodegrees is this project's own.
 use Rattle.std.specs.Prelude.{ℕ, ◌+◌, ◌*◌, ◌/◌, ◌%◌, ◌^◌, Bool, true, false, ◌&&◌, List, nat_le, nat_lt, Option, Some, None, ℤ, pos, neg_ℤ, codes, if◌then◌else◌}
 use Rattle.std.specs.Option.{option_and_then}
 use Rattle.std.specs.Str.{bytes_eq}

@@ -1,5 +1,5 @@
--- How the text of one field is read, kind by kind. A text that is not of the form is no reading. NMEA 0183; which texts are readable is
--- this project's own.
+-- How the text of one field is read, kind by kind. A text that is not of the form is no reading. NMEA 0183; which texts are readable,
+-- second 60 as the second after 59, the rounding of speeds, and the years of two digits are this project's own.
 use Rattle.std.specs.Prelude.{ℕ, ◌+◌, ◌*◌, ◌/◌, ◌%◌, ◌^◌, ◌==◌, ◌≤ℤ◌, ◌&&◌, List, length, nat_le, nat_lt, Option, Some, None, ℤ, pos, negsuc, int_le, if◌then◌else◌}
 use Rattle.std.specs.Option.{option_map, option_and_then}
 use Rattle.gps_fixed.specs.Scaled.{scaled, digits_of}

@@ -1,5 +1,5 @@
 -- The satellites of a GSV, in groups of four fields, and the ids of a GSA. NMEA 0183; that one hexadecimal digit behind the groups is a
--- signal id is this project's own.
+-- signal id, and that the id that was sent is the number within the talker's system, are this project's own.
 use Rattle.std.specs.Prelude.{ℕ, zero, suc, ◌/◌, ◌%◌, ◌*◌, ◌==◌, List, [], ◌∷◌, ◌++◌, Option, None, false, if◌then◌else◌}
 use Rattle.std.specs.Option.{option_map, option_to_list}
 use Rattle.gps_report.specs.declared.satellite.Satellite.{Satellite}

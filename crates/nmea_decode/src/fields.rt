@@ -8,6 +8,9 @@ use std::simd::prelude::*;
 /// Fields are looked for in rows of so many bytes.
 const ROW: usize = 16;
 
+/// At a body's end, in rows of so many.
+const SHORT_ROW: usize = 8;
+
 /// The commas of a row, a bit for each byte.
 fn commas_of_row(row: u8x16) -> u64
     ensures { result ≡ mask_l (map is_comma row) }
@@ -28,6 +31,24 @@ fn place_in_row(row: u8x16) -> usize
     }
 }
 
+fn commas_of_short_row(row: u8x8) -> u64
+    ensures { result ≡ mask_l (map is_comma row) }
+{
+    row.simd_eq(u8x8::splat(b',')).to_bitmask()
+}
+
+fn place_in_short_row(row: u8x8) -> usize
+    ensures place { result ≡ position_or_len is_comma row }
+    ensures within { result ≤ 8 }
+{
+    let commas = commas_of_short_row(row);
+    if commas == 0 {
+        SHORT_ROW
+    } else {
+        commas.trailing_zeros() as usize
+    }
+}
+
 /// Where the first comma of a text stands. Mostly only its last bytes come here: out of line, so that the walks over fields stay short.
 #[inline(never)]
 fn place_by_bytes(text: &[u8]) -> usize
@@ -37,13 +58,30 @@ fn place_by_bytes(text: &[u8]) -> usize
     text.iter().take_while(|c| **c != b',').count()
 }
 
+/// The same in a text that is shorter than a row.
+#[inline(never)]
+fn place_in_short(text: &[u8]) -> usize
+    ensures place { result ≡ position_or_len is_comma text.now }
+    ensures within { result ≤ length text.now }
+{
+    if text.len() < SHORT_ROW {
+        return place_by_bytes(text);
+    }
+    let place = place_in_short_row(u8x8::from_slice(text));
+    if place < SHORT_ROW {
+        place
+    } else {
+        SHORT_ROW + place_by_bytes(&text[SHORT_ROW..])
+    }
+}
+
 /// The same. Fields are short, so mostly the comma is in the first row.
 fn comma_place(text: &[u8]) -> usize
     ensures place { result ≡ position_or_len is_comma text.now }
     ensures within { result ≤ length text.now }
 {
     if text.len() < ROW {
-        return place_by_bytes(text);
+        return place_in_short(text);
     }
     let place = place_in_row(u8x16::from_slice(text));
     if place < ROW {

@@ -16,7 +16,8 @@ use Rattle.epoch_core.specs.Epochs.{reports}
 use Rattle.epoch_core.specs.Kept.{Kept as KeptEpochs, StandsFor as NotesStand}
 use Rattle.epoch_core.specs.Steps.{kept_after, kept_caused}
 use Rattle.epoch_core.proofs.Told.{gained as note_gained, left_over}
-use Rattle.pps_edges.specs.Pulse.{StandsFor as EdgesStand, is_assert, last_assert, paired, pps_of}
+use Rattle.pps_edges.specs.Pulse.{StandsFor as EdgesStand, is_assert, paired, pps_of}
+use Rattle.pps_edges.proofs.Pasts.{goes_on}
 use Rattle.device_core.specs.Stream.{bytes_in, heard, notes_of, notes_in, packets_in}
 use Rattle.device_core.specs.Reports.{all_told, device_close, device_gain, device_reports, gained, last_toff, reports_from, told}
 use Rattle.device_core.specs.Standing.{Kept, StandsFor}
@@ -94,7 +95,6 @@ gained_is kept s (EdgeSymbol edge) stands =
     ∙ ap (λ t. option_to_list (option_map (λ pair. Pps pair) (cond (is_assert edge.kind) (paired edge kept.edge t) None))) (sym stands.toff)
 
 stands_byte : (kept : Kept) (s : List Symbol) (x : Symbol) → StandsFor kept s → StandsFor (after_of kept x) (s ++ x ∷ [])
-unfolding last_assert
 stands_byte kept s (Byte at b) stands =
     let packets = packets_of (kept.bytes ++ (at, b) ∷ []) in
     let all = packets_after s at (b ∷ []) kept.bytes packets stands.bytes refl in
@@ -111,7 +111,7 @@ stands_byte kept s (Byte at b) stands =
           ∙ ap (λ p. last_toff (reports (notes_of p))) all;
     }
 stands_byte kept s (EdgeSymbol edge) stands =
-    stands_edge kept edge (cond (is_assert edge.kind) (Some edge) kept.edge) (λ past e. ap (cond (is_assert edge.kind) (Some edge)) e) s stands
+    stands_edge kept edge (cond (is_assert edge.kind) (Some edge) kept.edge) (λ past e. ap (cond (is_assert edge.kind) (Some edge)) e ∙ sym (goes_on past edge)) s stands
 
 reports_decided : (t : List Symbol) (kept : Kept) (s r : List Symbol) → StandsFor kept s → StandsFor kept r → reports_from s t ≡ reports_from r t
 unfolding reports_from

@@ -1,6 +1,5 @@
 -- A device: what one call makes of what it keeps.
-use Rattle.std.proofs.Common.{◌≡◌, ℕ, refl, sym, ap, ◌∙◌, subst, List, [], ◌∷◌, ◌++◌, append-nil, reverse, Option, Some, None, true, false, option_map, option_to_list}
-use Rattle.std.proofs.lemmas.List.{reverse-append}
+use Rattle.std.proofs.Common.{◌≡◌, ℕ, refl, sym, ap, ◌∙◌, subst, List, [], ◌∷◌, ◌++◌, append-nil, Option, Some, None, true, false, option_map, option_to_list}
 use Rattle.gps_fixed.specs.Moment.{Moment}
 use Rattle.gps_report.specs.declared.edge.Edge.{Edge}
 use Rattle.gps_report.specs.declared.edge.Symbol.{Symbol}
@@ -53,8 +52,8 @@ stands_fed kept now next at bytes packets shift out cut took stream stands =
     }
 
 -- an edge
-edges_more : (stream : List Symbol) (edge : Edge) → edge ∷ reverse (edges_in stream) ≡ reverse (edges_in (stream ++ EdgeSymbol edge ∷ []))
-edges_more stream edge = sym (reverse-append (edges_in stream) (edge ∷ [])) ∙ ap reverse (sym (edges_join stream (EdgeSymbol edge ∷ [])))
+edges_more : (stream : List Symbol) (edge : Edge) → edges_in stream ++ edge ∷ [] ≡ edges_in (stream ++ EdgeSymbol edge ∷ [])
+edges_more stream edge = sym (edges_join stream (EdgeSymbol edge ∷ []))
 
 bytes_same : (stream : List Symbol) (edge : Edge) → bytes_in stream ≡ bytes_in (stream ++ EdgeSymbol edge ∷ [])
 bytes_same stream edge = sym (append-nil (bytes_in stream)) ∙ sym (bytes_join stream (EdgeSymbol edge ∷ []))
@@ -67,12 +66,12 @@ unfolding reports_from
 gains_edge kept edge pulse out paired made stream stands =
     let told : out ≡ pulse_of stream edge =
     made ∙ ap (λ p. option_to_list (option_map (λ pair. Pps pair) p))
-    (paired (reverse (edges_in stream)) stands.edges ∙ ap (λ t. pps_of (reverse (edges_in stream)) t edge) stands.toff) in
+    (paired (edges_in stream) stands.edges ∙ ap (λ t. pps_of (edges_in stream) t edge) stands.toff) in
     reports-append [] stream (EdgeSymbol edge ∷ [])
     ∙ ap (λ r. device_reports stream ++ r) (append-nil (pulse_of stream edge) ∙ sym told)
 
 pub stands_edge : (kept : Kept) (edge : Edge) (next : Option Edge)
-    → ((past : List Edge) → EdgesStand kept.edge past → EdgesStand next (edge ∷ past))
+    → ((past : List Edge) → EdgesStand kept.edge past → EdgesStand next (past ++ edge ∷ []))
     → (stream : List Symbol) → StandsFor kept stream
     → StandsFor (record { bytes = kept.bytes; epochs = kept.epochs; edge = next; toff = kept.toff }) (stream ++ EdgeSymbol edge ∷ [])
 stands_edge kept edge next goes stream stands =
@@ -82,7 +81,7 @@ stands_edge kept edge next goes stream stands =
     record {
       bytes = subst B (bytes_same stream edge) stands.bytes;
       notes = subst N (bytes_same stream edge) stands.notes;
-      edges = subst E (edges_more stream edge) (goes (reverse (edges_in stream)) stands.edges);
+      edges = subst E (edges_more stream edge) (goes (edges_in stream) stands.edges);
       toff = stands.toff ∙ ap (λ t. last_toff (reports (notes_of (packets_of t)))) (bytes_same stream edge);
     }
 

@@ -1,5 +1,5 @@
 -- The reports of a stream, and what a piece adds to them.
-use Rattle.std.proofs.Common.{◌≡◌, ℕ, refl, sym, ap, ◌∙◌, List, [], ◌∷◌, ◌++◌, length, drop, reverse, append_assoc, append-nil, Option, Some, None}
+use Rattle.std.proofs.Common.{◌≡◌, ℕ, refl, sym, ap, ◌∙◌, List, [], ◌∷◌, ◌++◌, length, drop, append_assoc, append-nil, Option, Some, None}
 use Rattle.std.proofs.Math.Seq.{drop-append_seam, drop-length}
 use Rattle.std.proofs.lemmas.List.Concat.{flat_map-append}
 use Rattle.std.specs.Option.{option_or}
@@ -100,8 +100,8 @@ packets_after s at bytes kept packets stands are =
 pub stream_after : (s : List Symbol) (at : Moment) (bytes : List ℕ) → bytes_in s ++ stamped at bytes ≡ bytes_in (s ++ piece at bytes)
 stream_after s at bytes = ap (λ t. bytes_in s ++ t) (sym (bytes_of_piece at bytes)) ∙ sym (bytes_join s (piece at bytes))
 
-pub edges_after : (s : List Symbol) (at : Moment) (bytes : List ℕ) → reverse (edges_in s) ≡ reverse (edges_in (s ++ piece at bytes))
-edges_after s at bytes = ap reverse (sym (append-nil (edges_in s)) ∙ ap (λ t. edges_in s ++ t) (sym (edges_of_piece at bytes)) ∙ sym (edges_join s (piece at bytes)))
+pub edges_after : (s : List Symbol) (at : Moment) (bytes : List ℕ) → edges_in s ≡ edges_in (s ++ piece at bytes)
+edges_after s at bytes = sym (append-nil (edges_in s)) ∙ ap (λ t. edges_in s ++ t) (sym (edges_of_piece at bytes)) ∙ sym (edges_join s (piece at bytes))
 
 or_assoc : {X : Type 0} (a b c : Option X) → option_or (option_or a b) c ≡ option_or a (option_or b c)
 or_assoc None b c = refl

@@ -1,6 +1,6 @@
 -- The reports of a device's stream, symbol by symbol: each packet that a byte completes and then what its note causes, and the pulse of each
 -- edge that marks a second. This project's own.
-use Rattle.std.specs.Prelude.{◌≡◌, List, [], ◌∷◌, ◌++◌, Option, Some, None, drop, length, reverse, option_map, option_to_list}
+use Rattle.std.specs.Prelude.{◌≡◌, List, [], ◌∷◌, ◌++◌, Option, Some, None, drop, length, option_map, option_to_list}
 use Rattle.std.specs.Option.{option_or}
 use Rattle.gps_report.specs.declared.edge.Edge.{Edge}
 use Rattle.gps_report.specs.declared.edge.Symbol.{Symbol}
@@ -39,7 +39,7 @@ all_told before (packet ∷ more) = told before packet ++ all_told (before ++ pa
 
 -- the pulse of an edge, by the edges and the last serial time before it
 abbrev pub pulse_of : List Symbol → Edge → List Body
-pulse_of before edge = option_to_list (option_map (λ pair. Pps pair) (pps_of (reverse (edges_in before)) (last_toff (reports (notes_in before))) edge))
+pulse_of before edge = option_to_list (option_map (λ pair. Pps pair) (pps_of (edges_in before) (last_toff (reports (notes_in before))) edge))
 
 -- what a symbol adds: the packets that the bytes up to it have and the bytes before it have not, or its pulse
 abbrev pub gained : List Symbol → Symbol → List Body

@@ -1,5 +1,5 @@
 -- What a device keeps, and for which streams it stands: those of which it keeps what later reports need. This project's own.
-use Rattle.std.specs.Prelude.{◌≡◌, List, Option, reverse}
+use Rattle.std.specs.Prelude.{◌≡◌, List, Option}
 use Rattle.gps_report.specs.declared.edge.Edge.{Edge}
 use Rattle.gps_report.specs.declared.edge.Symbol.{Symbol}
 use Rattle.gps_report.specs.declared.fix.Pair.{Pair}
@@ -26,5 +26,5 @@ pub record Held : Type 0 where
 pub record StandsFor (kept : Kept) (stream : List Symbol) : Type 0 where
   pub bytes : BytesStand kept.bytes (bytes_in stream)
   pub notes : NotesStand kept.epochs (notes_in stream)
-  pub edges : EdgesStand kept.edge (reverse (edges_in stream))
+  pub edges : EdgesStand kept.edge (edges_in stream)
   pub toff : kept.toff ≡ last_toff (reports (notes_in stream))

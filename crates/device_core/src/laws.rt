@@ -3,12 +3,17 @@
 ghost use Rattle.std.specs.Prelude.{◌≡◌, ◌++◌, List};
 ghost use Rattle.gps_report.specs.declared.edge.Symbol.{Symbol};
 ghost use Rattle.gps_report.specs.declared.report.Body.{Body};
-ghost use Rattle.device_core.specs.Reports.{device_close, device_gain, device_reports};
+ghost use Rattle.device_core.specs.Reports.{device_close, device_gain, device_reports, reports_from};
 ghost use Rattle.device_core.specs.Standing.{Kept, StandsFor};
 
 /// More of a stream takes no report away and changes none.
 pub fn reports_are_a_beginning()
     ensures { (stream more : List Symbol) → (gained : List Body) × (device_reports (stream ++ more) ≡ device_reports stream ++ gained) }
+{}
+
+/// What more of a stream adds, symbol by symbol behind the stream.
+pub fn reports_go_on()
+    ensures { (stream more : List Symbol) → device_reports (stream ++ more) ≡ device_reports stream ++ reports_from stream more }
 {}
 
 /// What more of a stream adds, and what is left at its end, are the same for all streams that one device stands for.

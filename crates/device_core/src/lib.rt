@@ -9,4 +9,4 @@ mod packets;
 mod tests;
 
 pub use device::Device;
-pub use laws::{later_reports_are_decided, reports_are_a_beginning};
+pub use laws::{later_reports_are_decided, reports_are_a_beginning, reports_go_on};

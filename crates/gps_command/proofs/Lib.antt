@@ -4,5 +4,6 @@ pub mod Growths
 pub mod JsonTexts
 pub mod Opens
 pub mod Pieces
+pub mod Readings
 pub mod Trims
 pub mod Sets

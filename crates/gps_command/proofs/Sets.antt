@@ -36,7 +36,7 @@ inside_passes _ d (inner_byte c s p rest) =
     omega (arith, step)
 inside_passes _ d (escaped_pair c s rest) = omega (arith, inside_passes s d rest)
 
-text_passes : (t b : List ℕ) (e : ℕ) → IsText t → is_end e ≡ true → open_length Outside (t ++ e ∷ b) ≡ length t
+pub text_passes : (t b : List ℕ) (e : ℕ) → IsText t → is_end e ≡ true → open_length Outside (t ++ e ∷ b) ≡ length t
 unfolding open_length
 text_passes _ b e empty_text end = cond-true (is_end e) _ _ end
 text_passes _ b e (plain_byte c t p rest) end =

@@ -1,6 +1,6 @@
 -- What a request asks for, or its fault. The words are gpsd_json(5)'s; the order of the faults is this
 -- project's own.
-use Rattle.std.specs.Prelude.{ℕ, Bool, ◌||◌, List, [], ◌∷◌, take, drop, nat_eq, Option, Some, None, Result, Ok, Err, codes, if◌then◌else◌}
+use Rattle.std.specs.Prelude.{◌≡◌, ◌<◌, ℕ, Bool, ◌||◌, length, List, [], ◌∷◌, take, drop, nat_eq, Option, Some, None, Result, Ok, Err, codes, if◌then◌else◌}
 use Rattle.std.specs.List.{list_all}
 use Rattle.std.specs.Str.{bytes_eq, is_utf8}
 use Rattle.gps_report.specs.declared.policy.CommandFault.{CommandFault}
@@ -38,6 +38,11 @@ watch_in (Some value) = watch_by (change_in value)
 -- what stands behind `?WATCH=`
 abbrev pub object_text : List ℕ → Option (List ℕ)
 object_text text = if bytes_eq (take 7 text) (codes "?WATCH=") then Some (drop 7 text) else None
+
+-- the request has something behind `?WATCH=`
+abbrev pub HasObject : RawCommand → Type 0
+HasObject (Words text) = (object : List ℕ) × (object_text (trimmed text) ≡ Some object) × (0 < length object)
+HasObject Long = ⊥
 
 abbrev pub object_command : Option (List ℕ) → Result Command CommandFault
 object_command None = Err Unknown

@@ -1,5 +1,7 @@
 -- The texts of requests as a set: plain bytes and whole strings. This project's own.
-use Rattle.std.specs.Prelude.{ℕ, ◌≡◌, ◌<◌, ◌≤◌, Bool, not, true, false, ◌||◌, List, [], ◌∷◌, ◌++◌, length, nat_eq, slice_index}
+use Rattle.std.specs.Prelude.{ℕ, ◌≡◌, ◌<◌, ◌≤◌, Bool, not, true, false, ◌||◌, List, [], ◌∷◌, ◌++◌, length, take, drop, nat_eq, slice_index}
+use Rattle.std.specs.List.{list_all}
+use Rattle.std.specs.Io.BufRead.{drop_through}
 use Rattle.gps_command.specs.declared.request.RawCommand.{RawCommand}
 use Rattle.gps_command.specs.declared.request.RawCommand.TheVariants.{Words, Long}
 use Rattle.gps_command.specs.Requests.{is_end, is_gap, requests}
@@ -39,3 +41,25 @@ AreRequests (Long ∷ rest) = AreRequests rest
 abbrev pub ReadsRequests : Type 0
 ReadsRequests = (text rest : List ℕ) (end : ℕ) → IsRequest text → is_end end ≡ true
     → requests (text ++ end ∷ rest) ≡ Words text ∷ requests rest
+
+-- gaps before a request are not read
+abbrev pub SkipsGaps : Type 0
+SkipsGaps = (gaps rest : List ℕ) → list_all is_gap gaps ≡ true → requests (gaps ++ rest) ≡ requests rest
+
+-- the beginning of a text
+abbrev pub IsBeginning : List ℕ → Type 0
+IsBeginning bytes = (more : List ℕ) × IsText (bytes ++ more)
+
+-- one request goes on through its 1,025th byte
+pub record IsLong (bytes : List ℕ) : Type 0 where
+  pub long : 1024 < length bytes
+  pub goes_on : IsBeginning (take 1025 bytes)
+  pub begins : is_gap (slice_index bytes 0) ≡ false
+
+-- it is Long, and is skipped through the first line feed from its 1,025th byte on; what follows is read as if it stood alone
+abbrev pub SkipsLong : Type 0
+SkipsLong = (bytes : List ℕ) → IsLong bytes → requests bytes ≡ Long ∷ requests (drop_through 10 (drop 1024 bytes))
+
+-- a request that no byte has ended yet, and that is not too long, is none
+abbrev pub AwaitsEnds : Type 0
+AwaitsEnds = (bytes : List ℕ) → IsBeginning bytes → length bytes ≤ 1024 → is_gap (slice_index bytes 0) ≡ false → requests bytes ≡ []

@@ -1,6 +1,6 @@
-ghost use Rattle.std.specs.Prelude.{◌≡◌, IfOk, Ok, Err, codes, option_map};
+ghost use Rattle.std.specs.Prelude.{◌≡◌, ◌<◌, ℕ, List, IfOk, Ok, Err, Some, codes, length, option_map};
 ghost use Rattle.gps_report.specs.declared.policy.CommandFault.{CommandFault};
-ghost use Rattle.gps_command.specs.Commands.{command_in, is_trailing, json_of, object_text, trimmed, watch_in, words_command};
+ghost use Rattle.gps_command.specs.Commands.{HasObject, command_in, is_trailing, json_of, object_text, trimmed, watch_in, words_command};
 
 use crate::RawCommand;
 use crate::json_text::value_of;
@@ -69,6 +69,7 @@ fn object_text(text: &[u8]) -> Option<&[u8]>
 fn watch(alloc: Global, object: &[u8]) -> Result<Command, ReadFault>
     ensures ok { IfOk result (λ command. watch_in (json_of object.now) ≡ Ok command) }
     ensures fault { (f : CommandFault) → result ≡ Err (ReadFault.Fault f) → watch_in (json_of object.now) ≡ Err f }
+    ensures memory { result ≡ Err ReadFault.NoMemory → 0 < length object.now }
 {
     let value = value_of(alloc, object)?;
     let change = change_of(alloc, &value)?;
@@ -78,6 +79,8 @@ fn watch(alloc: Global, object: &[u8]) -> Result<Command, ReadFault>
 fn command_of_words(alloc: Global, text: &[u8]) -> Result<Command, ReadFault>
     ensures ok { IfOk result (λ command. words_command text.now ≡ Ok command) }
     ensures fault { (f : CommandFault) → result ≡ Err (ReadFault.Fault f) → words_command text.now ≡ Err f }
+    ensures memory { result ≡ Err ReadFault.NoMemory
+        → (object : List ℕ) × (object_text text.now ≡ Some object) × (0 < length object) }
 {
     if text == b"?VERSION".as_slice() {
         Ok(Command::Version)
@@ -98,10 +101,12 @@ fn command_of_words(alloc: Global, text: &[u8]) -> Result<Command, ReadFault>
 /// What a request asks for. Each fault comes exactly by the bytes, and where several hold the first of these:
 /// `TooLong` for a request of more than 1,024 bytes; `Unknown` where it is none of `?VERSION`, `?DEVICES`,
 /// `?POLL` and `?WATCH` and does not begin with `?WATCH=`; `BadJson` where the rest is not one JSON text,
-/// nested at most 127 deep; `BadWatch` where its value is refused by [`change_of`].
+/// nested at most 127 deep; `BadWatch` where its value is refused by [`change_of`]. Memory is taken only where
+/// something stands behind `?WATCH=`.
 pub fn command_of(alloc: Global, request: &RawCommand) -> Result<Command, ReadFault>
     ensures ok { IfOk result (λ command. command_in request.now ≡ Ok command) }
     ensures fault { (f : CommandFault) → result ≡ Err (ReadFault.Fault f) → command_in request.now ≡ Err f }
+    ensures memory { result ≡ Err ReadFault.NoMemory → HasObject request.now }
 {
     match request {
         RawCommand::Long => Err(ReadFault::Fault(CommandFault::TooLong)),

@@ -6,6 +6,7 @@
 mod command;
 mod cutter;
 mod json_text;
+mod laws;
 mod request;
 #[cfg(test)]
 mod tests;
@@ -13,5 +14,6 @@ mod whole_input;
 
 pub use command::{Command, ReadFault, command_of};
 pub use cutter::{CommandCutter, Cut};
+pub use laws::{policy_goes_on, requests_go_by_the_texts};
 pub use request::RawCommand;
 pub use whole_input::requests_of;

@@ -235,6 +235,21 @@ fn nested(rt: &(impl Abort + Alloc<A = Global>), depth: usize) -> Answer {
     command_of(rt.alloc(), &RawCommand::Words(text))
 }
 
+// a request of 1,000 bytes: an object that does not end
+fn long_object(rt: &(impl Abort + Alloc<A = Global>)) -> Answer {
+    let mut text = Bytes::from_slice(rt.alloc(), b"?WATCH={").expect(rt, "memory");
+    text.extend_from_slice([b' '; 992].as_slice())
+        .expect(rt, "memory");
+    assert_eq!(rt; text.len(), 1000);
+    command_of(rt.alloc(), &RawCommand::Words(text))
+}
+
+#[test]
+fn a_malformed_request_of_1000_bytes_is_bad_json(rt: HostRuntime) -> Result<(), Fail> {
+    assert!(rt; long_object(&rt) == fault(BadJson));
+    Ok(())
+}
+
 #[test]
 fn json_is_read_127_deep(rt: HostRuntime) -> Result<(), Fail> {
     assert!(rt; nested(&rt, 127) == fault(BadWatch));

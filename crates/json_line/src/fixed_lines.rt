@@ -2,7 +2,7 @@ ghost use Rattle.std.specs.Prelude.{◌≡◌, ◌++◌, IfOk};
 ghost use Rattle.json_line.specs.Json.{line_end};
 ghost use Rattle.json_line.specs.Lines.{error, message, version};
 
-use crate::member::{push_byte, push_text};
+use crate::member::{push_number, push_text};
 use crate::names::{Class, Key, push_head};
 use gps_fixed::{Bytes, NoMemory};
 use gps_report::CommandFault;
@@ -18,8 +18,8 @@ pub fn version_line(alloc: Global) -> Result<Bytes, NoMemory>
     push_head(&mut out, Class::Version)?;
     push_text(&mut out, Key::Release, b"gpsrelay-1")?;
     push_text(&mut out, Key::Rev, b"1")?;
-    push_byte(&mut out, Key::ProtoMajor, 3)?;
-    push_byte(&mut out, Key::ProtoMinor, 1)?;
+    push_number(&mut out, Key::ProtoMajor, 3)?;
+    push_number(&mut out, Key::ProtoMinor, 1)?;
     out.extend_from_slice(b"}\r\n")?;
     Ok(out)
 }

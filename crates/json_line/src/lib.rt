@@ -2,6 +2,7 @@
 //! they came or in hexadecimal. The exact texts are this project's own.
 #![tactic(auto)]
 
+mod array;
 mod device;
 mod fixed_lines;
 mod line;

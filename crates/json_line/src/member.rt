@@ -63,14 +63,6 @@ pub fn push_number(out: &mut Bytes, key: Key, value: u64) -> Result<(), NoMemory
     push_whole(out, value)
 }
 
-#[tactic(auto, unfolding(crate::specs::Json::member))]
-pub fn push_u32(out: &mut Bytes, key: Key, value: u32) -> Result<(), NoMemory>
-    ensures { OnOk result (out.new ≡ out.old ++ member key (decimal value)) }
-{
-    push_label(out, key)?;
-    push_whole(out, u64::from(value))
-}
-
 /// The whole seconds of a stamp.
 #[tactic(auto, unfolding(crate::specs::Json::member, crate::specs::Lines::seconds))]
 pub fn push_seconds(out: &mut Bytes, key: Key, at: Stamp) -> Result<(), NoMemory>
@@ -83,29 +75,6 @@ pub fn push_seconds(out: &mut Bytes, key: Key, at: Stamp) -> Result<(), NoMemory
 /// A number, where there is one.
 #[tactic(auto, unfolding(crate::specs::Json::member_if))]
 pub fn push_number_if(out: &mut Bytes, key: Key, value: Option<u32>) -> Result<(), NoMemory>
-    ensures { OnOk result (out.new ≡ out.old ++ member_if key decimal value) }
-{
-    match value {
-        Some(value) => {
-            push_label(out, key)?;
-            push_whole(out, u64::from(value))
-        }
-        None => Ok(()),
-    }
-}
-
-/// A small number.
-#[tactic(auto, unfolding(crate::specs::Json::member))]
-pub fn push_byte(out: &mut Bytes, key: Key, value: u8) -> Result<(), NoMemory>
-    ensures { OnOk result (out.new ≡ out.old ++ member key (decimal value)) }
-{
-    push_label(out, key)?;
-    push_whole(out, u64::from(value))
-}
-
-/// A small number, where there is one.
-#[tactic(auto, unfolding(crate::specs::Json::member_if))]
-pub fn push_byte_if(out: &mut Bytes, key: Key, value: Option<u8>) -> Result<(), NoMemory>
     ensures { OnOk result (out.new ≡ out.old ++ member_if key decimal value) }
 {
     match value {

@@ -2,7 +2,7 @@ ghost use Rattle.std.specs.Prelude.{◌≡◌, ◌++◌, OnOk, codes};
 ghost use Rattle.json_line.specs.Json.{member};
 ghost use Rattle.json_line.specs.Lines.{pair_members, pps, toff};
 
-use crate::member::{push_seconds, push_text, push_u32};
+use crate::member::{push_number, push_seconds, push_text};
 use crate::names::{Class, Key, push_head, push_label};
 use gps_fixed::{Bytes, NoMemory};
 use gps_report::Pair;
@@ -12,9 +12,9 @@ fn push_pair(out: &mut Bytes, pair: &Pair) -> Result<(), NoMemory>
     ensures { OnOk result (out.new ≡ out.old ++ pair_members pair.now) }
 {
     push_seconds(out, Key::RealSec, pair.reference)?;
-    push_u32(out, Key::RealNsec, pair.reference.nsec)?;
+    push_number(out, Key::RealNsec, u64::from(pair.reference.nsec))?;
     push_seconds(out, Key::ClockSec, pair.host)?;
-    push_u32(out, Key::ClockNsec, pair.host.nsec)?;
+    push_number(out, Key::ClockNsec, u64::from(pair.host.nsec))?;
     Ok(())
 }
 

@@ -1,14 +1,15 @@
 ghost use Rattle.std.specs.Prelude.{◌≡◌, ◌++◌, OnOk, count_by};
 ghost use Rattle.std.specs.Fmt.{decimal};
-ghost use Rattle.json_line.specs.Json.{array, behind_commas, member, separated};
+ghost use Rattle.json_line.specs.Json.{member_if};
 ghost use Rattle.json_line.specs.Lines.{gnss_members, satellite, sky};
 ghost use Rattle.json_line.specs.Names.{satellite_head};
 
+use crate::array::{Writes, push_array};
 use crate::member::{
-    push_byte_if, push_hundredths_if, push_number, push_number_if, push_signed_if, push_text,
-    push_time_if, push_truth, push_whole,
+    push_hundredths_if, push_number, push_number_if, push_signed_if, push_text, push_time_if,
+    push_truth, push_whole,
 };
-use crate::names::{Class, Key, push_head, push_label};
+use crate::names::{Class, Key, push_head};
 use gps_fixed::{Bytes, NoMemory};
 use gps_report::{Satellite, Sky};
 
@@ -33,6 +34,16 @@ fn push_gnss(out: &mut Bytes, gnss: Option<(u8, u16)>) -> Result<(), NoMemory>
     }
 }
 
+#[tactic(auto, unfolding(crate::specs::Json::member, crate::specs::Json::member_if))]
+fn push_signal(out: &mut Bytes, signal: Option<u8>) -> Result<(), NoMemory>
+    ensures { OnOk result (out.new ≡ out.old ++ member_if Key.Sigid decimal signal) }
+{
+    match signal {
+        Some(signal) => push_number(out, Key::Sigid, u64::from(signal)),
+        None => Ok(()),
+    }
+}
+
 #[tactic(auto, unfolding(crate::specs::Lines::satellite))]
 fn push_satellite(out: &mut Bytes, s: &Satellite) -> Result<(), NoMemory>
     ensures { OnOk result (out.new ≡ out.old ++ satellite s.now) }
@@ -43,43 +54,22 @@ fn push_satellite(out: &mut Bytes, s: &Satellite) -> Result<(), NoMemory>
     push_number_if(out, Key::Ss, s.ss)?;
     push_truth(out, Key::Used, s.used)?;
     push_gnss(out, s.gnss)?;
-    push_byte_if(out, Key::Sigid, s.signal)?;
+    push_signal(out, s.signal)?;
     out.push(b'}')?;
     Ok(())
 }
 
-#[tactic(auto, unfolding(crate::specs::Json::behind_commas))]
-fn push_behind_commas(out: &mut Bytes, satellites: &[Satellite]) -> Result<(), NoMemory>
-    ensures { OnOk result (out.new ≡ out.old ++ behind_commas satellite satellites.now) }
-{
-    for s in satellites {
-        out.push(b',')?;
-        push_satellite(out, s)?;
-    }
-    Ok(())
-}
+/// Writes satellites.
+struct Satellites;
 
-#[tactic(auto, unfolding(crate::specs::Json::separated))]
-fn push_separated(out: &mut Bytes, satellites: &[Satellite]) -> Result<(), NoMemory>
-    ensures { OnOk result (out.new ≡ out.old ++ separated satellite satellites.now) }
-{
-    match satellites {
-        [] => Ok(()),
-        [first, more @ ..] => {
-            push_satellite(out, first)?;
-            push_behind_commas(out, more)
-        }
-    }
-}
+impl Writes<Satellite> for Satellites {
+    ghost use Rattle.json_line.specs.Lines.{satellite};
 
-#[tactic(auto, unfolding(crate::specs::Json::member, crate::specs::Json::array))]
-fn push_satellites(out: &mut Bytes, key: Key, satellites: &[Satellite]) -> Result<(), NoMemory>
-    ensures { OnOk result (out.new ≡ out.old ++ member key (array satellite satellites.now)) }
-{
-    push_label(out, key)?;
-    out.push(b'[')?;
-    push_separated(out, satellites)?;
-    out.push(b']')
+    ghost text = { λ writer s. satellite s };
+
+    fn push(&self, out: &mut Bytes, s: &Satellite) -> Result<(), NoMemory> {
+        push_satellite(out, s)
+    }
 }
 
 fn count_used(satellites: &[Satellite]) -> usize
@@ -101,7 +91,7 @@ pub fn push_sky(out: &mut Bytes, device: &[u8], s: &Sky) -> Result<(), NoMemory>
     push_hundredths_if(out, Key::Vdop, s.vdop)?;
     push_number(out, Key::NSat, satellites.len() as u64)?;
     push_number(out, Key::USat, count_used(satellites) as u64)?;
-    push_satellites(out, Key::Satellites, satellites)?;
+    push_array(out, Key::Satellites, &Satellites, satellites)?;
     out.push(b'}')?;
     Ok(())
 }

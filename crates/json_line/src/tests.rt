@@ -323,27 +323,68 @@ fn lists(rt: HostRuntime) -> Result<(), Fail> {
         devices_line(rt.alloc(), &names, &active)?.as_slice()
             == b"{\"class\":\"DEVICES\",\"devices\":[{\"class\":\"DEVICE\",\"path\":\"stdin\"},{\"class\":\"DEVICE\",\"path\":\"a;b\",\"activated\":\"1970-01-01T00:00:01.000Z\"}]}\r\n".as_slice()
     );
-    let fixes = [
-        Report {
-            device: 0,
-            body: Body::Tpv(no_fix(1, 764_426_119)),
-        },
-        Report {
-            device: 1,
-            body: Body::Tpv(no_fix(1, 0)),
-        },
-    ];
+    Ok(())
+}
+
+/// One device.
+fn one_name(alloc: Global) -> Result<Names, Fail> {
+    let mut list = Vec::new(alloc);
+    list.push(Name::of(alloc, b"g")?)?;
+    match Names::of(list) {
+        Some(names) => Ok(names),
+        None => Err(Fail::new("the names are not distinct")),
+    }
+}
+
+#[test]
+fn poll_of_a_fix(rt: HostRuntime) -> Result<(), Fail> {
+    let names = one_name(rt.alloc())?;
+    assert!(rt; names.len() == 1);
+    let fix = Fix {
+        position: munich(),
+        track: Some(844_000),
+        speed: Some(11_524),
+        ..no_fix(2, 764_426_119)
+    };
+    let fixes = [Report {
+        device: 0,
+        body: Body::Tpv(fix),
+    }];
     assert!(rt;
         poll_line(
             rt.alloc(),
             Some(Stamp { sec: 2, nsec: 0 }),
-            2,
+            1,
             &fixes,
             &[],
-            &names,
+            &names
         )?
         .as_slice()
-            == b"{\"class\":\"POLL\",\"time\":\"1970-01-01T00:00:02.000Z\",\"active\":2,\"tpv\":[{\"class\":\"TPV\",\"device\":\"stdin\",\"mode\":1,\"time\":\"1994-03-23T12:35:19.000Z\"},{\"class\":\"TPV\",\"device\":\"a;b\",\"mode\":1,\"time\":\"1970-01-01T00:00:00.000Z\"}],\"sky\":[]}\r\n".as_slice()
+            == b"{\"class\":\"POLL\",\"time\":\"1970-01-01T00:00:02.000Z\",\"active\":1,\"tpv\":[{\"class\":\"TPV\",\"device\":\"g\",\"mode\":2,\"time\":\"1994-03-23T12:35:19.000Z\",\"lat\":48.117300000,\"lon\":11.516666667,\"track\":84.4000,\"speed\":11.524}],\"sky\":[]}\r\n".as_slice()
+    );
+    Ok(())
+}
+
+#[test]
+fn poll_of_a_sky(rt: HostRuntime) -> Result<(), Fail> {
+    let names = one_name(rt.alloc())?;
+    assert!(rt; names.len() == 1);
+    let mut sats = Sats::new(rt.alloc());
+    sats.push(satellite(65, 40, 83, 46, true, Some(1)))?;
+    let sky = Sky {
+        time: None,
+        pdop: None,
+        hdop: Some(90),
+        vdop: None,
+        sats,
+    };
+    let skies = [Report {
+        device: 0,
+        body: Body::Sky(sky),
+    }];
+    assert!(rt;
+        poll_line(rt.alloc(), None, 0, &[], &skies, &names)?.as_slice()
+            == b"{\"class\":\"POLL\",\"active\":0,\"tpv\":[],\"sky\":[{\"class\":\"SKY\",\"device\":\"g\",\"hdop\":0.90,\"nSat\":1,\"uSat\":1,\"satellites\":[{\"PRN\":65,\"el\":40,\"az\":83,\"ss\":46,\"used\":true,\"gnssid\":6,\"svid\":65,\"sigid\":1}]}]}\r\n".as_slice()
     );
     Ok(())
 }

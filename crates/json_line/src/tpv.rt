@@ -1,7 +1,7 @@
 ghost use Rattle.std.specs.Prelude.{◌≡◌, ◌++◌, OnOk};
 ghost use Rattle.json_line.specs.Lines.{position_members, tpv};
 
-use crate::member::{push_byte, push_fixed, push_fixed_if, push_text, push_time_if};
+use crate::member::{push_fixed, push_fixed_if, push_number, push_text, push_time_if};
 use crate::names::{Class, Key, push_head};
 use gps_fixed::{Bytes, NoMemory};
 use gps_report::{Fix, Position};
@@ -25,7 +25,7 @@ pub fn push_tpv(out: &mut Bytes, device: &[u8], fix: &Fix) -> Result<(), NoMemor
 {
     push_head(out, Class::Tpv)?;
     push_text(out, Key::Device, device)?;
-    push_byte(out, Key::Mode, fix.mode)?;
+    push_number(out, Key::Mode, u64::from(fix.mode))?;
     push_time_if(out, Key::Time, &fix.time)?;
     push_position(out, fix.position)?;
     push_fixed_if(out, Key::AltHae, fix.alt_hae, 3)?;

@@ -2,7 +2,7 @@ ghost use Rattle.std.specs.Prelude.{◌≡◌, ◌++◌, IfOk};
 ghost use Rattle.json_line.specs.Json.{line_end};
 ghost use Rattle.json_line.specs.Lines.{watch};
 
-use crate::member::{push_byte, push_name_if, push_truth};
+use crate::member::{push_name_if, push_number, push_truth};
 use crate::names::{Class, Key, push_head};
 use gps_fixed::{Bytes, NoMemory};
 use gps_report::Policy;
@@ -19,7 +19,7 @@ pub fn watch_line(alloc: Global, policy: &Policy) -> Result<Bytes, NoMemory>
     push_truth(&mut out, Key::Enable, policy.enable)?;
     push_truth(&mut out, Key::Json, policy.json)?;
     push_truth(&mut out, Key::Nmea, policy.nmea)?;
-    push_byte(&mut out, Key::Raw, policy.raw)?;
+    push_number(&mut out, Key::Raw, u64::from(policy.raw))?;
     push_truth(&mut out, Key::Pps, policy.pps)?;
     push_name_if(&mut out, Key::Device, &policy.device)?;
     out.extend_from_slice(b"}\r\n")?;

@@ -1,2 +1,3 @@
 mod Digits
 mod EdgeLines
+pub mod Pasts

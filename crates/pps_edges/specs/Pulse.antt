@@ -1,6 +1,7 @@
 -- Which pulse edges mark a second, and which second: the edge pairs with the serial time before it. This project's own; the edges and
 -- their sequence numbers are those of RFC 2783.
-use Rattle.std.specs.Prelude.{ℕ, pos, ◌+◌, ◌*◌, ◌%◌, ◌^◌, ◌+ℤ◌, ◌≡◌, Bool, true, false, ◌&&◌, cond, List, [], ◌∷◌, Option, Some, None, nat_eq, nat_le, nat_lt, unsigned_abs}
+use Rattle.std.specs.Prelude.{ℕ, pos, ◌+◌, ◌*◌, ◌%◌, ◌^◌, ◌+ℤ◌, ◌≡◌, Bool, true, false, ◌&&◌, cond, List, Option, Some, None, nat_eq, nat_le, nat_lt, unsigned_abs}
+use Rattle.std.specs.List.{filter, last_or}
 use Rattle.gps_fixed.specs.Moment.{Moment}
 use Rattle.gps_report.specs.declared.edge.Edge.{Edge}
 use Rattle.gps_report.specs.declared.edge.EdgeKind.{EdgeKind}
@@ -15,10 +16,9 @@ abbrev pub is_assert : EdgeKind → Bool
 is_assert Assert = true
 is_assert Clear = false
 
--- the last assert edge of a past, which has the latest edge first; clear edges do not count
+-- the last assert edge of a past; clear edges do not count
 unfoldable pub last_assert : List Edge → Option Edge
-last_assert [] = None
-last_assert (edge ∷ past) = cond (is_assert edge.kind) (Some edge) (last_assert past)
+last_assert past = last_or None (filter (λ edge. is_assert edge.kind) past)
 
 -- no assert edge was lost between the two: sequence numbers go up by one, and from 2^32 - 1 to 0
 abbrev pub is_next : Edge → Edge → Bool
@@ -43,7 +43,7 @@ paired edge (Some last) (Some toff) =
     cond (is_next last edge && is_second_after last edge && is_fresh toff edge) (Some (pulse toff edge)) None
 paired edge _ _ = None
 
--- the pulse of an edge: `past` is the device's edges before it, the latest first, and `toff` the device's last serial time before it
+-- the pulse of an edge: `past` is the device's edges before it, in order, and `toff` the device's last serial time before it
 unfoldable pub pps_of : List Edge → Option Pair → Edge → Option Pair
 pps_of past toff edge = cond (is_assert edge.kind) (paired edge (last_assert past) toff) None
 

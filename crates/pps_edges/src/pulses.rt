@@ -1,4 +1,4 @@
-ghost use Rattle.std.specs.Prelude.{◌≡◌, ◌∷◌, [], ◌≤ℤ◌, ◌<◌, ◌^◌, pos, List, IfSome};
+ghost use Rattle.std.specs.Prelude.{◌≡◌, ◌∷◌, ◌++◌, [], ◌≤ℤ◌, ◌<◌, ◌^◌, pos, List, IfSome};
 ghost use Rattle.pps_edges.specs.Pulse.{StandsFor, is_assert, is_fresh, is_next, is_second_after, nanoseconds, paired, pps_of, pulse};
 ghost use Rattle.gps_report.specs.declared.edge.Edge.{Edge as EdgeValue};
 
@@ -109,11 +109,11 @@ impl Pulses {
     /// There is a pulse exactly where the edge is an assert edge, the last assert edge before it has the sequence number before its
     /// own (modulo 2^32) and came 990,000,000 to 1,010,000,000 ns earlier, and the serial time came less than 1,000,000,000 ns and
     /// not 0 ns before it. The second is that of the serial time, plus one.
-    #[tactic(auto, unfolding(crate::specs::Pulse::last_assert, crate::specs::Pulse::pps_of))]
+    #[tactic(auto, using(crate::proofs::Pasts::takes_assert, crate::proofs::Pasts::passes_clear), unfolding(crate::specs::Pulse::pps_of))]
     pub fn take(&mut self, edge: Edge, toff: Option<Pair>) -> Option<Pair>
         requires { IfSome toff (λ pair. pair.reference.sec ≤ℤ pos 9_999_999_998) }
         ensures gains { (past : List EdgeValue) → StandsFor self.old past → result ≡ pps_of past toff edge }
-        ensures stands { (past : List EdgeValue) → StandsFor self.old past → StandsFor self.new (edge ∷ past) }
+        ensures stands { (past : List EdgeValue) → StandsFor self.old past → StandsFor self.new (past ++ edge ∷ []) }
     {
         if is_assert_edge(edge.kind) {
             let pps = pair_of(&edge, &self.last, &toff);

@@ -1,5 +1,5 @@
 -- Each kind of a monitor's steps keeps the segment's rule.
-use Rattle.std.proofs.Common.{◌≡◌, ℕ, zero, suc, ◌+◌, ◌-◌, ◌*◌, ◌/◌, ◌%◌, ◌<◌, ◌≤◌, Bool, true, false, List, [], ◌∷◌, ◌++◌, length, take, Some, refl, sym, ap, ◌∙◌, subst, arith, length-append}
+use Rattle.std.proofs.Common.{◌≡◌, ◌≢◌, ℕ, zero, suc, ◌+◌, ◌-◌, ◌*◌, ◌/◌, ◌%◌, ◌<◌, ◌≤◌, Bool, true, false, List, [], ◌∷◌, ◌++◌, length, take, Some, refl, sym, ap, ◌∙◌, subst, arith, length-append}
 use Rattle.std.specs.Prelude.{nat_le, slice_get, slice_index, slice_index_or, if◌then◌else◌, ◌==◌}
 use Rattle.std.specs.List.{All}
 use Rattle.std.proofs.lemmas.Bool.Decides.{nat_tests}
@@ -8,7 +8,7 @@ use Rattle.std.proofs.lemmas.List.Elements.{All-append, All-cons, All-nil}
 use Rattle.atomic_table.specs.Table.{Me, Allows, Splits, Joins}
 use Rattle.shm_segment.specs.declared.sample.Sample.{Sample}
 use Rattle.shm_segment.specs.declared.view.Numbered.{Numbered}
-use Rattle.shm_segment.specs.declared.view.Role.TheVariants.{Monitors}
+use Rattle.shm_segment.specs.declared.view.Role.TheVariants.{Publishes, Monitors}
 use Rattle.shm_segment.specs.declared.view.View.{View}
 use Rattle.shm_segment.specs.Samples.{sample_of}
 use Rattle.shm_segment.specs.Words.{published_after, count_after, body_after, words_of, body_places}
@@ -46,11 +46,11 @@ published_low : (a b : ℕ) → a ≤ b → published_after a ≤ published_afte
 published_low a b h = omega arith
 
 -- a load that tells nothing more
-plainly : (first slots seat word : ℕ) (v : View) (next : ℕ → View)
+plainly : (first slots seat word : ℕ) (v : View) (next : ℕ → View) → ((n : ℕ) → (next n).role ≡ v.role)
     → ((writer : ℕ) (samples : List Sample) (stores : ℕ) → IsSound first samples stores → Fits writer first samples stores seat v → Fits writer first samples stores seat (next (slice_index (words_of first samples stores) word)))
     → Allows {S = Unit {0}} (HoldsOf first) slots seat (v, []) word (λ n. n) (λ n (after : Me (Unit {0}) View). after ≡ (next n, []))
-plainly first slots seat word v next law s h homes at small =
-    let a = looks first slots seat word v next (λ _. Unit {0}) (λ writer samples stores sound fits. (law writer samples stores sound fits, tt)) s h homes at small in
+plainly first slots seat word v next same law s h homes at small =
+    let a = looks first slots seat word v next (λ _. Unit {0}) same (λ writer samples stores sound fits. (law writer samples stores sound fits, tt)) s h homes at small in
     (a.0, a.1, a.2, a.3, a.4.0)
 
 module _ (first slots seat : ℕ) (v : View) (role : v.role ≡ Monitors) where
@@ -79,7 +79,7 @@ module _ (first slots seat : ℕ) (v : View) (role : v.role ≡ Monitors) where
   -- K6: the first count
   pub counts : Allows {S = Unit {0}} (HoldsOf first) slots seat (v, []) 1 (λ n. n) (λ n (after : Me (Unit {0}) View). (after ≡ (counted v n, [])) × IsFirstCount v n)
   counts =
-      looks first slots seat 1 v (counted v) (IsFirstCount v)
+      looks first slots seat 1 v (counted v) (IsFirstCount v) (λ _. refl)
       (λ writer samples stores sound fits.
       let n : ℕ = slice_index (words_of first samples stores) 1 in
       let is : n ≡ count_after first stores = word_count first samples stores in
@@ -96,7 +96,7 @@ module _ (first slots seat : ℕ) (v : View) (role : v.role ≡ Monitors) where
   -- K7: valid
   pub validates : length v.reading ≡ 1 → Allows {S = Unit {0}} (HoldsOf first) slots seat (v, []) 9 (λ n. n) (λ n (after : Me (Unit {0}) View). after ≡ (validated v n, []))
   validates long =
-      plainly first slots seat 9 v (validated v)
+      plainly first slots seat 9 v (validated v) (λ _. refl)
       (λ writer samples stores sound fits.
       let n : ℕ = slice_index (words_of first samples stores) 9 in
       loaded_fits writer samples stores 9 v.taken (if n == 0 then [] else v.reading ++ n ∷ []) fits fits.taken fits.rises fits.last_below (goes_on writer samples stores fits (n == 0) refl))
@@ -117,7 +117,7 @@ module _ (first slots seat : ℕ) (v : View) (role : v.role ≡ Monitors) where
   pub reads : (place : ℕ) → place < 9 → length v.reading ≡ place + 2
       → Allows {S = Unit {0}} (HoldsOf first) slots seat (v, []) (slice_index body_places place) (λ n. n) (λ n (after : Me (Unit {0}) View). after ≡ (read v (slice_index body_places place) n, []))
   reads place within long =
-      plainly first slots seat (slice_index body_places place) v (read v (slice_index body_places place))
+      plainly first slots seat (slice_index body_places place) v (read v (slice_index body_places place)) (λ _. refl)
       (λ writer samples stores sound fits.
       let word : ℕ = slice_index body_places place in
       let n : ℕ = slice_index (words_of first samples stores) word in
@@ -144,7 +144,7 @@ module _ (first slots seat : ℕ) (v : View) (role : v.role ≡ Monitors) where
   -- K9: the second count
   pub recounts : length v.reading ≡ 11 → Allows {S = Unit {0}} (HoldsOf first) slots seat (v, []) 1 (λ n. n) (λ n (after : Me (Unit {0}) View). (after ≡ (recounted v n, [])) × IsRecounted v n)
   recounts long =
-      looks first slots seat 1 v (recounted v) (IsRecounted v)
+      looks first slots seat 1 v (recounted v) (IsRecounted v) (λ _. refl)
       (λ writer samples stores sound fits.
       let is = two v.reading 9 long in
       let n : ℕ = slice_index (words_of first samples stores) 1 in
@@ -202,9 +202,9 @@ module _ (first slots seat : ℕ) (v : View) (role : v.role ≡ Monitors) where
       })
 
   -- K11: a notice is taken in
-  pub takes_notice : (other : ℕ) (w : View) → Joins {S = Unit {0}} (HoldsOf first) seat v other w (with_notice v w) spent
-  takes_notice other w =
-      joins first seat v other w (with_notice v w)
+  pub takes_notice : (other : ℕ) (w : View) → w.role ≢ Publishes → Joins {S = Unit {0}} (HoldsOf first) seat v other w (with_notice v w) spent
+  takes_notice other w no_publisher =
+      joins first seat v other w (with_notice v w) refl no_publisher
       (λ writer samples stores fits theirs.
       record {
         first_same = fits.first_same;
@@ -221,7 +221,7 @@ module _ (first slots seat : ℕ) (v : View) (role : v.role ≡ Monitors) where
   -- K12: the pairs and the notice agree
   pub meets : Allows {S = Unit {0}} (HoldsOf first) slots seat (v, []) 0 (λ n. n) (λ _ (after : Me (Unit {0}) View). (after ≡ (agreed v, [])) × Agrees v.first v.met v.taken)
   meets =
-      looks first slots seat 0 v (λ _. agreed v) (λ _. Agrees v.first v.met v.taken)
+      looks first slots seat 0 v (λ _. agreed v) (λ _. Agrees v.first v.met v.taken) (λ _. refl)
       (λ writer samples stores sound fits. (
         record {
           first_same = fits.first_same;

@@ -5,13 +5,7 @@ ghost use Rattle.shm_monitor.specs.Loads.{counted, validated, read, recounted, I
 ghost use Rattle.shm_monitor.specs.Watching.{IsMonitoring};
 
 use crate::plays::{Body, FirstCount, LastCount, Valid};
-use shm_segment::{Segment, TableSeat};
-
-const COUNT: usize = 1;
-
-const VALID: usize = 9;
-
-const BODY: [u8; 9] = [2, 3, 4, 5, 6, 7, 8, 10, 11];
+use shm_segment::{BODY, COUNT, Segment, TableSeat, VALID};
 
 /// The first count, which begins a reading.
 pub(crate) fn load_count(segment: &Segment, seat: &mut TableSeat) -> u32
@@ -19,7 +13,10 @@ pub(crate) fn load_count(segment: &Segment, seat: &mut TableSeat) -> u32
     ensures seat { (seat.new.table_id ≡ seat.old.table_id) × (seat.new.me ≡ (counted seat.old.me.0 result, [])) }
     ensures first { IsFirstCount seat.old.me.0 result }
 {
-    segment.table.shared.load::<FirstCount>(seat, COUNT) as u32
+    segment
+        .table
+        .shared
+        .load::<FirstCount>(seat, usize::from(COUNT)) as u32
 }
 
 /// valid.
@@ -28,7 +25,7 @@ pub(crate) fn load_valid(segment: &Segment, seat: &mut TableSeat) -> u64
     requires reading { length seat.old.me.0.reading ≡ 1 }
     ensures { (seat.new.table_id ≡ seat.old.table_id) × (seat.new.me ≡ (validated seat.old.me.0 result, [])) }
 {
-    segment.table.shared.load::<Valid>(seat, VALID)
+    segment.table.shared.load::<Valid>(seat, usize::from(VALID))
 }
 
 /// The word at this place of the body.
@@ -53,5 +50,8 @@ pub(crate) fn load_count_again(segment: &Segment, seat: &mut TableSeat) -> u32
     ensures seat { (seat.new.table_id ≡ seat.old.table_id) × (seat.new.me ≡ (recounted seat.old.me.0 result, [])) }
     ensures last { IsRecounted seat.old.me.0 result }
 {
-    segment.table.shared.load::<LastCount>(seat, COUNT) as u32
+    segment
+        .table
+        .shared
+        .load::<LastCount>(seat, usize::from(COUNT)) as u32
 }

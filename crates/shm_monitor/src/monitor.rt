@@ -6,7 +6,9 @@ ghost use Rattle.shm_monitor.specs.Watching.{opening, LoadsAs, HasRead, IsNotOld
 use crate::loads::{load_body, load_count, load_count_again, load_valid};
 use crate::plays::Meets;
 use crate::reading::{MonStep, Reading};
-use shm_segment::{Account, Accounts, MonitorSeat, Notice, Numbered, Sample, Segment, TableSeat};
+use shm_segment::{
+    Account, Accounts, COUNT, MonitorSeat, Notice, Numbered, Sample, Segment, TableSeat, VALID,
+};
 use std::marker::Model;
 
 /// Takes samples from a segment. Contracts see what it was told, its pairs, its loads, and its running reading.
@@ -56,7 +58,7 @@ impl Monitor {
         self.count = load_count(segment, &mut self.seat);
         self.at = 1;
         MonStep::Loaded {
-            word: 1,
+            word: COUNT,
             value: u64::from(self.count),
         }
     }
@@ -77,7 +79,7 @@ impl Monitor {
         self.valid = valid;
         self.at = 2;
         MonStep::Loaded {
-            word: 9,
+            word: VALID,
             value: valid,
         }
     }

@@ -1,5 +1,5 @@
 -- The publisher's steps besides its stores: a notice and a monitor's seat are cut off its seat, and it hears an account.
-use Rattle.std.proofs.Common.{◌≡◌, ℕ, List, [], refl, sym, ap, ◌∙◌, subst, arith}
+use Rattle.std.proofs.Common.{◌≡◌, ◌≢◌, ℕ, List, [], refl, sym, ap, ◌∙◌, subst, arith}
 use Rattle.std.proofs.lemmas.List.Elements.{All-nil}
 use Rattle.atomic_table.specs.Table.{Me, Allows, Splits, Joins}
 use Rattle.shm_segment.specs.declared.sample.Sample.{Sample}
@@ -46,9 +46,9 @@ module _ (first seat : ℕ) (samples : List Sample) (stores : ℕ) where
       })
 
   -- K11: the publisher takes an account in
-  pub takes_account : (other : ℕ) (w : View) → Joins {S = Unit {0}} (HoldsOf first) seat (publisher first samples stores) other w (with_account (publisher first samples stores) w) spent
-  takes_account other w =
-      joins first seat (publisher first samples stores) other w (with_account (publisher first samples stores) w)
+  pub takes_account : (other : ℕ) (w : View) → w.role ≢ Publishes → Joins {S = Unit {0}} (HoldsOf first) seat (publisher first samples stores) other w (with_account (publisher first samples stores) w) spent
+  takes_account other w no_publisher =
+      joins first seat (publisher first samples stores) other w (with_account (publisher first samples stores) w) refl no_publisher
       (λ writer s m fits theirs.
       record {
         first_same = λ _. refl;
@@ -66,7 +66,7 @@ module _ (first seat : ℕ) (samples : List Sample) (stores : ℕ) where
 pub hears : (first slots seat : ℕ) (v : View) → v.role ≡ Publishes
     → Allows {S = Unit {0}} (HoldsOf first) slots seat (v, []) 0 (λ n. n) (λ _ (after : Me (Unit {0}) View). (after ≡ (heard v, [])) × IsBorneOut v.first v.known v.taken v.kept)
 hears first slots seat v role =
-    looks first slots seat 0 v (λ _. heard v) (λ _. IsBorneOut v.first v.known v.taken v.kept)
+    looks first slots seat 0 v (λ _. heard v) (λ _. IsBorneOut v.first v.known v.taken v.kept) (λ _. sym role)
     (λ writer samples stores sound fits.
     let mine = fits.publishes role in
     let same : v.first ≡ first = fits.first_same (λ is. cc) in
@@ -87,8 +87,8 @@ module _ (first seat : ℕ) (me : Me (Unit {0}) View) (same : me.0.first ≡ fir
   pub gives_seat_as : Splits {S = Unit {0}} (HoldsOf first) seat me.0 me.0 (newcomer_of me.0)
   gives_seat_as = subst (λ (v : View). Splits {S = Unit {0}} (HoldsOf first) seat v v (newcomer_of v)) (sym view) (gives_seat first seat me.0.known.samples me.0.known.stores)
 
-  pub takes_account_as : (other : ℕ) (w : View) → Joins {S = Unit {0}} (HoldsOf first) seat me.0 other w (with_account me.0 w) spent
-  takes_account_as other w = subst (λ (v : View). Joins {S = Unit {0}} (HoldsOf first) seat v other w (with_account v w) spent) (sym view) (takes_account first seat me.0.known.samples me.0.known.stores other w)
+  pub takes_account_as : (other : ℕ) (w : View) → w.role ≢ Publishes → Joins {S = Unit {0}} (HoldsOf first) seat me.0 other w (with_account me.0 w) spent
+  takes_account_as other w no_publisher = subst (λ (v : View). Joins {S = Unit {0}} (HoldsOf first) seat v other w (with_account v w) spent) (sym view) (takes_account first seat me.0.known.samples me.0.known.stores other w no_publisher)
 
 pub hears_as : (first slots seat : ℕ) (me : Me (Unit {0}) View) → me.0.role ≡ Publishes → me.1 ≡ []
     → Allows {S = Unit {0}} (HoldsOf first) slots seat me 0 (λ n. n) (λ _ (after : Me (Unit {0}) View). (after ≡ (heard me.0, [])) × IsBorneOut me.0.first me.0.known me.0.taken me.0.kept)

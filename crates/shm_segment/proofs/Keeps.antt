@@ -1,7 +1,7 @@
 -- What one seat's view says goes on to hold while another seat steps; and the rule, once one view has changed.
-use Rattle.std.proofs.Common.{◌≡◌, ◌≢◌, ℕ, ◌+◌, ◌-◌, ◌*◌, ◌≤◌, List, ◌++◌, length, set, Some, refl, sym, ap, ◌∙◌, subst, ⊎_elim, append_assoc, arith}
+use Rattle.std.proofs.Common.{◌≡◌, ◌≢◌, ℕ, zero, suc, ◌+◌, ◌-◌, ◌*◌, ◌≤◌, List, [], ◌∷◌, ◌++◌, length, set, Some, refl, sym, ap, ◌∙◌, subst, ⊎_elim, append_assoc, arith}
 use Rattle.std.specs.Prelude.{slice_get, slice_index}
-use mathlib.Core.Option.{some}
+use mathlib.Core.Option.{some, some-injective, some-ne-none}
 use lib.ListN.{get_elem?}
 use Rattle.std.proofs.lemmas.List.{set-get_or}
 use Rattle.atomic_table.proofs.Lists.{at_set}
@@ -9,10 +9,11 @@ use Rattle.shm_segment.specs.declared.sample.Sample.{Sample}
 use Rattle.shm_segment.specs.declared.view.Known.{Known}
 use Rattle.shm_segment.specs.declared.view.Load.{Load}
 use Rattle.shm_segment.specs.declared.view.Numbered.{Numbered}
+use Rattle.shm_segment.specs.declared.view.Role.TheVariants.{Publishes}
 use Rattle.shm_segment.specs.declared.view.View.{View}
 use Rattle.shm_segment.specs.Words.{words_of}
 use Rattle.shm_segment.specs.Views.{publisher}
-use Rattle.shm_segment.specs.Rule.{IsSound, IsTold, IsPublished, WasShown, Fits, Holds}
+use Rattle.shm_segment.specs.Rule.{IsSound, IsTold, IsPublished, WasShown, Fits, HasPublisher, Holds}
 use Rattle.shm_segment.proofs.Samples.{slice_get_front}
 use Rattle.shm_segment.proofs.Running.{Effect, published_rises, count_rises, running_on, words_more}
 
@@ -25,6 +26,22 @@ pub fits_set : (writer first : ℕ) (samples : List Sample) (stores : ℕ) (view
 fits_set writer first samples stores views seat w others mine j u e =
     ⊎_elim (λ (x : (j ≡ seat) × (w ≡ u)). subst (λ (y : ℕ × View). Fits writer first samples stores y.0 y.1) (λ i. (sym x.0 i, x.1 i)) mine)
     (λ (x : (j ≢ seat) × (get_elem? views j ≡ some u)). others j u x.0 x.1) (at_set views seat j w u e)
+
+-- a seat with a new view of the same role; the publisher stays
+pub publishes_on : (views : List View) (seat writer : ℕ) (v w : View) → get_elem? views seat ≡ some v → w.role ≡ v.role → HasPublisher views writer → HasPublisher (set views seat w) writer
+publishes_on [] seat writer v w at same is = absurd (some-ne-none v (sym at))
+publishes_on (x ∷ views) zero zero v w at same is = (w, refl, same ∙ ap (λ (u : View). u.role) (sym (some-injective x v at) ∙ some-injective x is.0 is.1) ∙ is.2)
+publishes_on (x ∷ views) zero (suc writer) v w at same is = is
+publishes_on (x ∷ views) (suc seat) zero v w at same is = is
+publishes_on (x ∷ views) (suc seat) (suc writer) v w at same is = publishes_on views seat writer v w at same is
+
+-- a seat that was no publisher's has any new view; the publisher stays
+pub publishes_beside : (views : List View) (seat writer : ℕ) (v w : View) → get_elem? views seat ≡ some v → v.role ≢ Publishes → HasPublisher views writer → HasPublisher (set views seat w) writer
+publishes_beside [] seat writer v w at other is = absurd (some-ne-none v (sym at))
+publishes_beside (x ∷ views) zero zero v w at other is = absurd (other (ap (λ (u : View). u.role) (sym (some-injective x v at) ∙ some-injective x is.0 is.1) ∙ is.2))
+publishes_beside (x ∷ views) zero (suc writer) v w at other is = is
+publishes_beside (x ∷ views) (suc seat) zero v w at other is = is
+publishes_beside (x ∷ views) (suc seat) (suc writer) v w at other is = publishes_beside views seat writer v w at other is
 
 -- the rule, where the writer is this seat and its samples and stores are these
 abbrev pub HoldsAt : ℕ → List ℕ → List View → ℕ → List Sample → ℕ → Type 0

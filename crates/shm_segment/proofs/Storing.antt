@@ -15,7 +15,7 @@ use Rattle.shm_segment.specs.Rule.{IsSound, IsPublished, WasShown, Fits, Holds, 
 use Rattle.shm_segment.proofs.Samples.{body_more}
 use Rattle.shm_segment.proofs.Words.{count_in, odd_count, body_in, turn_is, published_is, published_last, stores_invalid, stores_odd, stores_body, stores_even, stores_valid}
 use Rattle.shm_segment.proofs.Running.{Effect}
-use Rattle.shm_segment.proofs.Keeps.{fits_set, fits_on, at_writer}
+use Rattle.shm_segment.proofs.Keeps.{fits_set, fits_on, at_writer, publishes_on}
 
 -- the publisher's own view fits
 pub publisher_fits : (seat first : ℕ) (samples : List Sample) (stores : ℕ) → stores ≤ 13 * length samples → Fits seat first samples stores seat (publisher first samples stores)
@@ -50,6 +50,7 @@ module _ (first : ℕ) (samples more next : List Sample) (stores : ℕ) where
           writer = seat;
           samples = next;
           stores = stores + 1;
+          publisher = publishes_on s.views seat seat (publisher first samples stores) w at refl (publisher first samples stores, at, refl);
           words_are = ap (λ (ws : List ℕ). set ws word value) here.0 ∙ new.1;
           sound = sound;
           fits = fits_set seat first next (stores + 1) s.views seat w
@@ -175,6 +176,7 @@ new_holds first low =
       writer = 0;
       samples = [];
       stores = 0;
+      publisher = (publisher first [] 0, refl, refl);
       words_are = sym (new_words first);
       sound = record { reaches = omega arith; ranges = All-nil IsSample; numbers = omega arith };
       fits = λ seat v at. only seat v at;

@@ -76,11 +76,16 @@ pub record Fits (writer first : ℕ) (samples : List Sample) (stores seat : ℕ)
   pub kept : All (WasShown first samples stores) v.kept
   pub running : IsRunning first samples stores (last_from 0 v.taken) v.reading
 
+-- the seat's view is a publisher's
+abbrev pub HasPublisher : List View → ℕ → Type 0
+HasPublisher views seat = (v : View) × (get_elem? views seat ≡ some v) × (v.role ≡ Publishes)
+
 -- the words are those of the one publisher's view, and each seat's view fits
 pub record Holds (first : ℕ) (words : List ℕ) (views : List View) : Type 0 where
   pub writer : ℕ
   pub samples : List Sample
   pub stores : ℕ
+  pub publisher : HasPublisher views writer
   pub words_are : words ≡ words_of first samples stores
   pub sound : IsSound first samples stores
   pub fits : (seat : ℕ) (v : View) → get_elem? views seat ≡ some v → Fits writer first samples stores seat v

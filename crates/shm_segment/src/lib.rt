@@ -18,6 +18,7 @@ mod stores;
 #[cfg(test)]
 mod tests;
 mod view;
+mod word_numbers;
 
 pub use plays::Accounts;
 pub use publisher::{Begin, Phase, PubStep, Publisher};
@@ -26,3 +27,4 @@ pub use sample::Sample;
 pub use seats::{Account, MonitorSeat, Notice};
 pub use segment::{Segment, SegmentTable, TableSeat};
 pub use view::{Known, Load, Numbered, Role, View};
+pub use word_numbers::{BODY, COUNT, VALID};

@@ -120,6 +120,7 @@ impl Publisher {
     pub fn begin(&mut self, sample: Sample) -> Begin
         ensures begins { BeginsAs self.old sample result self.new }
         ensures segment { self.new.segment ≡ self.old.segment }
+        ensures kept { IsPublishing self.new }
     {
         sample.show_range();
         match self.phase {
@@ -148,6 +149,7 @@ impl Publisher {
         requires { self.old.segment ≡ segment.now }
         ensures steps { StepsAs self.old result self.new }
         ensures segment { self.new.segment ≡ self.old.segment }
+        ensures kept { IsPublishing self.new }
     {
         match self.phase {
             Phase::Idle => PubStep::Idle,

@@ -9,12 +9,7 @@ use crate::plays::{Beginning, Begins, Stores};
 use crate::publisher::PubStep;
 use crate::sample::Sample;
 use crate::segment::{Segment, TableSeat};
-
-const COUNT: u8 = 1;
-
-const VALID: u8 = 9;
-
-const BODY: [u8; 9] = [2, 3, 4, 5, 6, 7, 8, 10, 11];
+use crate::word_numbers::{BODY, COUNT, VALID};
 
 /// valid 0, with which the sample joins the publisher's list.
 pub(crate) fn store_invalid<B: Beginning>(

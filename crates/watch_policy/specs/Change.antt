@@ -1,6 +1,6 @@
 -- What the object of a WATCH request changes: its members after gpsd_json(5), the rules on absent members
 -- and on refusals this project's own.
-use Rattle.std.specs.Prelude.{ℕ, true, List, [], ◌∷◌, Option, Some, None, option_map, option_and_then, if◌then◌else◌, nat_le, codes}
+use Rattle.std.specs.Prelude.{◌≡◌, ◌<◌, ℕ, Bool, length, true, List, [], ◌∷◌, Option, Some, None, option_map, option_and_then, if◌then◌else◌, nat_le, codes}
 use Rattle.std.specs.Option.{unwrap_or}
 use Rattle.serde_json.specs.Data.{Data}
 use Rattle.serde_json.specs.Find.{get, as_bool, as_number, as_u64, as_str, as_object}
@@ -11,10 +11,14 @@ use Rattle.watch_policy.specs.declared.change.Change.{Change}
 use Rattle.watch_policy.specs.declared.change.ChangeFault.{ChangeFault}
 use Rattle.watch_policy.specs.declared.change.ChangeFault.TheVariants as fault
 
--- A member that is absent, or is there and reads so; no answer where it is there and cannot be read.
-abbrev pub member : {X : Type 0} → (Data → Option X) → Option Data → Option (Option X)
-member read None = Some None
-member read (Some value) = option_map (λ x. Some x) (read value)
+-- a value that is absent, or is there and reads so; no answer where it is there and cannot be read
+abbrev pub read_if : {X : Type 0} → (Data → Option X) → Option Data → Option (Option X)
+read_if read None = Some None
+read_if read (Some value) = option_map (λ x. Some x) (read value)
+
+-- the member of this key
+abbrev pub member : {X : Type 0} → List ℕ → (Data → Option X) → Data → Option (Option X)
+member key read value = read_if read (get key value)
 
 -- a whole number from 0 to 2; `2.0` is no whole number
 abbrev pub raw_of : Data → Option ℕ
@@ -28,29 +32,26 @@ device_text (c ∷ text) = if is_name (c ∷ text) then Some (Some (c ∷ text))
 abbrev pub device_of : Data → Option (Option (List ℕ))
 device_of value = option_and_then device_text (as_str value)
 
+-- what six members change, where each can be read
+abbrev pub change_by : (enable json nmea : Option (Option Bool)) (raw : Option (Option ℕ)) (pps : Option (Option Bool)) (device : Option (Option (Option (List ℕ)))) → Option Change
+change_by (Some enable) (Some json) (Some nmea) (Some raw) (Some pps) (Some device) =
+    Some (record { enable = unwrap_or enable true; json = json; nmea = nmea; raw = raw; pps = pps; device = device })
+change_by enable json nmea raw pps device = None
+
 abbrev pub change_in : Data → Option Change
 change_in value =
-    option_and_then (λ _.
-    option_and_then (λ enable.
-    option_and_then (λ json.
-    option_and_then (λ nmea.
-    option_and_then (λ raw.
-    option_and_then (λ pps.
-    option_map (λ device. record {
-      enable = unwrap_or enable true;
-      json = json;
-      nmea = nmea;
-      raw = raw;
-      pps = pps;
-      device = device;
-    })
-    (member device_of (get (codes "device") value)))
-    (member as_bool (get (codes "pps") value)))
-    (member raw_of (get (codes "raw") value)))
-    (member as_bool (get (codes "nmea") value)))
-    (member as_bool (get (codes "json") value)))
-    (member as_bool (get (codes "enable") value)))
+    option_and_then (λ _. change_by
+    (member (codes "enable") as_bool value)
+    (member (codes "json") as_bool value)
+    (member (codes "nmea") as_bool value)
+    (member (codes "raw") raw_of value)
+    (member (codes "pps") as_bool value)
+    (member (codes "device") device_of value))
     (as_object value)
+
+-- the object has a text for a device, and it is not empty
+abbrev pub NamesDevice : Data → Type 0
+NamesDevice value = (text : List ℕ) × (option_and_then as_str (get (codes "device") value) ≡ Some text) × (0 < length text)
 
 -- the refusal of a text as a name, as a refusal of the object
 abbrev pub fault_of_name : NameFault → ChangeFault

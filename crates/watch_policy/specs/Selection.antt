@@ -1,6 +1,6 @@
 -- Which report a policy selects, and in which form: the members `enable`, `json`, `nmea`, `raw`, `pps` and
 -- `device` of a WATCH object, after gpsd_json(5).
-use Rattle.std.specs.Prelude.{ℕ, Bool, true, ◌&&◌, ◌||◌, List, Option, Some, None, if◌then◌else◌, nat_eq, nat_le, slice_index_or, []}
+use Rattle.std.specs.Prelude.{ℕ, Bool, true, false, ◌&&◌, ◌||◌, List, Option, Some, None, if◌then◌else◌, nat_eq, nat_le, slice_index_or, []}
 use Rattle.std.specs.Cmp.Lexicographic.{pointwise}
 use Rattle.gps_report.specs.declared.packet.PacketKind.{PacketKind}
 use Rattle.gps_report.specs.declared.packet.PacketKind.TheVariants.{Nmea, Ubx}
@@ -10,6 +10,23 @@ use Rattle.gps_report.specs.declared.policy.Policy.{Policy}
 use Rattle.gps_report.specs.declared.report.Body.{Body}
 use Rattle.gps_report.specs.declared.report.Body.TheVariants.{Packet, Tpv, Sky, Toff, Pps, Device}
 use Rattle.gps_report.specs.declared.report.Report.{Report}
+
+-- the forms of a packet: a sentence goes as it came, a frame as it came or as a line of digits
+abbrev pub packet_has : PacketKind → Form → Bool
+packet_has Nmea Text = true
+packet_has Ubx Hex = true
+packet_has Ubx Verbatim = true
+packet_has kind form = false
+
+-- the form of all other reports
+abbrev pub is_json : Form → Bool
+is_json Json = true
+is_json form = false
+
+-- which forms a report of this body can have
+abbrev pub can_have : Body → Form → Bool
+can_have (Packet packet) form = packet_has packet.kind form
+can_have body form = is_json form
 
 abbrev pub where_asked : Bool → Form → Option Form
 where_asked asked form = if asked then Some form else None

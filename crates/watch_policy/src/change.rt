@@ -1,7 +1,7 @@
-ghost use Rattle.std.specs.Prelude.{◌≡◌, None, IfOk, IfErr, codes};
-ghost use Rattle.serde_json.specs.Find.{as_bool, get};
+ghost use Rattle.std.specs.Prelude.{◌≡◌, ◌<◌, ℕ, List, Some, None, IfOk, IfErr, codes, length};
+ghost use Rattle.serde_json.specs.Find.{as_bool, as_str};
 ghost use Rattle.serde_json.specs.View.{view};
-ghost use Rattle.watch_policy.specs.Change.{change_in, device_of, member, raw_of};
+ghost use Rattle.watch_policy.specs.Change.{NamesDevice, change_in, device_of, member, raw_of};
 
 use gps_fixed::NoMemory;
 use gps_report::{Name, NameFault};
@@ -31,8 +31,9 @@ pub enum ChangeFault {
 }
 
 fn flag(value: &Value, key: &str) -> Result<Option<bool>, ChangeFault>
-    ensures ok { IfOk result (λ flag. member as_bool (get key.now (view value.now)) ≡ Some flag) }
-    ensures bad { IfErr result (λ _. member as_bool (get key.now (view value.now)) ≡ None) }
+    ensures ok { IfOk result (λ flag. member key.now as_bool (view value.now) ≡ Some flag) }
+    ensures fault { IfErr result (λ fault. fault ≡ ChangeFault.BadWatch) }
+    ensures bad { IfErr result (λ _. member key.now as_bool (view value.now) ≡ None) }
 {
     match value.get(key) {
         None => Ok(None),
@@ -55,8 +56,9 @@ fn raw_level(value: &Value) -> Option<u8>
 }
 
 fn raw_member(value: &Value) -> Result<Option<u8>, ChangeFault>
-    ensures ok { IfOk result (λ raw. member raw_of (get (codes "raw") (view value.now)) ≡ Some raw) }
-    ensures bad { IfErr result (λ _. member raw_of (get (codes "raw") (view value.now)) ≡ None) }
+    ensures ok { IfOk result (λ raw. member (codes "raw") raw_of (view value.now) ≡ Some raw) }
+    ensures fault { IfErr result (λ fault. fault ≡ ChangeFault.BadWatch) }
+    ensures bad { IfErr result (λ _. member (codes "raw") raw_of (view value.now) ≡ None) }
 {
     match value.get("raw") {
         None => Ok(None),
@@ -84,6 +86,7 @@ impl From<NameFault> for ChangeFault {
 fn device_named(alloc: Global, value: &Value) -> Result<Option<Name>, ChangeFault>
     ensures ok { IfOk result (λ device. device_of (view value.now) ≡ Some device) }
     ensures bad { result ≡ Err ChangeFault.BadWatch → device_of (view value.now) ≡ None }
+    ensures memory { result ≡ Err ChangeFault.NoMemory → (text : List ℕ) × (as_str (view value.now) ≡ Some text) × (0 < length text) }
 {
     match value.as_str() {
         None => Err(ChangeFault::BadWatch),
@@ -93,9 +96,10 @@ fn device_named(alloc: Global, value: &Value) -> Result<Option<Name>, ChangeFaul
 }
 
 fn device_member(alloc: Global, value: &Value) -> Result<Option<Option<Name>>, ChangeFault>
-    ensures ok { IfOk result (λ device. member device_of (get (codes "device") (view value.now)) ≡ Some device) }
+    ensures ok { IfOk result (λ device. member (codes "device") device_of (view value.now) ≡ Some device) }
     ensures bad { result ≡ Err ChangeFault.BadWatch
-        → member device_of (get (codes "device") (view value.now)) ≡ None }
+        → member (codes "device") device_of (view value.now) ≡ None }
+    ensures memory { result ≡ Err ChangeFault.NoMemory → NamesDevice (view value.now) }
 {
     match value.get("device") {
         None => Ok(None),
@@ -105,10 +109,12 @@ fn device_member(alloc: Global, value: &Value) -> Result<Option<Option<Name>>, C
 
 /// What a WATCH object changes. `BadWatch` comes exactly where the value is no object, where `enable`,
 /// `json`, `nmea` or `pps` is there and no truth value, where `raw` is there and not the whole number 0, 1
-/// or 2, or where `device` is there and neither a name nor the empty text. Other members are ignored.
+/// or 2, or where `device` is there and neither a name nor the empty text. Other members are ignored. Memory
+/// is taken for the name of a device alone.
 pub fn change_of(alloc: Global, value: &Value) -> Result<Change, ChangeFault>
     ensures ok { IfOk result (λ change. change_in (view value.now) ≡ Some change) }
     ensures bad { result ≡ Err ChangeFault.BadWatch → change_in (view value.now) ≡ None }
+    ensures memory { result ≡ Err ChangeFault.NoMemory → NamesDevice (view value.now) }
 {
     if !value.is_object() {
         return Err(ChangeFault::BadWatch);

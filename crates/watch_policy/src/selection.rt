@@ -1,10 +1,11 @@
-ghost use Rattle.std.specs.Prelude.{◌≡◌, ◌<◌, length, slice_index};
-ghost use Rattle.watch_policy.specs.Selection.{body_form, packet_form, selected, watches};
+ghost use Rattle.std.specs.Prelude.{◌≡◌, ◌<◌, IfSome, length, slice_index, true};
+ghost use Rattle.watch_policy.specs.Selection.{body_form, can_have, packet_form, packet_has, selected, watches};
 
 use gps_report::{Body, Form, Name, Names, PacketKind, Policy, Report};
 
 fn packet_form_of(policy: &Policy, kind: PacketKind) -> Option<Form>
-    ensures { result ≡ packet_form policy.now kind }
+    ensures form { result ≡ packet_form policy.now kind }
+    ensures can { IfSome result (λ form. packet_has kind form ≡ true) }
 {
     match kind {
         PacketKind::Nmea => (policy.nmea || policy.raw >= 1).then_some(Form::Text),
@@ -17,7 +18,8 @@ fn packet_form_of(policy: &Policy, kind: PacketKind) -> Option<Form>
 }
 
 fn body_form_of(policy: &Policy, body: &Body) -> Option<Form>
-    ensures { result ≡ body_form policy.now body.now }
+    ensures form { result ≡ body_form policy.now body.now }
+    ensures can { IfSome result (λ form. can_have body.now form ≡ true) }
 {
     match body {
         Body::Packet(packet) => packet_form_of(policy, packet.kind),
@@ -47,7 +49,8 @@ fn is_watched(device: &Option<Name>, name: &Name) -> bool
 /// | a frame | `raw` of 2 | Verbatim |
 pub fn selects(policy: &Policy, names: &Names, report: &Report) -> Option<Form>
     requires { report.now.device < length names.now }
-    ensures { result ≡ selected policy.now names.now report.now }
+    ensures form { result ≡ selected policy.now names.now report.now }
+    ensures can { IfSome result (λ form. can_have report.now.body form ≡ true) }
 {
     let name = &names.as_slice()[usize::from(report.device)];
     if policy.enable && is_watched(&policy.device, name) {

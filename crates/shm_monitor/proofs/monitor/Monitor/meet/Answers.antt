@@ -14,7 +14,7 @@ join_seat-requires c =
       part_of _ _ _ c.segment.view_is _ (ap (λ (s : SegmentId). s.table) theirs),
       ap (λ m. m.1) c.notice.invariant,
       (let words = c.segment.invariant in omega arith),
-      takes_notice _ 0 _ c.self.inside.seat.me.0 c.self.invariant.role _ _,
+      takes_notice _ 0 _ c.self.inside.seat.me.0 c.self.invariant.role _ _ (λ is. let notice = ap (λ m. m.0.role) c.notice.invariant in cc),
     )
 
 pub load-requires : goal.load-requires

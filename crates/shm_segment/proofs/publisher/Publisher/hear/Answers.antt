@@ -16,7 +16,7 @@ join_seat-requires c =
       part_of _ _ _ is _ (ap (λ (s : SegmentId). s.table) theirs),
       ap (λ m. m.1) c.account.invariant,
       (let words = c.segment.invariant in omega arith),
-      takes_account_as _ _ c.self.inside.seat.me first c.self.invariant.view _ _,
+      takes_account_as _ _ c.self.inside.seat.me first c.self.invariant.view _ _ (λ is. let account = ap (λ m. m.0.role) c.account.invariant in cc),
     )
 
 pub load-requires : goal.load-requires

@@ -21,6 +21,8 @@ run() {
 
 sentence='$GPRMC,123519,A,4807.038,N,01131.000,E,022.4,084.4,230394,003.1,W*6A'
 line='{"class":"TPV","device":"stdin","mode":2,"time":"1994-03-23T12:35:19.000Z","lat":48.117300000,"lon":11.516666667,"track":84.4000,"speed":11.524}'
+later='$GPGGA,123520,4807.038,N,01131.000,E,1,08,0.9,545.4,M,46.9,M,,*4D'
+later_line='{"class":"TPV","device":"stdin","mode":3,"time":"1994-03-23T12:35:20.000Z","lat":48.117300000,"lon":11.516666667,"altMSL":545.400,"geoidSep":46.900}'
 printf '%s\r\n' "$sentence" >"$place/in"
 printf '%s\r\n' "$line" >"$place/line"
 
@@ -30,6 +32,18 @@ check 'decode: the line of the fix' "$(od -c "$place/line")" "$(od -c "$place/ou
 check 'decode: nothing on standard error' '' "$(cat "$place/err")"
 
 check 'decode from a pipe' "$line" "$( (printf '%s' "$sentence"; sleep 0.2; printf '\r\n') | "$program" decode | tr -d '\r')"
+
+# An epoch's line comes out while the pipe is still open: the second sentence closes the epoch of the first.
+mkfifo "$place/pipe"
+"$program" decode <"$place/pipe" >"$place/out" 2>"$place/err" &
+exec 3>"$place/pipe"
+printf '%s\r\n%s\r\n' "$sentence" "$later" >&3
+for _ in $(seq 100); do [ -s "$place/out" ] && break; sleep 0.1; done
+check 'an epoch closes while the pipe is open' "$line" "$(tr -d '\r' <"$place/out")"
+exec 3>&-
+wait $!
+check 'the pipe ends: status' 0 $?
+check 'the pipe ends: the line of the last fix' "$later_line" "$(tail -n +2 "$place/out" | tr -d '\r')"
 
 run decode --history 69
 check 'one byte more than the history: status' 5 "$status"
@@ -44,23 +58,69 @@ for words in '' 'frob' 'decode --history 0' 'decode --history x' 'decode --help'
     check "refused words '$words': the usage line" 'usage: gpsrelay decode' "$(cat "$place/err")"
 done
 
+for words in $'dec\xffode' $'decode --history \xff' $'decode \xff'; do
+    run $words
+    check "words that are no text: status" 2 "$status"
+    check "words that are no text: nothing on standard output" '' "$(cat "$place/out")"
+    check "words that are no text: the usage line" 'usage: gpsrelay decode' "$(cat "$place/err")"
+done
+
+"$program" frob 2>&-
+check 'refused words, standard error closed: status' 2 $?
+"$program" $'\xff' 2>&-
+check 'words that are no text, standard error closed: status' 2 $?
+
 "$program" decode <"$samples" >"$place/out" 2>"$place/err"
 check 'a read that fails: status' 3 $?
 check 'a read that fails: nothing is written' '' "$(cat "$place/out")"
+"$program" decode <&- >"$place/out" 2>"$place/err"
+check 'standard input closed: status' 3 $?
+"$program" decode <"$place/in" >&- 2>"$place/err"
+check 'standard output closed: status' 4 $?
+"$program" decode </dev/null >&- 2>"$place/err"
+check 'standard output closed, and nothing to write: status' 0 $?
 
 if [ -w /dev/full ]; then
     "$program" decode <"$place/in" >/dev/full 2>"$place/err"
     check 'a write that fails: status' 4 $?
+    "$program" frob 2>/dev/full
+    check 'refused words, standard error full: status' 2 $?
 fi
 
-# The reader takes ten lines and closes the pipe: the program ends by itself, by its own status or by the signal of the pipe.
+# The reader takes ten lines and closes the pipe: the program ends by itself.
 (for _ in $(seq 200); do cat "$samples/drive.nmea"; done) >"$place/in"
 { timeout 60 "$program" decode <"$place/in"; echo $? >"$place/status"; } | head -n 10 >"$place/out"
 check 'a pipe that is closed early: ten lines' 10 "$(wc -l <"$place/out")"
-case "$(cat "$place/status")" in
-    4 | 141) check 'a pipe that is closed early: the program ends' ended ended ;;
-    *) check 'a pipe that is closed early: the program ends' '4 or 141' "$(cat "$place/status")" ;;
-esac
+check 'a pipe that is closed early: status' 4 "$(cat "$place/status")"
+
+# checksum TEXT: the sentence of this body
+checksum() {
+    local sum=0 at
+    for ((at = 0; at < ${#1}; at++)); do sum=$((sum ^ $(printf '%d' "'${1:at:1}"))); done
+    printf '$%s*%02X\r\n' "$1" "$sum"
+}
+
+# limited KILOBYTES WORD..: the status under a limit of memory; 126 and 127 say that the system could not begin the program
+limited() {
+    (ulimit -v "$1"; shift; exec "$program" "$@" <"$place/in" >"$place/out" 2>"$place/err") 2>"$place/shell"
+}
+
+# One epoch of 1,600 satellites, whose line takes some hundred kilobytes. Under each limit of memory the program ends by 0 or by 7, and
+# refused words by 2 or by 7.
+for ((id = 1; id <= 797; id += 4)); do
+    checksum "GPGSV,1,1,04,$id,40,083,46,$((id + 1)),17,308,41,$((id + 2)),07,344,39,$((id + 3)),22,228,45,1"
+    checksum "GPGSV,1,1,04,$id,40,083,46,$((id + 1)),17,308,41,$((id + 2)),07,344,39,$((id + 3)),22,228,45,2"
+done >"$place/in"
+statuses='' refused=''
+for limit in $(seq 2000 20 4500); do
+    limited "$limit" decode
+    statuses+="$? "
+    limited "$limit" frob
+    refused+="$? "
+done
+check 'limits of memory: no status but 0 and 7' '' "$(tr ' ' '\n' <<<"$statuses" | grep -vxE '0|7|126|127|')"
+check 'limits of memory: both' '0 7 ' "$(tr ' ' '\n' <<<"$statuses" | grep -xE '0|7' | sort -u | tr '\n' ' ')"
+check 'limits of memory, refused words: no status but 2 and 7' '' "$(tr ' ' '\n' <<<"$refused" | grep -vxE '2|7|126|127|')"
 
 cp "$samples/drive.nmea" "$place/in"
 run decode
@@ -68,5 +128,24 @@ check 'the sample drive: status' 0 "$status"
 check 'the sample drive: fixes' 180 "$(grep -c '"class":"TPV"' "$place/out")"
 check 'the sample drive: skies' 180 "$(grep -c '"class":"SKY"' "$place/out")"
 check 'the sample drive: nothing else' 0 "$(grep -vc '"class":"\(TPV\|SKY\)"' "$place/out")"
+
+# Its first two lines are of a second without a fix, and lines 21 and 22 of the first second with one.
+without='{"class":"TPV","device":"stdin","mode":1,"time":"2024-06-01T10:15:00.000Z"}'
+sky() {
+    local text='{"class":"SKY","device":"stdin","time":"'$1'","pdop":'$2',"hdop":'$3',"vdop":'$4',"nSat":8,"uSat":'$5',"satellites":[' satellite
+    for satellite in 2,17,308,41 5,62,112,47 12,7,344,33 14,22,228,45 21,38,71,44 25,51,190,46 29,74,20,48 31,11,265,36; do
+        IFS=, read -r id el az ss <<<"$satellite"
+        used=false
+        [[ $5 != 0 && " 5 14 21 25 29 " == *" $id "* ]] && used=true
+        text+='{"PRN":'$id',"el":'$el',"az":'$az',"ss":'$ss',"used":'$used',"gnssid":0,"svid":'$id'},'
+    done
+    printf '%s]}' "${text%,}"
+}
+with='{"class":"TPV","device":"stdin","mode":3,"time":"2024-06-01T10:15:10.000Z","lat":48.117300000,"lon":11.516666667,"altMSL":545.400,"geoidSep":46.900,"track":84.4000,"speed":13.900}'
+nth() { sed -n "$1p" "$place/out" | tr -d '\r'; }
+check 'the sample drive: the first fix' "$without" "$(nth 1)"
+check 'the sample drive: the first sky' "$(sky 2024-06-01T10:15:00.000Z 99.99 99.99 99.99 0)" "$(nth 2)"
+check 'the sample drive: the fix of the eleventh second' "$with" "$(nth 21)"
+check 'the sample drive: the sky of the eleventh second' "$(sky 2024-06-01T10:15:10.000Z 1.83 0.94 1.57 5)" "$(nth 22)"
 
 exit $failed

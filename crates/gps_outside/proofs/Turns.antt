@@ -106,7 +106,7 @@ pub ends_failed : (limit : ℕ) (bytes buf : List ℕ) (b : Budget) (before now 
 ends_failed limit bytes buf b before now after quiets quiets' taken handed = (
   let h = taken.room in omega arith,
   goes_on (Passes bytes) MayLose (TakesSome bytes) before now after
-      (λ x y z p q. record { next = (y.left, p.next); joins = q.same ∙ p.joins })
+      (λ x y z p q. record { rest = y.left; next = p.next; joins = q.same ∙ p.joins; kept = q.lost })
       taken.passed handed,
 )
 

@@ -8,3 +8,6 @@ pub mod ReadPlans
 pub mod WritePlans
 pub mod ClockPlans
 pub mod Turns
+pub mod Inflow
+pub mod Links
+pub mod DoorPlans

@@ -1,11 +1,11 @@
 -- A source that is read to its end, with a limit of bytes and a limit of quiets. This project's own.
-use Rattle.std.specs.Prelude.{◌≡◌, ℕ, ◌+◌, ◌-◌, ◌<◌, ◌≤◌, List, [], ◌++◌, length, take, Option}
+use Rattle.std.specs.Prelude.{◌≡◌, ℕ, ◌+◌, ◌-◌, ◌<◌, ◌≤◌, ◌⊎◌, List, [], ◌++◌, length, take, Option}
 use Rattle.gps_outside.specs.declared.intake.IntakeStep.{IntakeStep}
 use Rattle.gps_outside.specs.declared.intake.IntakeStep.TheVariants.{Piece, Quiet, Last, End, Failed, TooQuiet}
 use Rattle.gps_outside.specs.declared.whole.Ending.{Ending}
 use Rattle.gps_outside.specs.declared.whole.Ending.TheVariants.{AtEnd, Full, Failed as EndsFailed, TooQuiet as EndsTooQuiet}
 use Rattle.gps_outside.specs.Counts.{Rose, RoseBy}
-use Rattle.gps_outside.specs.Told.{Stream, Goes, Stays, Passes, IsAtEnd, MayLose, IsPrefix}
+use Rattle.gps_outside.specs.Told.{Stream, Goes, Stays, Passes, IsAtEnd, MayLose}
 
 -- how many bytes may still be taken, and how many quiets were counted; the thousandth quiet ends the reading
 pub record Budget : Type 0 where
@@ -68,10 +68,12 @@ pub record TakesAll (bytes : List ℕ) (before after : Stream) : Type 0 where
   pub joins : after.taken ≡ before.taken ++ bytes
   pub none : after.left ≡ []
 
--- the bytes are the next of those that were left, and what else was left may be lost
+-- the bytes are the next of those that were left; what else was left stays, or is lost
 pub record TakesSome (bytes : List ℕ) (before after : Stream) : Type 0 where
-  pub next : IsPrefix bytes before.left
+  pub rest : List ℕ
+  pub next : before.left ≡ bytes ++ rest
   pub joins : after.taken ≡ before.taken ++ bytes
+  pub kept : (after.left ≡ rest) ⊎ (after.left ≡ [])
 
 -- what a reading's ending says of the content, for the bytes that it handed on
 abbrev pub ReadsToEnd : Ending → ℕ → List ℕ → Option Stream → Option Stream → Type 0

@@ -1,16 +1,20 @@
-//! The outside of gpsrelay: where bytes come from, where they go, and what time it is.
+//! The outside of gpsrelay: where bytes come from, where they go, what time it is, and who comes.
 //!
-//! A source, a sink and a clock each have a form in memory, which follows a plan and tells its content, and an
+//! A source, a sink, a clock and a door each have a form in memory, which follows a plan and tells its content, and an
 //! adapter over std, which tells none. Faults and quiets are counted, so that an answer can show its cause.
 #![tactic(auto)]
 
 mod clock;
+mod door;
 mod intake;
 mod memory_clock;
+mod memory_door;
 mod memory_sink;
 mod memory_source;
 mod plan;
+mod reader_source;
 mod real_clock;
+mod real_door;
 mod real_sink;
 mod real_source;
 mod sink;
@@ -20,12 +24,16 @@ mod tests;
 mod whole;
 
 pub use clock::Clock;
+pub use door::{Door, DoorStep};
 pub use intake::{Intake, IntakeStep};
 pub use memory_clock::MemoryClock;
+pub use memory_door::MemoryDoor;
 pub use memory_sink::MemorySink;
 pub use memory_source::MemorySource;
-pub use plan::{AtEnd, ReadPlan, WritePlan};
+pub use plan::{AtEnd, DoorPlan, ReadPlan, WritePlan};
+pub use reader_source::ReaderSource;
 pub use real_clock::RealClock;
+pub use real_door::{RealDoor, directions_of};
 pub use real_sink::RealSink;
 pub use real_source::RealSource;
 pub use sink::{Sink, WriteStep, write_all};

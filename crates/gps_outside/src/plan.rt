@@ -28,6 +28,15 @@ pub enum WritePlan {
     Fail,
 }
 
+/// What the next call of a door in memory does.
+#[derive(Drop)]
+pub enum DoorPlan<I, K> {
+    /// Gives this link: its source and its sink.
+    Link(I, K),
+    Quiet,
+    Fail,
+}
+
 /// Takes the next entry of a plan; none comes after it.
 pub(crate) fn next_entry<T>(plan: &mut IntoIter<T>) -> Option<T>
     ensures entry { result ≡ first_of (into_iter_items plan.old) }

@@ -1,15 +1,25 @@
-ghost use Rattle.std.specs.Prelude.{◌≡◌};
+ghost use Rattle.std.specs.Prelude.{◌≡◌, ◌≤◌, length, IfOk};
 
 use crate::{Sink, WriteStep};
-use std::io::{Stdout, Write};
+use std::io::{self, ErrorKind, Stdout, Write};
 use std::marker::Model;
+use std::net::{Shutdown, TcpStream};
 
-/// Standard output as a sink, with no buffer between: each write is one call of the system.
+/// Where a real sink writes.
+#[derive(Drop)]
+enum Outlet {
+    Output(Stdout),
+    Stream(TcpStream),
+    Finished,
+}
+
+/// Standard output or a TCP stream as a sink, with no buffer between: each write is one call of the system.
 ///
-/// It is seen as the number of its faults, and tells no content.
+/// It is seen as the number of its faults, and tells no content. A write that fails for any reason is a fault, as one
+/// that timed out or took no byte.
 #[derive(Drop)]
 pub struct RealSink {
-    output: Stdout,
+    outlet: Outlet,
     faults: u64,
 }
 
@@ -25,7 +35,31 @@ impl RealSink {
     pub fn of_output(output: Stdout) -> RealSink
         ensures { result ≡ 0 }
     {
-        RealSink { output, faults: 0 }
+        RealSink {
+            outlet: Outlet::Output(output),
+            faults: 0,
+        }
+    }
+
+    /// Writes to a TCP stream, with the time-out that it has.
+    pub fn of_stream(stream: TcpStream) -> RealSink
+        ensures { result ≡ 0 }
+    {
+        RealSink {
+            outlet: Outlet::Stream(stream),
+            faults: 0,
+        }
+    }
+
+    fn write_out(&mut self, piece: &[u8]) -> io::Result<usize>
+        ensures faults { self.new ≡ self.old }
+        ensures most { IfOk result (λ n. n ≤ length piece.now) }
+    {
+        match &mut self.outlet {
+            Outlet::Output(output) => output.write(piece),
+            Outlet::Stream(stream) => stream.write(piece),
+            Outlet::Finished => Err(io::Error::from(ErrorKind::NotConnected)),
+        }
     }
 }
 
@@ -37,12 +71,20 @@ impl Sink for RealSink {
     ghost written = { λ _. None };
 
     fn write(&mut self, piece: &[u8]) -> WriteStep {
-        match self.output.write(piece) {
+        match self.write_out(piece) {
             Ok(n) if n > 0 => WriteStep::Wrote(n),
             _ => {
                 self.faults = self.faults.saturating_add(1);
                 WriteStep::Failed
             }
         }
+    }
+
+    /// A stream is shut down on both sides, so that a read of it that waits ends at once, and let go of.
+    fn finish(&mut self) {
+        if let Outlet::Stream(stream) = &self.outlet {
+            let _ = stream.shutdown(Shutdown::Both);
+        }
+        self.outlet = Outlet::Finished;
     }
 }

@@ -1,68 +1,61 @@
-ghost use Rattle.std.specs.Prelude.{◌≡◌, ◌≤◌, ◌<◌, length, IfOk};
+ghost use Rattle.std.specs.Prelude.{◌≡◌, IfOk};
 
-use crate::{ReadStep, Source};
+use crate::reader_source::is_quiet;
+use crate::{ReadStep, ReaderSource, Source};
+use gps_fixed::NoMemory;
+use std::alloc::Global;
 use std::fs::File;
-use std::io::{self, ErrorKind, Read, Stdin};
+use std::io::{self, BufReader, ErrorKind, Read, Stdin};
 use std::marker::Model;
+use std::net::TcpStream;
 
-/// So many bytes are asked of the system at once.
+/// So many bytes are asked of a file or of standard input at once.
 const AHEAD: usize = 32_768;
 
+/// What a real source reads. At its end, and after a fault, it lets go of what it read.
 #[derive(Drop)]
 enum Inlet {
-    File(File),
-    Input(Stdin),
+    File(BufReader<File>),
+    Input(BufReader<Stdin>),
+    Stream(TcpStream),
+    Ended,
+    Broken,
 }
 
-/// A file or standard input as a source. It counts its faults and quiets, and tells no content.
+impl Read for Inlet {
+    fn read(&mut self, buf: &mut [u8]) -> io::Result<usize> {
+        let result = match self {
+            Inlet::File(file) => file.read(buf),
+            Inlet::Input(input) => input.read(buf),
+            Inlet::Stream(stream) => stream.read(buf),
+            Inlet::Ended => Ok(0),
+            Inlet::Broken => Err(io::Error::from(ErrorKind::NotConnected)),
+        };
+        match &result {
+            Ok(0) => *self = Inlet::Ended,
+            Err(error) if !is_quiet(error) => *self = Inlet::Broken,
+            _ => {}
+        }
+        result
+    }
+}
+
+/// A file, standard input or a TCP stream as a source. It counts its faults and quiets, and tells no content.
 ///
-/// It asks the system for more than a read may take, and hands what came ahead on to the next reads. It never waits for more than
-/// came at once.
+/// Of a file and of standard input it asks the system for more than a read may take, and hands what came ahead on to the
+/// next reads; it never waits for more than came at once. A stream is read as it is asked. A read that times out is
+/// quiet. After its end it stays ended, and after a fault each read is a fault.
 #[derive(Drop)]
 pub struct RealSource {
-    inlet: Inlet,
-    ahead: [u8; AHEAD],
-    from: usize,
-    to: usize,
-    faults: u64,
-    quiets: u64,
+    reader: ReaderSource<Inlet>,
 }
 
 impl Model for RealSource {
-    ghost use Rattle.std.specs.Prelude.{◌≤◌};
     ghost use Rattle.gps_outside.specs.Counts.{Tally};
 
     ghost Value = { Tally };
 
-    ghost view = { λ s. record { faults = s.faults; quiets = s.quiets } };
-
-    // What came ahead stands between the two places.
-    ghost invariant = { λ s. (s.from ≤ s.to) × (s.to ≤ 32768) };
-}
-
-fn read_inlet(inlet: &mut Inlet, buf: &mut [u8]) -> io::Result<usize>
-    ensures { IfOk result (λ n. n ≤ length buf.old) }
-{
-    match inlet {
-        Inlet::File(file) => file.read(buf),
-        Inlet::Input(input) => input.read(buf),
-    }
-}
-
-/// Hands on what came ahead, as much as fits.
-fn hand_on(ahead: &[u8], from: &mut usize, to: usize, buf: &mut [u8]) -> usize
-    requires some { from.old < to }
-    requires fits { to ≤ length ahead.now }
-    requires room { 0 < length buf.old }
-    ensures some { 1 ≤ result }
-    ensures within { result ≤ length buf.old }
-    ensures from { from.new ≤ to }
-    ensures long { length buf.new ≡ length buf.old }
-{
-    let n = buf.len().min(to - *from);
-    buf[..n].copy_from_slice(&ahead[*from..*from + n]);
-    *from += n;
-    n
+    ghost view = { λ s. record { faults = s.reader.faults; quiets = s.reader.quiets } };
 }
 
 impl RealSource {
@@ -70,27 +63,35 @@ impl RealSource {
         ensures { result ≡ record { faults = 0; quiets = 0 } }
     {
         RealSource {
-            inlet,
-            ahead: [0; AHEAD],
-            from: 0,
-            to: 0,
-            faults: 0,
-            quiets: 0,
+            reader: ReaderSource::new(inlet),
         }
     }
 
     /// Reads a file, from where it stands.
-    pub fn of_file(file: File) -> RealSource
-        ensures { result ≡ record { faults = 0; quiets = 0 } }
+    pub fn of_file(alloc: Global, file: File) -> Result<RealSource, NoMemory>
+        ensures { IfOk result (λ s. s ≡ record { faults = 0; quiets = 0 }) }
     {
-        RealSource::new(Inlet::File(file))
+        match BufReader::with_capacity(alloc, AHEAD, file) {
+            Ok(reader) => Ok(RealSource::new(Inlet::File(reader))),
+            Err(_) => Err(NoMemory),
+        }
     }
 
     /// Reads standard input.
-    pub fn of_input(input: Stdin) -> RealSource
+    pub fn of_input(alloc: Global, input: Stdin) -> Result<RealSource, NoMemory>
+        ensures { IfOk result (λ s. s ≡ record { faults = 0; quiets = 0 }) }
+    {
+        match BufReader::with_capacity(alloc, AHEAD, input) {
+            Ok(reader) => Ok(RealSource::new(Inlet::Input(reader))),
+            Err(_) => Err(NoMemory),
+        }
+    }
+
+    /// Reads a TCP stream, with the time-out that it has.
+    pub fn of_stream(stream: TcpStream) -> RealSource
         ensures { result ≡ record { faults = 0; quiets = 0 } }
     {
-        RealSource::new(Inlet::Input(input))
+        RealSource::new(Inlet::Stream(stream))
     }
 }
 
@@ -104,32 +105,6 @@ impl Source for RealSource {
     ghost content = { λ _. None };
 
     fn read(&mut self, buf: &mut [u8]) -> ReadStep {
-        if self.from < self.to {
-            return ReadStep::Got(hand_on(&self.ahead, &mut self.from, self.to, buf));
-        }
-        match read_inlet(&mut self.inlet, &mut self.ahead) {
-            Ok(0) => ReadStep::End,
-            Ok(n) => {
-                self.from = 0;
-                self.to = n;
-                ReadStep::Got(hand_on(&self.ahead, &mut self.from, self.to, buf))
-            }
-            Err(error) if is_quiet(&error) => {
-                self.quiets = self.quiets.saturating_add(1);
-                ReadStep::Quiet
-            }
-            Err(_) => {
-                self.faults = self.faults.saturating_add(1);
-                ReadStep::Failed
-            }
-        }
+        self.reader.read(buf)
     }
-}
-
-/// Whether nothing came this time, but may come later: a read that timed out, would block, or was interrupted.
-fn is_quiet(error: &io::Error) -> bool {
-    matches!(
-        error.kind(),
-        ErrorKind::WouldBlock | ErrorKind::TimedOut | ErrorKind::Interrupted
-    )
 }

@@ -12,6 +12,7 @@ pub trait Sink: Drop {
     ghost use Rattle.std.specs.Prelude.{◌≡◌, ℕ, ◌<◌, ◌≤◌, List, length, Option};
     ghost use Rattle.gps_outside.specs.declared.sink.WriteStep.{WriteStep};
     ghost use Rattle.gps_outside.specs.Counts.{Rose};
+    ghost use Rattle.gps_outside.specs.Told.{Goes, Stays};
     ghost use Rattle.gps_outside.specs.Writes.{FitsPiece, Writes};
 
     /// How often a write failed.
@@ -27,6 +28,12 @@ pub trait Sink: Drop {
         ensures bytes { Writes result piece.now (written self.old) (written self.new) }
         ensures faults_stay { faults self.old ≤ faults self.new }
         ensures failed { result ≡ WriteStep.Failed → Rose (faults self.old) (faults self.new) };
+
+    /// Says that nothing follows, so that what stands behind the sink may be let go of.
+    fn finish(&mut self)
+        ensures bytes { Goes Stays (written self.old) (written self.new) }
+        ensures faults_stay { faults self.old ≤ faults self.new }
+    {}
 }
 
 ghost use Rattle.std.specs.Prelude.{◌≡◌, ◌≤◌, [], false, true};

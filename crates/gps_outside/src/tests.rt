@@ -1,10 +1,17 @@
+ghost use Rattle.std.specs.Prelude.{[], ◌∷◌, IfOk, Some};
+ghost use Rattle.gps_outside.specs.Links.{IsUnread, IsUnwritten};
+ghost use Rattle.gps_outside.specs.DoorPlans.{HaveLinks};
+
 use crate::{
-    AtEnd, Clock, Ending, MemoryClock, MemorySink, MemorySource, ReadPlan, ReadStep, RealClock,
-    RealSink, RealSource, Sink, Source, WritePlan, WriteStep, read_all, write_all,
+    AtEnd, Clock, Door, DoorPlan, DoorStep, Ending, MemoryClock, MemoryDoor, MemorySink,
+    MemorySource, ReadPlan, ReadStep, ReaderSource, RealClock, RealDoor, RealSink, RealSource,
+    Sink, Source, WritePlan, WriteStep, read_all, write_all,
 };
-use gps_fixed::Stamp;
+use gps_fixed::{NoMemory, Stamp};
 use std::alloc::Global;
 use std::fs::{self, File};
+use std::io::{ErrorKind, Read, Write};
+use std::net::{TcpListener, TcpStream};
 use std::test::Fail;
 use std::time::{self, Duration};
 use std::{io, process};
@@ -175,7 +182,7 @@ fn reads_a_real_file(rt: HostRuntime) -> Result<(), Fail> {
         text.push((i % 251) as u8)?;
     }
     fs::write(&rt, path, text.as_slice())?;
-    let mut source = RealSource::of_file(File::open(&rt, path)?);
+    let mut source = RealSource::of_file(rt.alloc(), File::open(&rt, path)?)?;
     let (bytes, ending) = read_all(rt.alloc(), &mut source, 80_000)?;
     fs::remove_file(&rt, path)?;
     assert_eq!(rt;
@@ -183,8 +190,32 @@ fn reads_a_real_file(rt: HostRuntime) -> Result<(), Fail> {
         (text.as_slice(), Ending::AtEnd)
     );
 
-    let mut folder = RealSource::of_file(File::open(&rt, "/tmp")?);
+    let mut folder = RealSource::of_file(rt.alloc(), File::open(&rt, "/tmp")?)?;
     assert_eq!(rt; folder.read(&mut [0; 3]), ReadStep::Failed);
+    assert_eq!(rt; folder.read(&mut [0; 3]), ReadStep::Failed);
+    Ok(())
+}
+
+/// A reader that answers nothing but errors of this kind.
+#[derive(Drop)]
+struct Failing(ErrorKind);
+
+impl Read for Failing {
+    fn read(&mut self, _buf: &mut [u8]) -> io::Result<usize> {
+        Err(io::Error::from(self.0))
+    }
+}
+
+#[test]
+fn a_read_that_times_out_is_quiet(rt: HostRuntime) -> Result<(), Fail> {
+    for (kind, want) in [
+        (ErrorKind::WouldBlock, ReadStep::Quiet),
+        (ErrorKind::TimedOut, ReadStep::Quiet),
+        (ErrorKind::Interrupted, ReadStep::Quiet),
+        (ErrorKind::ConnectionReset, ReadStep::Failed),
+    ] {
+        assert_eq!(rt; ReaderSource::new(Failing(kind)).read(&mut [0; 3]), want);
+    }
     Ok(())
 }
 
@@ -192,6 +223,90 @@ fn reads_a_real_file(rt: HostRuntime) -> Result<(), Fail> {
 fn writes_to_standard_output(rt: HostRuntime) -> Result<(), Fail> {
     let mut sink = RealSink::of_output(rt.stdout());
     assert_eq!(rt; sink.write(b"\n"), WriteStep::Wrote(1));
+    Ok(())
+}
+
+/// What an answer of a door is called.
+fn name_of<I: Drop, K: Drop>(step: DoorStep<I, K>) -> &'static str {
+    match step {
+        DoorStep::Link(_, _) => "link",
+        DoorStep::Quiet => "quiet",
+        DoorStep::Closed => "closed",
+        DoorStep::Failed => "failed",
+    }
+}
+
+fn link_of(alloc: Global) -> Result<DoorPlan<MemorySource, MemorySink>, NoMemory>
+    ensures { IfOk result (λ plan. HaveLinks
+        (λ source. IsUnread (Some source.stream) source.faults source.quiets)
+        (λ sink. IsUnwritten (Some sink.written) sink.faults) (plan ∷ [])) }
+{
+    let source = MemorySource::new(Vec::new(alloc), Vec::new(alloc), AtEnd::End);
+    let sink = MemorySink::new(alloc, Vec::new(alloc), 8)?;
+    Ok(DoorPlan::Link(source, sink))
+}
+
+#[test]
+fn memory_door_follows_its_plan(rt: HostRuntime) -> Result<(), Fail> {
+    for (at_end, last) in [(AtEnd::End, "closed"), (AtEnd::Quiet, "quiet")] {
+        let mut plan = Vec::new(rt.alloc());
+        plan.push(DoorPlan::Quiet)?;
+        plan.push(link_of(rt.alloc())?)?;
+        plan.push(DoorPlan::Fail)?;
+        let mut door = MemoryDoor::new(plan, at_end);
+        for want in ["quiet", "link", "failed", last] {
+            assert_eq!(rt; name_of(door.accept()), want);
+        }
+        assert_eq!(rt; door.faults(), 1);
+    }
+    Ok(())
+}
+
+#[test]
+fn a_link_comes_over_the_loopback(rt: HostRuntime) -> Result<(), Fail> {
+    let listener = TcpListener::bind(&rt, "127.0.0.1:0")?;
+    let address = listener.local_addr()?;
+    let mut door = RealDoor::of_listener(listener)?;
+    assert_eq!(rt; name_of(door.accept()), "quiet");
+
+    let mut client = TcpStream::connect(&rt, address)?;
+    let DoorStep::Link(mut source, mut sink) = door.accept() else {
+        return Err(Fail::from("no link"));
+    };
+    client.write_all(b"abc")?;
+    let mut buf = [0; 8];
+    assert_eq!(rt; source.read(&mut buf), ReadStep::Got(3));
+    assert_eq!(rt; &buf[..3], b"abc".as_slice());
+    assert_eq!(rt; source.read(&mut buf), ReadStep::Quiet);
+
+    assert!(rt; write_all(&mut sink, b"xyz"));
+    sink.finish();
+    assert_eq!(rt; source.read(&mut buf), ReadStep::End);
+    assert_eq!(rt; sink.write(b"x"), WriteStep::Failed);
+    client.read_exact(&mut buf[..3])?;
+    assert_eq!(rt; &buf[..3], b"xyz".as_slice());
+    assert_eq!(rt; client.read(&mut buf)?, 0);
+    Ok(())
+}
+
+#[test]
+fn a_client_that_does_not_read_ends_the_writing(rt: HostRuntime) -> Result<(), Fail> {
+    let listener = TcpListener::bind(&rt, "127.0.0.1:0")?;
+    let client = TcpStream::connect(&rt, listener.local_addr()?)?;
+    let mut door = RealDoor::of_listener(listener)?;
+    let DoorStep::Link(_, mut sink) = door.accept() else {
+        return Err(Fail::from("no link"));
+    };
+    let piece = vec![in rt.alloc(); 0u8; 1_000_000]?;
+    let mut ended = false;
+    for _ in 0..100 {
+        if !write_all(&mut sink, piece.as_slice()) {
+            ended = true;
+            break;
+        }
+    }
+    assert!(rt; ended);
+    client.set_nodelay(true)?;
     Ok(())
 }
 

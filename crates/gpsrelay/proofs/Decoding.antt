@@ -1,7 +1,8 @@
 -- The reading of `decode`, turn by turn, and how it ends.
-use Rattle.std.proofs.Common.{◌≡◌, ℕ, ◌≤◌, inl, inr, List, [], ◌∷◌, ◌++◌, length, take, Option, Some, None, Result, Ok, Err, refl, sym, ◌∙◌, ap, subst, arith}
+use Rattle.std.proofs.Common.{◌≡◌, ℕ, ◌≤◌, ◌⊎◌, inl, inr, List, [], ◌∷◌, ◌++◌, length, take, Option, Some, None, Result, Ok, Err, refl, sym, ◌∙◌, ap, subst, arith}
 use Rattle.std.proofs.lemmas.List.{append-nil, map-append}
 use Rattle.std.proofs.lemmas.List.Concat.{flat_map-append}
+use Rattle.std.proofs.lemmas.Grind.{common_steps}
 use Rattle.gps_fixed.specs.Moment.{Moment}
 use Rattle.gps_report.specs.declared.edge.Symbol.{Symbol}
 use Rattle.gps_report.specs.declared.report.Body.{Body}
@@ -10,7 +11,7 @@ use Rattle.gps_outside.specs.Ticks.{Dial, Gives, GivesAll}
 use Rattle.gps_outside.specs.Counts.{Rose}
 use Rattle.gps_outside.specs.Turns.{Budget, FitsRoom, Spends, Hands, HasTaken, TakesAll, TakesSome, PassesMore}
 use Rattle.gps_outside.specs.declared.intake.IntakeStep.TheVariants.{Piece, Quiet, Last, End, Failed, TooQuiet}
-use Rattle.gps_outside.proofs.Going.{goes_as, goes_on}
+use Rattle.gps_outside.proofs.Going.{goes_on}
 use Rattle.gps_outside.proofs.Dials.{gives_more}
 use Rattle.gps_outside.proofs.Writing.{appends_on, part_on, part_of, appends_none}
 use Rattle.gps_outside.proofs.Turns.{taken_none, taken_piece, taken_quiet, ends_at_end, ends_full, ends_failed, ends_too_quiet}
@@ -19,11 +20,11 @@ use Rattle.device_core.specs.Reports.{reports_from, device_reports, device_close
 use Rattle.device_core.specs.Standing.{Kept, StandsFor}
 use Rattle.device_core.proofs.Streams.{reports-append}
 use Rattle.gpsrelay.specs.declared.outcome.Outcome.{Outcome}
-use Rattle.gpsrelay.specs.declared.outcome.Outcome.TheVariants.{Done, ReadFault, Full, NoMemory}
+use Rattle.gpsrelay.specs.declared.outcome.Outcome.TheVariants.{Done, ReadFault, TooQuiet as QuietOutcome, Full, NoMemory}
 use Rattle.gpsrelay.specs.declared.outcome.Fault.{Fault}
 use Rattle.gpsrelay.specs.declared.outcome.Fault.TheVariants.{Sink, NoMemory as NoMemoryFault}
 use Rattle.gpsrelay.specs.Outcomes.{outcome_of}
-use Rattle.gpsrelay.specs.Readings.{Reading, bytes_of, stamps_of, stream_of}
+use Rattle.gpsrelay.specs.Readings.{ArePieces, IsPiece, PassHistory, Reading, bytes_of, stamps_of, stream_of}
 use Rattle.gpsrelay.specs.Lines.{line_of, lines_of, lines_so_far}
 use Rattle.gpsrelay.specs.Decode.{BrokeOff, Decoded, HandsOn, HasReadSoFar, Written}
 
@@ -49,9 +50,29 @@ lines_join a b = flat_map-append line_of a b
 lines_next : (stream more : List Symbol) (out : List Body) → Gains stream more out → lines_so_far (stream ++ more) ≡ lines_so_far stream ++ lines_of out
 lines_next stream more out gains = ap lines_of gains ∙ lines_join (device_reports stream) out
 
+pieces_next : (readings : List Reading) (reading : Reading) → ArePieces readings → IsPiece reading → ArePieces (readings ++ reading ∷ [])
+pieces_next [] reading all last = (last, tt)
+pieces_next (first ∷ readings) reading all last = (all.0, pieces_next readings reading all.1 last)
+
+-- the bytes of one read into a buffer of 512
+is_piece : (n : ℕ) (buf : List ℕ) (at : Moment) → FitsRoom (Piece n) (length buf) → length buf ≡ 512 → IsPiece (record { at = at; bytes = take n buf })
+is_piece n buf at fits long = grind (arith, common_steps)
+
+-- and those of them that lie within the history
+passes_history : (n : ℕ) (readings : List Reading) (at : Moment) (buf : List ℕ) → ArePieces readings
+    → FitsRoom (Last n) (length buf) → length buf ≡ 512 → PassHistory (with_next readings at (take n buf))
+passes_history n readings at buf pieces fits long = record {
+  front = readings;
+  last = record { at = at; bytes = take n buf };
+  all = refl;
+  pieces = pieces;
+  part = grind (arith, common_steps);
+}
+
 -- So far these readings were handed on, the device stands for their stream, and its lines were written.
 pub record UnderWay (history : ℕ) (budget : Budget) (kept : Kept) (source source' : Option Stream) (quiets quiets' : ℕ) (clock clock' : Option Dial) (sink sink' : Option (List ℕ)) : Type 0 where
   pub readings : List Reading
+  pub pieces : ArePieces readings
   pub taken : HasTaken history (bytes_of readings) budget source source' quiets quiets'
   pub stamps : Goes (GivesAll (stamps_of readings)) clock clock'
   pub stands : StandsFor kept (stream_of readings)
@@ -70,6 +91,7 @@ pub begun : (history : ℕ) (budget : Budget) (kept : Kept) (source : Option Str
     → UnderWay history budget kept source source quiets quiets clock clock sink sink
 begun history budget kept source quiets clock sink new stands = record {
   readings = [];
+  pieces = tt;
   taken = taken_none history budget source quiets new;
   stamps = no_stamps clock;
   stands = stands;
@@ -88,15 +110,16 @@ stamps_on readings at bytes clock clock' clock'' all given =
 pub after_piece : (n history : ℕ) (buf : List ℕ) (budget budget' : Budget) (kept kept' : Kept) (at : Moment) (text : List ℕ)
     (source now after : Option Stream) (quiets quiets' quiets'' : ℕ) (clock clock' clock'' : Option Dial) (sink sink' sink'' : Option (List ℕ))
     → UnderWay history budget kept source now quiets quiets' clock clock' sink sink'
-    → FitsRoom (Piece n) (length buf) → Spends (Piece n) budget budget' → Hands (Piece n) buf now after → quiets' ≤ quiets''
+    → length buf ≡ 512 → FitsRoom (Piece n) (length buf) → Spends (Piece n) budget budget' → Hands (Piece n) buf now after → quiets' ≤ quiets''
     → Goes (Gives at) clock' clock''
     → ((stream : List Symbol) → StandsFor kept stream → HandsOn {X = List ℕ} (Ok text) stream (piece at (take n buf)) kept' sink' sink'')
     → UnderWay history budget' kept' source after quiets quiets'' clock clock'' sink sink''
-after_piece n history buf budget budget' kept kept' at text source now after quiets quiets' quiets'' clock clock' clock'' sink sink' sink'' u fits spent handed more given lines =
+after_piece n history buf budget budget' kept kept' at text source now after quiets quiets' quiets'' clock clock' clock'' sink sink' sink'' u long fits spent handed more given lines =
     let s : List Symbol = stream_of u.readings in
     let h : HandsOn {X = List ℕ} (Ok text) s (piece at (take n buf)) kept' sink' sink'' = lines s u.stands in
     record {
       readings = with_next u.readings at (take n buf);
+      pieces = pieces_next u.readings (record { at = at; bytes = take n buf }) u.pieces (is_piece n buf at fits long);
       taken = subst (λ b. HasTaken history b budget' source after quiets quiets'') (sym (bytes_next u.readings at (take n buf)))
           (taken_piece n history (bytes_of u.readings) buf budget budget' source now after quiets quiets' quiets'' u.taken fits spent handed more);
       stamps = stamps_on u.readings at (take n buf) clock clock' clock'' u.stamps given;
@@ -113,6 +136,7 @@ pub after_quiet : (history : ℕ) (buf : List ℕ) (budget budget' : Budget) (ke
     → UnderWay history budget' kept source after quiets quiets'' clock clock' sink sink'
 after_quiet history buf budget budget' kept source now after quiets quiets' quiets'' clock clock' sink sink' u spent handed rose = record {
   readings = u.readings;
+  pieces = u.pieces;
   taken = taken_quiet history (bytes_of u.readings) buf budget budget' source now after quiets quiets' quiets'' u.taken spent handed rose;
   stamps = u.stamps;
   stands = u.stands;
@@ -146,18 +170,21 @@ broken_so_far fault history readings at bytes kept source after sink sink' sink'
 -- a command that was broken off by a fault, with the readings up to it
 broken_off : (fault : Fault) (history : ℕ) (readings : List Reading) (at : Moment) (bytes : List ℕ) (kept : Kept)
     (source after : Option Stream) (clock clock' clock'' : Option Dial) (sink sink' sink'' : Option (List ℕ))
+    → ArePieces (with_next readings at bytes) ⊎ PassHistory (with_next readings at bytes)
     → HasReadSoFar history (bytes_of readings ++ bytes) source after
     → Goes (GivesAll (stamps_of readings)) clock clock' → Goes (Gives at) clock' clock''
     → Goes (Appends (lines_so_far (stream_of readings))) sink sink'
     → HandsOn {X = List ℕ} (Err fault) (stream_of readings) (piece at bytes) kept sink' sink''
     → Decoded (outcome_of fault) history source after clock clock'' sink sink''
-broken_off Sink history readings at bytes kept source after clock clock' clock'' sink sink' sink'' read all given wrote h = record {
+broken_off Sink history readings at bytes kept source after clock clock' clock'' sink sink' sink'' reads read all given wrote h = record {
   readings = with_next readings at bytes;
+  reads = reads;
   stamps = stamps_on readings at bytes clock clock' clock'' all given;
   ends = broken_so_far Sink history readings at bytes kept source after sink sink' sink'' read wrote h;
 }
-broken_off NoMemoryFault history readings at bytes kept source after clock clock' clock'' sink sink' sink'' read all given wrote h = record {
+broken_off NoMemoryFault history readings at bytes kept source after clock clock' clock'' sink sink' sink'' reads read all given wrote h = record {
   readings = with_next readings at bytes;
+  reads = reads;
   stamps = stamps_on readings at bytes clock clock' clock'' all given;
   ends = broken_so_far NoMemoryFault history readings at bytes kept source after sink sink' sink'' read wrote h;
 }
@@ -165,41 +192,43 @@ broken_off NoMemoryFault history readings at bytes kept source after clock clock
 pub broken_in_piece : (n history : ℕ) (buf : List ℕ) (budget budget' : Budget) (kept kept' : Kept) (at : Moment) (fault : Fault)
     (source now after : Option Stream) (quiets quiets' quiets'' : ℕ) (clock clock' clock'' : Option Dial) (sink sink' sink'' : Option (List ℕ))
     → UnderWay history budget kept source now quiets quiets' clock clock' sink sink'
-    → FitsRoom (Piece n) (length buf) → Spends (Piece n) budget budget' → Hands (Piece n) buf now after → quiets' ≤ quiets''
+    → length buf ≡ 512 → FitsRoom (Piece n) (length buf) → Spends (Piece n) budget budget' → Hands (Piece n) buf now after → quiets' ≤ quiets''
     → Goes (Gives at) clock' clock''
     → ((stream : List Symbol) → StandsFor kept stream → HandsOn {X = List ℕ} (Err fault) stream (piece at (take n buf)) kept' sink' sink'')
     → (outcome : Outcome) → outcome ≡ outcome_of fault
     → Decoded outcome history source after clock clock'' sink sink''
-broken_in_piece n history buf budget budget' kept kept' at fault source now after quiets quiets' quiets'' clock clock' clock'' sink sink' sink'' u fits spent handed more given lines outcome is =
+broken_in_piece n history buf budget budget' kept kept' at fault source now after quiets quiets' quiets'' clock clock' clock'' sink sink' sink'' u long fits spent handed more given lines outcome is =
     let all : HasTaken history (bytes_of u.readings ++ take n buf) budget' source after quiets quiets'' =
     taken_piece n history (bytes_of u.readings) buf budget budget' source now after quiets quiets' quiets'' u.taken fits spent handed more in
     subst (λ o. Decoded o history source after clock clock'' sink sink'') (sym is) (broken_off fault history u.readings at (take n buf) kept' source after clock clock' clock'' sink sink' sink''
+    (inl (pieces_next u.readings (record { at = at; bytes = take n buf }) u.pieces (is_piece n buf at fits long)))
     (inl (let r = all.room in omega arith, all.passed))
     u.stamps given u.wrote (lines (stream_of u.readings) u.stands))
 
 pub broken_in_last : (n history : ℕ) (buf : List ℕ) (budget budget' : Budget) (kept kept' : Kept) (at : Moment) (fault : Fault)
     (source now after : Option Stream) (quiets quiets' : ℕ) (clock clock' clock'' : Option Dial) (sink sink' sink'' : Option (List ℕ))
     → UnderWay history budget kept source now quiets quiets' clock clock' sink sink'
-    → FitsRoom (Last n) (length buf) → Spends (Last n) budget budget' → Hands (Last n) buf now after
+    → length buf ≡ 512 → FitsRoom (Last n) (length buf) → Spends (Last n) budget budget' → Hands (Last n) buf now after
     → Goes (Gives at) clock' clock''
     → ((stream : List Symbol) → StandsFor kept stream → HandsOn {X = List ℕ} (Err fault) stream (piece at (take n buf)) kept' sink' sink'')
     → (outcome : Outcome) → outcome ≡ outcome_of fault
     → Decoded outcome history source after clock clock'' sink sink''
-broken_in_last n history buf budget budget' kept kept' at fault source now after quiets quiets' clock clock' clock'' sink sink' sink'' u fits spent handed given lines outcome is =
+broken_in_last n history buf budget budget' kept kept' at fault source now after quiets quiets' clock clock' clock'' sink sink' sink'' u long fits spent handed given lines outcome is =
     let all : (length (bytes_of u.readings ++ take n buf) ≡ history) × Goes (PassesMore (bytes_of u.readings ++ take n buf)) source after =
     ends_full n history (bytes_of u.readings) buf budget budget' source now after quiets quiets' u.taken fits spent handed in
     subst (λ o. Decoded o history source after clock clock'' sink sink'') (sym is) (broken_off fault history u.readings at (take n buf) kept' source after clock clock' clock'' sink sink' sink''
+    (inr (passes_history n u.readings at buf u.pieces fits long))
     (inr all)
     u.stamps given u.wrote (lines (stream_of u.readings) u.stands))
 
 pub filled : (n history : ℕ) (buf : List ℕ) (budget budget' : Budget) (kept kept' : Kept) (at : Moment) (text : List ℕ)
     (source now after : Option Stream) (quiets quiets' : ℕ) (clock clock' clock'' : Option Dial) (sink sink' sink'' : Option (List ℕ))
     → UnderWay history budget kept source now quiets quiets' clock clock' sink sink'
-    → FitsRoom (Last n) (length buf) → Spends (Last n) budget budget' → Hands (Last n) buf now after
+    → length buf ≡ 512 → FitsRoom (Last n) (length buf) → Spends (Last n) budget budget' → Hands (Last n) buf now after
     → Goes (Gives at) clock' clock''
     → ((stream : List Symbol) → StandsFor kept stream → HandsOn {X = List ℕ} (Ok text) stream (piece at (take n buf)) kept' sink' sink'')
     → Decoded Full history source after clock clock'' sink sink''
-filled n history buf budget budget' kept kept' at text source now after quiets quiets' clock clock' clock'' sink sink' sink'' u fits spent handed given lines =
+filled n history buf budget budget' kept kept' at text source now after quiets quiets' clock clock' clock'' sink sink' sink'' u long fits spent handed given lines =
     let s : List Symbol = stream_of u.readings in
     let h : HandsOn {X = List ℕ} (Ok text) s (piece at (take n buf)) kept' sink' sink'' = lines s u.stands in
     let next : List Reading = with_next u.readings at (take n buf) in
@@ -208,6 +237,7 @@ filled n history buf budget budget' kept kept' at text source now after quiets q
     (ends_full n history (bytes_of u.readings) buf budget budget' source now after quiets quiets' u.taken fits spent handed) in
     record {
       readings = next;
+      reads = passes_history n u.readings at buf u.pieces fits long;
       stamps = stamps_on u.readings at (take n buf) clock clock' clock'' u.stamps given;
       ends = (
         read.0,
@@ -229,6 +259,7 @@ ended history buf budget kept text source now after quiets quiets' clock clock' 
     ends_at_end history (bytes_of u.readings) buf budget source now after quiets quiets' u.taken handed in
     record {
       readings = u.readings;
+      reads = u.pieces;
       stamps = u.stamps;
       ends = (
         read.0,
@@ -249,6 +280,7 @@ at_end_broken history buf budget kept Sink source now after quiets quiets' clock
     ends_at_end history (bytes_of u.readings) buf budget source now after quiets quiets' u.taken handed in
     record {
       readings = u.readings;
+      reads = inl u.pieces;
       stamps = u.stamps;
       ends = inr (
         read.0,
@@ -262,6 +294,7 @@ at_end_broken history buf budget kept NoMemoryFault source now after quiets quie
     ends_at_end history (bytes_of u.readings) buf budget source now after quiets quiets' u.taken handed in
     record {
       readings = u.readings;
+      reads = inl u.pieces;
       stamps = u.stamps;
       ends = inr (
         read.0,
@@ -290,26 +323,17 @@ pub failed : (history : ℕ) (buf : List ℕ) (budget : Budget) (kept : Kept)
 failed history buf budget kept source now after quiets quiets' clock clock' sink sink' u handed =
     let read : (length (bytes_of u.readings) ≤ history) × Goes (TakesSome (bytes_of u.readings)) source after =
     ends_failed history (bytes_of u.readings) buf budget source now after quiets quiets' u.taken handed in
-    record { readings = u.readings; stamps = u.stamps; ends = (read.0, read.1, u.wrote) }
+    record { readings = u.readings; reads = u.pieces; stamps = u.stamps; ends = (read.0, read.1, u.wrote) }
 
 pub too_quiet : (history : ℕ) (buf : List ℕ) (budget : Budget) (kept : Kept)
     (source now after : Option Stream) (quiets quiets' : ℕ) (clock clock' : Option Dial) (sink sink' : Option (List ℕ))
     → UnderWay history budget kept source now quiets quiets' clock clock' sink sink'
     → Hands TooQuiet buf now after
-    → Decoded ReadFault history source after clock clock' sink sink'
+    → Decoded QuietOutcome history source after clock clock' sink sink'
 too_quiet history buf budget kept source now after quiets quiets' clock clock' sink sink' u handed =
     let all : (length (bytes_of u.readings) ≤ history) × Goes (Passes (bytes_of u.readings)) source after =
     ends_too_quiet history (bytes_of u.readings) buf budget source now after quiets quiets' u.taken handed in
-    record {
-      readings = u.readings;
-      stamps = u.stamps;
-      ends = (
-        all.0,
-        goes_as (Passes (bytes_of u.readings)) (TakesSome (bytes_of u.readings)) source after
-            (λ x y p. record { next = (y.left, p.next); joins = p.joins }) all.1,
-        u.wrote,
-      );
-    }
+    record { readings = u.readings; reads = u.pieces; stamps = u.stamps; ends = (all.0, all.1, u.wrote) }
 
 passes_none : (source : Option Stream) → Goes (Passes []) source source
 passes_none None = tt
@@ -320,6 +344,7 @@ pub nothing_done : (history : ℕ) (source : Option Stream) (clock : Option Dial
     → Decoded NoMemory history source source clock clock sink sink
 nothing_done history source clock sink = record {
   readings = [];
+  reads = inl tt;
   stamps = no_stamps clock;
   ends = inl (
     inl (omega arith, passes_none source),

@@ -5,7 +5,7 @@ use Rattle.gps_outside.specs.Told.{Stream, Goes}
 use Rattle.gps_outside.specs.Ticks.{Dial}
 use Rattle.gps_outside.specs.Turns.{PassesMore}
 use Rattle.gpsrelay.specs.declared.outcome.Outcome.{Outcome}
-use Rattle.gpsrelay.specs.declared.outcome.Outcome.TheVariants.{Done, ReadFault, WriteFault, Full, NoMemory}
+use Rattle.gpsrelay.specs.declared.outcome.Outcome.TheVariants.{Done, ReadFault, TooQuiet, WriteFault, Full, NoMemory}
 use Rattle.gpsrelay.specs.Outcomes.{status_of, HasCause, HasReadCause}
 use Rattle.gpsrelay.specs.Decode.{Decoded, IsWithin}
 use Rattle.gpsrelay.specs.Readings.{bytes_of}
@@ -13,7 +13,8 @@ use Rattle.gpsrelay.specs.Readings.{bytes_of}
 pub read_cause : (outcome : Outcome) (faults faults' quiets quiets' sunk sunk' : ℕ)
     → HasCause outcome faults faults' quiets quiets' sunk sunk' → status_of outcome ≡ 3 → HasReadCause faults faults' quiets quiets'
 read_cause Done faults faults' quiets quiets' sunk sunk' cause e = absurd (omega (arith, e))
-read_cause ReadFault faults faults' quiets quiets' sunk sunk' cause e = cause
+read_cause ReadFault faults faults' quiets quiets' sunk sunk' cause e = inl cause
+read_cause TooQuiet faults faults' quiets quiets' sunk sunk' cause e = inr cause
 read_cause WriteFault faults faults' quiets quiets' sunk sunk' cause e = absurd (omega (arith, e))
 read_cause Full faults faults' quiets quiets' sunk sunk' cause e = absurd (omega (arith, e))
 read_cause NoMemory faults faults' quiets quiets' sunk sunk' cause e = absurd (omega (arith, e))
@@ -22,6 +23,7 @@ pub write_cause : (outcome : Outcome) (faults faults' quiets quiets' sunk sunk' 
     → HasCause outcome faults faults' quiets quiets' sunk sunk' → status_of outcome ≡ 4 → Rose sunk sunk'
 write_cause Done faults faults' quiets quiets' sunk sunk' cause e = absurd (omega (arith, e))
 write_cause ReadFault faults faults' quiets quiets' sunk sunk' cause e = absurd (omega (arith, e))
+write_cause TooQuiet faults faults' quiets quiets' sunk sunk' cause e = absurd (omega (arith, e))
 write_cause WriteFault faults faults' quiets quiets' sunk sunk' cause e = cause
 write_cause Full faults faults' quiets quiets' sunk sunk' cause e = absurd (omega (arith, e))
 write_cause NoMemory faults faults' quiets quiets' sunk sunk' cause e = absurd (omega (arith, e))
@@ -29,6 +31,7 @@ write_cause NoMemory faults faults' quiets quiets' sunk sunk' cause e = absurd (
 pub not_refused : (outcome : Outcome) → status_of outcome ≡ 2 → ⊥
 not_refused Done e = omega (arith, e)
 not_refused ReadFault e = omega (arith, e)
+not_refused TooQuiet e = omega (arith, e)
 not_refused WriteFault e = omega (arith, e)
 not_refused Full e = omega (arith, e)
 not_refused NoMemory e = omega (arith, e)
@@ -45,14 +48,26 @@ no_more history bytes (Some stream) (Some after) within full passed =
     let some : 0 < length passed.0 = passed.1.0 in
     omega (arith, within, full)
 
+-- where nothing outside failed
+pub ends_by_itself : (outcome : Outcome) (faults faults' quiets quiets' sunk sunk' : ℕ)
+    → HasCause outcome faults faults' quiets quiets' sunk sunk'
+    → (Rose faults faults' → ⊥) → (RoseBy 1000 quiets quiets' → ⊥) → (Rose sunk sunk' → ⊥)
+    → (status_of outcome ≡ 0) ⊎ ((status_of outcome ≡ 5) ⊎ (status_of outcome ≡ 7))
+ends_by_itself Done faults faults' quiets quiets' sunk sunk' cause sound lively unbroken = inl refl
+ends_by_itself ReadFault faults faults' quiets quiets' sunk sunk' cause sound lively unbroken = absurd (sound cause)
+ends_by_itself TooQuiet faults faults' quiets quiets' sunk sunk' cause sound lively unbroken = absurd (lively cause)
+ends_by_itself WriteFault faults faults' quiets quiets' sunk sunk' cause sound lively unbroken = absurd (unbroken cause)
+ends_by_itself Full faults faults' quiets quiets' sunk sunk' cause sound lively unbroken = inr (inl refl)
+ends_by_itself NoMemory faults faults' quiets quiets' sunk sunk' cause sound lively unbroken = inr (inr refl)
+
 pub completes : (outcome : Outcome) (history : ℕ) (source source' : Option Stream) (clock clock' : Option Dial) (sink sink' : Option (List ℕ))
     (faults faults' quiets quiets' sunk sunk' : ℕ)
     → Decoded outcome history source source' clock clock' sink sink' → HasCause outcome faults faults' quiets quiets' sunk sunk'
     → IsWithin history source → (Rose faults faults' → ⊥) → (RoseBy 1000 quiets quiets' → ⊥) → (Rose sunk sunk' → ⊥)
     → (status_of outcome ≡ 0) ⊎ (status_of outcome ≡ 7)
 completes Done history source source' clock clock' sink sink' faults faults' quiets quiets' sunk sunk' done cause within sound lively unbroken = inl refl
-completes ReadFault history source source' clock clock' sink sink' faults faults' quiets quiets' sunk sunk' done (inl rose) within sound lively unbroken = absurd (sound rose)
-completes ReadFault history source source' clock clock' sink sink' faults faults' quiets quiets' sunk sunk' done (inr rose) within sound lively unbroken = absurd (lively rose)
+completes ReadFault history source source' clock clock' sink sink' faults faults' quiets quiets' sunk sunk' done cause within sound lively unbroken = absurd (sound cause)
+completes TooQuiet history source source' clock clock' sink sink' faults faults' quiets quiets' sunk sunk' done cause within sound lively unbroken = absurd (lively cause)
 completes WriteFault history source source' clock clock' sink sink' faults faults' quiets quiets' sunk sunk' done cause within sound lively unbroken = absurd (unbroken cause)
 completes Full history source source' clock clock' sink sink' faults faults' quiets quiets' sunk sunk' done cause within sound lively unbroken =
     absurd (no_more history (bytes_of done.readings) source source' within done.ends.0 done.ends.1)

@@ -9,10 +9,10 @@ use Rattle.gps_outside.specs.Turns.{PassesMore, TakesAll, TakesSome}
 use Rattle.device_core.specs.Reports.{Gains}
 use Rattle.device_core.specs.Standing.{Kept, StandsFor}
 use Rattle.gpsrelay.specs.declared.outcome.Outcome.{Outcome}
-use Rattle.gpsrelay.specs.declared.outcome.Outcome.TheVariants.{Done, ReadFault, WriteFault, Full, NoMemory}
+use Rattle.gpsrelay.specs.declared.outcome.Outcome.TheVariants.{Done, ReadFault, TooQuiet, WriteFault, Full, NoMemory}
 use Rattle.gpsrelay.specs.declared.outcome.Fault.{Fault}
 use Rattle.gpsrelay.specs.declared.outcome.Fault.TheVariants.{Sink, NoMemory as NoMemoryFault}
-use Rattle.gpsrelay.specs.Readings.{Reading, bytes_of, stamps_of, stream_of}
+use Rattle.gpsrelay.specs.Readings.{ArePieces, PassHistory, Reading, bytes_of, stamps_of, stream_of}
 use Rattle.gpsrelay.specs.Lines.{lines_of, lines_so_far, lines_to_end}
 
 -- Where a command breaks off in mid-source, all bytes that it took were read: none more than the history allows, or as many as it allows where
@@ -28,22 +28,35 @@ BrokeOff history readings source source' sink sink' =
     ⊎ ((length (bytes_of readings) ≤ history) × Goes (TakesAll (bytes_of readings)) source source'
     × Goes (AppendsPart (lines_to_end (stream_of readings))) sink sink')
 
--- Which bytes were read, and what was written for their stream: all that was left, and all its lines; those before a fault, or before one more
--- than the history allows, and the lines so far; or those before the command broke off, and a part of the lines due.
+-- Which bytes were read, and what was written for their stream: all that was left, and all its lines; those before a fault, after which the
+-- rest may be lost, those before a thousand quiets, or those before one more than the history allows, and the lines so far; or those before the
+-- command broke off, and a part of the lines due.
 abbrev pub Ends : Outcome → ℕ → List Reading → Option Stream → Option Stream → Option (List ℕ) → Option (List ℕ) → Type 0
 Ends Done history readings source source' sink sink' =
     (length (bytes_of readings) ≤ history) × Goes (TakesAll (bytes_of readings)) source source' × Goes (Appends (lines_to_end (stream_of readings))) sink sink'
 Ends ReadFault history readings source source' sink sink' =
     (length (bytes_of readings) ≤ history) × Goes (TakesSome (bytes_of readings)) source source' × Goes (Appends (lines_so_far (stream_of readings))) sink sink'
+Ends TooQuiet history readings source source' sink sink' =
+    (length (bytes_of readings) ≤ history) × Goes (Passes (bytes_of readings)) source source' × Goes (Appends (lines_so_far (stream_of readings))) sink sink'
 Ends WriteFault history readings source source' sink sink' = BrokeOff history readings source source' sink sink'
 Ends Full history readings source source' sink sink' =
     (length (bytes_of readings) ≡ history) × Goes (PassesMore (bytes_of readings)) source source' × Goes (Appends (lines_so_far (stream_of readings))) sink sink'
 Ends NoMemory history readings source source' sink sink' = BrokeOff history readings source source' sink sink'
 
--- There are readings such that their bytes were read, the clock gave their stamps in order, and the lines of their stream were written. Of an
--- object of the outside that does not tell its content nothing is said here: then the readings may be any.
+-- which bytes one reading has: those of one read, and where the history was passed the last has what lay within it
+abbrev pub AreReads : Outcome → List Reading → Type 0
+AreReads Done readings = ArePieces readings
+AreReads ReadFault readings = ArePieces readings
+AreReads TooQuiet readings = ArePieces readings
+AreReads WriteFault readings = ArePieces readings ⊎ PassHistory readings
+AreReads Full readings = PassHistory readings
+AreReads NoMemory readings = ArePieces readings ⊎ PassHistory readings
+
+-- There are readings such that their bytes were read, the clock gave one stamp for each of them, in order, and the lines of their stream were
+-- written. Of an object of the outside that does not tell its content nothing is said here: then the readings may be any.
 pub record Decoded (outcome : Outcome) (history : ℕ) (source source' : Option Stream) (clock clock' : Option Dial) (sink sink' : Option (List ℕ)) : Type 0 where
   pub readings : List Reading
+  pub reads : AreReads outcome readings
   pub stamps : Goes (GivesAll (stamps_of readings)) clock clock'
   pub ends : Ends outcome history readings source source' sink sink'
 

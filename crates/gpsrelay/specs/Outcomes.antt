@@ -2,13 +2,14 @@
 use Rattle.std.specs.Prelude.{ℕ, ◌⊎◌}
 use Rattle.gps_outside.specs.Counts.{Rose, RoseBy}
 use Rattle.gpsrelay.specs.declared.outcome.Outcome.{Outcome}
-use Rattle.gpsrelay.specs.declared.outcome.Outcome.TheVariants.{Done, ReadFault, WriteFault, Full, NoMemory}
+use Rattle.gpsrelay.specs.declared.outcome.Outcome.TheVariants.{Done, ReadFault, TooQuiet, WriteFault, Full, NoMemory}
 use Rattle.gpsrelay.specs.declared.outcome.Fault.{Fault}
 use Rattle.gpsrelay.specs.declared.outcome.Fault.TheVariants.{Sink, NoMemory as NoMemoryFault}
 
 abbrev pub status_of : Outcome → ℕ
 status_of Done = 0
 status_of ReadFault = 3
+status_of TooQuiet = 3
 status_of WriteFault = 4
 status_of Full = 5
 status_of NoMemory = 7
@@ -24,7 +25,8 @@ HasReadCause faults faults' quiets quiets' = Rose faults faults' ⊎ RoseBy 1000
 -- the counts of the source and of the sink before and after a command that ends so
 abbrev pub HasCause : Outcome → ℕ → ℕ → ℕ → ℕ → ℕ → ℕ → Type 0
 HasCause Done faults faults' quiets quiets' sunk sunk' = Unit {0}
-HasCause ReadFault faults faults' quiets quiets' sunk sunk' = HasReadCause faults faults' quiets quiets'
+HasCause ReadFault faults faults' quiets quiets' sunk sunk' = Rose faults faults'
+HasCause TooQuiet faults faults' quiets quiets' sunk sunk' = RoseBy 1000 quiets quiets'
 HasCause WriteFault faults faults' quiets quiets' sunk sunk' = Rose sunk sunk'
 HasCause Full faults faults' quiets quiets' sunk sunk' = Unit {0}
 HasCause NoMemory faults faults' quiets quiets' sunk sunk' = Unit {0}

@@ -1,5 +1,5 @@
 -- What a command read in a call: the bytes of each read, with the stamp that the clock gave after it. This project's own.
-use Rattle.std.specs.Prelude.{ℕ, List, map}
+use Rattle.std.specs.Prelude.{◌≡◌, ℕ, ◌<◌, ◌≤◌, List, [], ◌∷◌, ◌++◌, length, map}
 use Rattle.std.specs.List.{flat_map}
 use Rattle.gps_fixed.specs.Moment.{Moment}
 use Rattle.gps_report.specs.declared.edge.Symbol.{Symbol}
@@ -18,3 +18,20 @@ stamps_of readings = map (λ reading. reading.at) readings
 -- the stream of the device that was given all of them
 abbrev pub stream_of : List Reading → List Symbol
 stream_of readings = flat_map (λ reading. piece reading.at reading.bytes) readings
+
+-- what one read brought
+abbrev pub IsPiece : Reading → Type 0
+IsPiece reading = (1 ≤ length reading.bytes) × (length reading.bytes ≤ 512)
+
+-- each reading has the bytes of one read, 1 to 512
+abbrev pub ArePieces : List Reading → Type 0
+ArePieces [] = Unit {0}
+ArePieces (reading ∷ readings) = IsPiece reading × ArePieces readings
+
+-- the last reading has what lay within the history of the read that passed it: 0 to 511 bytes
+pub record PassHistory (readings : List Reading) : Type 0 where
+  pub front : List Reading
+  pub last : Reading
+  pub all : readings ≡ front ++ last ∷ []
+  pub pieces : ArePieces front
+  pub part : length last.bytes < 512

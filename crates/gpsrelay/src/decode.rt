@@ -99,7 +99,7 @@ fn decode_as<S: Source, K: Sink, C: Clock>(
                 Err(fault) => return fault.outcome(),
             },
             IntakeStep::Failed => return Outcome::ReadFault,
-            IntakeStep::TooQuiet => return Outcome::ReadFault,
+            IntakeStep::TooQuiet => return Outcome::TooQuiet,
         }
     }
 }

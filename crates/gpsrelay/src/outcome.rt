@@ -6,8 +6,10 @@ ghost use Rattle.gpsrelay.specs.Outcomes.{outcome_of, status_of};
 pub enum Outcome {
     /// The input was read to its end, and all was written.
     Done,
-    /// The source failed, or nothing came for the thousandth time.
+    /// The source failed.
     ReadFault,
+    /// Nothing came for the thousandth time.
+    TooQuiet,
     /// The sink failed.
     WriteFault,
     /// As many bytes as the history allows were read, and one more came.
@@ -23,6 +25,7 @@ impl Outcome {
         match self {
             Outcome::Done => 0,
             Outcome::ReadFault => 3,
+            Outcome::TooQuiet => 3,
             Outcome::WriteFault => 4,
             Outcome::Full => 5,
             Outcome::NoMemory => 7,

@@ -3,7 +3,7 @@ ghost use Rattle.gps_words.specs.Asked.{asked_of};
 ghost use Rattle.gps_words.specs.declared.command.Command.{Command};
 ghost use Rattle.gps_outside.specs.Counts.{Rose, RoseBy};
 ghost use Rattle.gpsrelay.specs.declared.outcome.Outcome.{Outcome};
-ghost use Rattle.gpsrelay.specs.Outcomes.{status_of, HasReadCause};
+ghost use Rattle.gpsrelay.specs.Outcomes.{status_of, HasCause, HasReadCause};
 ghost use Rattle.gpsrelay.specs.Decode.{Decoded, IsWithin};
 
 use crate::decode::decode;
@@ -22,7 +22,10 @@ pub const REFUSED: u8 = 2;
 /// nothing was read or written; 3 where the source failed or nothing came a thousand times; 4 where the sink failed; 5
 /// where more bytes came than the history allows; 7 for want of memory.
 ///
-/// What is said of the bytes and the stamps holds where the source, the sink and the clock tell their content.
+/// The clock is asked once after each read that gave bytes. Where neither the source nor the sink fails and fewer than a
+/// thousand reads bring nothing, the status is 0, 5 or 7, and 0 or 7 where the source tells that no more is left than the
+/// history allows. What is said of the bytes and the stamps holds where the source, the sink and the clock tell their
+/// content.
 pub fn run<S: Source, K: Sink, C: Clock>(
     alloc: Global,
     words: &[String],
@@ -35,10 +38,17 @@ pub fn run<S: Source, K: Sink, C: Clock>(
     ensures untouched { asked_of (map string_bytes words.now) ≡ None
         → (source.new ≡ source.old) × (sink.new ≡ sink.old) × (clock.new ≡ clock.old) }
     ensures decode { (history : ℕ) → asked_of (map string_bytes words.now) ≡ Some (Command.Decode history)
-        → (outcome : Outcome) × (result ≡ status_of outcome) × Decoded outcome history (S.content source.old) (S.content source.new)
+        → (outcome : Outcome) × (result ≡ status_of outcome)
+        × HasCause outcome (S.faults source.old) (S.faults source.new) (S.quiets source.old) (S.quiets source.new) (K.faults sink.old) (K.faults sink.new)
+        × Decoded outcome history (S.content source.old) (S.content source.new)
         (C.stamps clock.old) (C.stamps clock.new) (K.written sink.old) (K.written sink.new) }
     ensures read_fault { result ≡ 3 → HasReadCause (S.faults source.old) (S.faults source.new) (S.quiets source.old) (S.quiets source.new) }
     ensures write_fault { result ≡ 4 → Rose (K.faults sink.old) (K.faults sink.new) }
+    ensures ends { (history : ℕ) → asked_of (map string_bytes words.now) ≡ Some (Command.Decode history)
+        → (Rose (S.faults source.old) (S.faults source.new) → ⊥)
+        → (RoseBy 1000 (S.quiets source.old) (S.quiets source.new) → ⊥)
+        → (Rose (K.faults sink.old) (K.faults sink.new) → ⊥)
+        → (result ≡ 0) ⊎ ((result ≡ 5) ⊎ (result ≡ 7)) }
     ensures complete { (history : ℕ) → asked_of (map string_bytes words.now) ≡ Some (Command.Decode history)
         → IsWithin history (S.content source.old)
         → (Rose (S.faults source.old) (S.faults source.new) → ⊥)

@@ -335,17 +335,23 @@ fn reads_may_be_small_or_bring_nothing(rt: HostRuntime) -> Result<(), Fail> {
 
 #[test]
 fn the_thousandth_quiet_ends_the_run(rt: HostRuntime) -> Result<(), Fail> {
-    let mut reads = vec![in rt.alloc(); ReadPlan::Give(512)]?;
-    for _ in 0..999 {
-        reads.push(ReadPlan::Quiet)?;
+    let rows: &[(u32, u8, Parts<'_>)] = &[
+        (999, 0, &[RMC_LINE, MIDNIGHT_LINE]),
+        (1_000, 3, &[RMC_LINE]),
+    ];
+    for (quiets, status, lines) in rows {
+        let mut reads = vec![in rt.alloc(); ReadPlan::Give(512)]?;
+        for _ in 0..*quiets {
+            reads.push(ReadPlan::Quiet)?;
+        }
+        let outside = Outside {
+            input: &[RMC, MIDNIGHT],
+            reads: reads.as_slice(),
+            at_end: AtEnd::End,
+            writes: &[],
+        };
+        assert!(rt; gives(rt.alloc(), &outside, *status, *lines)?);
     }
-    let outside = Outside {
-        input: &[RMC, MIDNIGHT],
-        reads: reads.as_slice(),
-        at_end: AtEnd::End,
-        writes: &[],
-    };
-    assert!(rt; gives(rt.alloc(), &outside, 0, &[RMC_LINE, MIDNIGHT_LINE])?);
     Ok(())
 }
 

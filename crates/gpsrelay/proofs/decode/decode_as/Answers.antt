@@ -15,7 +15,7 @@ turns-preserved-in-Ok g c =
     let at = c.turns.invariant in
     let turn = c.in-Piece.ensures in
     record {
-      under_way = after_piece c.in-Piece.n _ _ _ _ _ _ _ c.in-Ok.buffer _ _ _ _ _ _ _ _ _ _ _ _ at.under_way turn.fits turn.budget turn.bytes turn.quiets_stay c.now.ensures c.in-Ok.ensures.lines;
+      under_way = after_piece c.in-Piece.n _ _ _ _ _ _ _ c.in-Ok.buffer _ _ _ _ _ _ _ _ _ _ _ _ at.under_way (omega arith) turn.fits turn.budget turn.bytes turn.quiets_stay c.now.ensures c.in-Ok.ensures.lines;
       faults = omega (arith, at.faults, turn.faults_stay);
       quiets = omega (arith, at.quiets, turn.quiets_stay);
       sunk = omega (arith, at.sunk, c.in-Ok.ensures.faults_stay);
@@ -24,17 +24,17 @@ turns-preserved-in-Ok g c =
 pub returns-in-Err-clause-decoded : goal.returns-in-Err-clause-decoded
 returns-in-Err-clause-decoded g c =
     let turn = c.in-Piece.ensures in
-    broken_in_piece c.in-Piece.n _ _ _ _ _ _ _ _ _ _ _ _ _ _ _ _ _ _ _ _ c.turns.invariant.under_way turn.fits turn.budget turn.bytes turn.quiets_stay c.now.ensures c.in-Err.ensures.lines _ c.outcome.ensures
+    broken_in_piece c.in-Piece.n _ _ _ _ _ _ _ _ _ _ _ _ _ _ _ _ _ _ _ _ c.turns.invariant.under_way (omega arith) turn.fits turn.budget turn.bytes turn.quiets_stay c.now.ensures c.in-Err.ensures.lines _ c.outcome.ensures
 
 pub returns-in-Ok-hand_on-clause-decoded : goal.returns-in-Ok-hand_on-clause-decoded
 returns-in-Ok-hand_on-clause-decoded g c =
     let turn = c.in-Last.ensures in
-    filled c.in-Last.n _ _ _ _ _ _ _ c.in-Ok-hand_on.field-0 _ _ _ _ _ _ _ _ _ _ _ c.turns.invariant.under_way turn.fits turn.budget turn.bytes c.now-in-Last.ensures c.in-Ok-hand_on.ensures.lines
+    filled c.in-Last.n _ _ _ _ _ _ _ c.in-Ok-hand_on.field-0 _ _ _ _ _ _ _ _ _ _ _ c.turns.invariant.under_way (omega arith) turn.fits turn.budget turn.bytes c.now-in-Last.ensures c.in-Ok-hand_on.ensures.lines
 
 pub returns-in-Err-hand_on-clause-decoded : goal.returns-in-Err-hand_on-clause-decoded
 returns-in-Err-hand_on-clause-decoded g c =
     let turn = c.in-Last.ensures in
-    broken_in_last c.in-Last.n _ _ _ _ _ _ _ _ _ _ _ _ _ _ _ _ _ _ _ c.turns.invariant.under_way turn.fits turn.budget turn.bytes c.now-in-Last.ensures c.in-Err-hand_on.ensures.lines _ c.outcome-in-Err-hand_on.ensures
+    broken_in_last c.in-Last.n _ _ _ _ _ _ _ _ _ _ _ _ _ _ _ _ _ _ _ c.turns.invariant.under_way (omega arith) turn.fits turn.budget turn.bytes c.now-in-Last.ensures c.in-Err-hand_on.ensures.lines _ c.outcome-in-Err-hand_on.ensures
 
 pub returns-in-Ok-close-clause-decoded : goal.returns-in-Ok-close-clause-decoded
 returns-in-Ok-close-clause-decoded g c =

@@ -1,0 +1,46 @@
+use crate::{Sink, Source};
+
+/// What one call of a door answers.
+#[derive(Drop)]
+pub enum DoorStep<I, O> {
+    /// A link: where its bytes come from, and where bytes to it go.
+    Link(I, O),
+    /// No link waits this time; the quiets rose.
+    Quiet,
+    /// No link is left.
+    Closed,
+    /// The door failed; the faults rose.
+    Failed,
+}
+
+/// Where links come from: a listener.
+pub trait Door: Drop {
+    ghost use Rattle.std.specs.Prelude.{◌≡◌, ℕ, ◌≤◌, List, Option};
+    ghost use Rattle.gps_outside.specs.declared.door.DoorStep.{DoorStep};
+    ghost use Rattle.gps_outside.specs.Counts.{Rose};
+    ghost use Rattle.gps_outside.specs.Links.{Admits, IfLink, IsUnread, IsUnwritten};
+
+    type In: Source;
+
+    type Out: Sink;
+
+    /// How often the door failed.
+    ghost faults: { Self → ℕ };
+
+    /// How often no link waited.
+    ghost quiets: { Self → ℕ };
+
+    /// The links that are left, where the door tells them.
+    ghost links: { Self → Option (List (Self.In × Self.Out)) };
+
+    /// Takes the next link, where one waits.
+    fn accept(&mut self) -> DoorStep<Self::In, Self::Out>
+        ensures links { Admits result (links self.old) (links self.new) }
+        ensures unread { IfLink result (λ source sink.
+            IsUnread (Self.In.content source) (Self.In.faults source) (Self.In.quiets source)) }
+        ensures unwritten { IfLink result (λ source sink. IsUnwritten (Self.Out.written sink) (Self.Out.faults sink)) }
+        ensures faults_stay { faults self.old ≤ faults self.new }
+        ensures quiets_stay { quiets self.old ≤ quiets self.new }
+        ensures failed { result ≡ DoorStep.Failed → Rose (faults self.old) (faults self.new) }
+        ensures quiet { result ≡ DoorStep.Quiet → Rose (quiets self.old) (quiets self.new) };
+}

@@ -1,0 +1,9 @@
+pub mod Keeps
+pub mod Storing
+pub mod Writing
+pub mod Reading
+pub mod Looking
+pub mod Parting
+pub mod Stepping
+pub mod Going
+pub mod Turns

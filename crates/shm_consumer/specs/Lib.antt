@@ -1,0 +1,5 @@
+pub mod Giving
+pub mod Readings
+pub mod Rule
+pub mod Taking
+pub mod Views

@@ -1,0 +1,209 @@
+ghost use Rattle.std.specs.Prelude.{◌≡◌, ◌≤◌};
+
+use super::*;
+use gps_fixed::Stamp;
+use std::sync::atomic::{AtomicBool, Ordering};
+use std::test::Fail;
+use std::thread;
+use std::thread::Threads;
+
+const SAMPLES: u32 = 100_000;
+
+// A sample whose words all depend on its number.
+fn numbered(number: u32) -> Sample {
+    Sample {
+        reference: Stamp {
+            sec: i64::from(number),
+            nsec: number % 1_000_000_000,
+        },
+        host: Stamp {
+            sec: 2 * i64::from(number),
+            nsec: 999_999_999 - number % 1_000_000_000,
+        },
+        precision: (number % 100) as i8,
+    }
+}
+
+// Makes this many stores, and says how many there were to make.
+fn stores(hand: &HandOff, giver: &mut Giver, most: u32) -> u32
+    requires { giver.old.segment ≡ hand.now }
+    ensures { giver.new.segment ≡ giver.old.segment }
+{
+    let mut made = 0u32;
+    for _ in 0..most {
+        if giver.step(hand) != PubStep::Idle {
+            made = made.saturating_add(1);
+        }
+    }
+    made
+}
+
+// Makes this many steps, and gives the last one where it ended a reading.
+fn steps(hand: &HandOff, taker: &mut Taker, most: u32) -> Option<TakeStep>
+    requires { taker.old.segment ≡ hand.now }
+    ensures { taker.new.segment ≡ taker.old.segment }
+{
+    let mut ended = None;
+    for _ in 0..most {
+        ended = match taker.step(hand) {
+            TakeStep::Loaded { word: _, value: _ } => None,
+            step => Some(step),
+        };
+    }
+    ended
+}
+
+// A sample to begin, stores, and steps of the taker of which the last ended a reading so.
+#[derive(Clone, Copy)]
+struct Turn {
+    begins: Option<u32>,
+    stores: u32,
+    steps: u32,
+    ended: Option<TakeStep>,
+}
+
+impl Turn {
+    fn of(begins: Option<u32>, stores: u32, steps: u32, ended: Option<TakeStep>) -> Turn {
+        Turn {
+            begins,
+            stores,
+            steps,
+            ended,
+        }
+    }
+}
+
+fn consumed(number: u32) -> Consumption {
+    Consumption::Consumed {
+        number,
+        sample: numbered(number),
+    }
+}
+
+// Whether the stores and steps in this order end so, and the calls of consume after them.
+fn in_order(
+    hand: &HandOff,
+    giver: &mut Giver,
+    taker: &mut Taker,
+    turns: &[Turn],
+    consumptions: &[Consumption],
+) -> bool
+    requires giver { giver.old.segment ≡ hand.now }
+    requires taker { taker.old.segment ≡ hand.now }
+{
+    let mut good = true;
+    for turn in turns {
+        if let Some(number) = turn.begins {
+            giver.begin(numbered(number));
+        }
+        good &= stores(hand, giver, turn.stores) == turn.stores;
+        good &= steps(hand, taker, turn.steps) == turn.ended;
+    }
+    for consumption in consumptions {
+        good &= taker.consume(hand) == *consumption;
+    }
+    good
+}
+
+#[test]
+fn a_sample_is_consumed_once(rt: HostRuntime) -> Result<(), Fail> {
+    let (hand, mut giver, mut taker) = HandOff::new(rt.alloc(), 0)?;
+    let turns = [Turn::of(Some(1), 13, 0, None)];
+    let consumptions = [consumed(1), Consumption::NotReady { count: 2, valid: 0 }];
+    assert!(rt; in_order(&hand, &mut giver, &mut taker, &turns, &consumptions));
+    Ok(())
+}
+
+#[test]
+fn a_clash_leaves_valid_alone(rt: HostRuntime) -> Result<(), Fail> {
+    let (hand, mut giver, mut taker) = HandOff::new(rt.alloc(), 0)?;
+    let clash = TakeStep::Ended(Consumption::Clash {
+        before: 2,
+        after: 3,
+    });
+    let turns = [
+        Turn::of(Some(1), 13, 6, None),
+        Turn::of(Some(2), 2, 6, Some(clash)),
+        Turn::of(None, 11, 0, None),
+    ];
+    assert!(rt; in_order(&hand, &mut giver, &mut taker, &turns, &[consumed(2)]));
+    Ok(())
+}
+
+#[test]
+fn a_clear_may_wipe_a_newer_sample(rt: HostRuntime) -> Result<(), Fail> {
+    let (hand, mut giver, mut taker) = HandOff::new(rt.alloc(), 0)?;
+    let cleared = TakeStep::Cleared {
+        number: 1,
+        sample: numbered(1),
+    };
+    let turns = [
+        Turn::of(Some(1), 13, 12, None),
+        Turn::of(Some(2), 13, 1, Some(cleared)),
+    ];
+    let consumptions = [Consumption::NotReady { count: 4, valid: 0 }];
+    assert!(rt; in_order(&hand, &mut giver, &mut taker, &turns, &consumptions));
+    Ok(())
+}
+
+// Gives the samples 1 to SAMPLES, and says so at the end.
+fn give_all(hand: &HandOff, mut giver: Giver, done: &AtomicBool) -> Giver
+    requires { giver.segment ≡ hand.now }
+    ensures { result.segment ≡ hand.now }
+{
+    for number in 1..=SAMPLES {
+        giver.begin(numbered(number));
+        stores(hand, &mut giver, 13);
+    }
+    done.store(true, Ordering::SeqCst);
+    giver
+}
+
+// Consumes until the giver is done, and says whether the numbers rose and each sample was that of its number.
+fn consume_all(hand: &HandOff, mut taker: Taker, done: &AtomicBool) -> (Taker, bool)
+    requires { taker.segment ≡ hand.now }
+    ensures { result.0.segment ≡ hand.now }
+{
+    let mut good = true;
+    let mut before = 0u32;
+    for _ in 0..10_000_000u32 {
+        let last = done.load(Ordering::SeqCst);
+        if let Consumption::Consumed { number, sample } = taker.consume(hand) {
+            good &= before < number && sample == numbered(number);
+            before = number;
+        }
+        if last {
+            break;
+        }
+    }
+    (taker, good)
+}
+
+// The giver and the taker in threads of their own, and then the consumed pairs are compared with what was published.
+fn in_threads<R: Threads + Sync>(rt: &R, hand: &HandOff, giver: Giver, taker: Taker) -> bool
+    requires giver { giver.segment ≡ hand.now }
+    requires taker { taker.segment ≡ hand.now }
+{
+    let done = AtomicBool::new(false);
+    let done = &done;
+    let (mut giver, (mut taker, good)) = thread::join(
+        rt,
+        move || -> Giver
+            requires { giver.segment ≡ hand.now }
+            ensures { result.segment ≡ hand.entry.now }
+        { give_all(hand, giver, done) },
+        move || -> (Taker, bool)
+            requires { taker.segment ≡ hand.now }
+            ensures { result.0.segment ≡ hand.entry.now }
+        { consume_all(hand, taker, done) },
+    );
+    taker.meet(hand, giver.notice(hand));
+    good
+}
+
+#[test]
+fn what_is_consumed_in_threads_rises(rt: HostRuntime) -> Result<(), Fail> {
+    let (hand, giver, taker) = HandOff::new(rt.alloc(), 0)?;
+    assert!(rt; in_threads(&rt, &hand, giver, taker));
+    Ok(())
+}

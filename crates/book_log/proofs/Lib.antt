@@ -1,0 +1,12 @@
+pub mod ReadingLaws
+pub mod PieceLaws
+pub mod Owned
+pub mod NewLines
+pub mod Histories
+pub mod LineSteps
+pub mod SummarySteps
+pub mod LoggedSteps
+pub mod CallSteps
+pub mod HistoryLaws
+pub mod Seen
+pub mod ReadLaws

@@ -1,0 +1,102 @@
+-- What always holds of a book's devices and log goes on by entries, and by a turn.
+use Rattle.std.proofs.Common.{◌≡◌, ◌≤◌, ◌+◌, ◌*◌, ℕ, Bool, true, false, refl, sym, ap, ◌∙◌, subst, List, [], ◌∷◌, ◌++◌, length, Option, Some, None, is_some, unwrap_or, append-nil, append_assoc, cond, max, arith, length-append}
+use Rattle.std.specs.List.{filter}
+use Rattle.gps_report.specs.declared.report.Report.{Report}
+use Rattle.book_log.specs.declared.generation.Generation.{Generation}
+use Rattle.book_log.specs.Entries.{Entry, is_symbol, symbols_in}
+use Rattle.book_log.specs.History.{history_after}
+use Rattle.book_log.specs.Standing.{LineState, StandsFor, Summary}
+use Rattle.book_log.specs.Logged.{Adds, Holds, Logged, Over, next_generation, running, runs, turned, turned_if}
+use Rattle.book_log.specs.Steps.{GoesAll}
+use Rattle.book_log.specs.Turning.{Begins, IsNext, IsReady, log_of, shown}
+use Rattle.book_log.proofs.Histories.{history-append, symbols_in-append}
+
+pub over_more : (b : Logged) (now : Summary) (log entries : List Entry) (reports : List Report) (places symbols : ℕ) (before : List Entry)
+    → Over b before → GoesAll b.present now entries reports → log ≡ b.log ++ entries → places ≡ b.length + length reports
+    → Over (record b { present = now; log = log; length = places; symbols = symbols }) before
+over_more b now log entries reports places symbols before was goes are longer =
+    let P : List Entry → Type 0 = λ l. StandsFor now l in
+    let joined : (before ++ b.log) ++ entries ≡ before ++ log = append_assoc before b.log entries ∙ ap (λ l. before ++ l) (sym are) in
+    let whole : history_after before log ≡ history_after before b.log ++ reports =
+    ap (history_after before) are ∙ history-append before b.log entries ∙ ap (λ r. history_after before b.log ++ r) (goes.adds (before ++ b.log) was.present) in
+    record {
+      present = subst P joined (goes.stands (before ++ b.log) was.present);
+      places = longer ∙ ap (λ n. n + length reports) was.places ∙ sym (ap length whole ∙ length-append (history_after before b.log) reports);
+    }
+
+pub added : (b : Logged) (now : Summary) (log entries : List Entry) (reports : List Report) (places symbols : ℕ)
+    → Holds b → GoesAll b.present now entries reports → log ≡ b.log ++ entries → places ≡ b.length + length reports → symbols ≡ b.symbols + symbols_in entries
+    → symbols ≤ max b.limit 512 → places + 3 * running now ≤ 2057 * symbols + 3 * length now.lines
+    → Holds (record b { present = now; log = log; length = places; symbols = symbols })
+    × Adds b (record b { present = now; log = log; length = places; symbols = symbols }) entries reports
+added b now log entries reports places symbols h goes are longer more few bound = (
+  record {
+    some = h.some;
+    over = λ before was. over_more b now log entries reports places symbols before (h.over before was) goes are longer;
+    symbols = more ∙ ap (λ n. n + symbols_in entries) h.symbols
+        ∙ sym (ap symbols_in are ∙ symbols_in-append b.log entries ∙ length-append (filter is_symbol b.log) (filter is_symbol entries));
+    few = few;
+    limit = h.limit;
+    bound = bound;
+    count = h.count ∙ sym goes.count;
+    devices = subst (λ n. n ≤ 255) (sym goes.count) h.devices;
+    generation = h.generation;
+  },
+  record {
+    opening = refl;
+    log = are;
+    reports_are = λ before was. goes.adds (before ++ b.log) (h.over before was).present;
+    longer = longer;
+    symbols = more;
+    limit = refl;
+    generation = refl;
+    count = goes.count;
+  },
+)
+
+few_more : (b : Bool) (line : LineState) (kept lines : List LineState) → length kept ≤ length lines → length (cond b (line ∷ kept) kept) ≤ length (line ∷ lines)
+few_more true line kept lines few = omega arith
+few_more false line kept lines few = omega arith
+
+pub few_run : (lines : List LineState) → length (filter runs lines) ≤ length lines
+few_run [] = omega arith
+few_run (line ∷ lines) = few_more (runs line) line (filter runs lines) lines (few_run lines)
+
+pub turned_holds : (b : Logged) → Holds b → Holds (turned b)
+unfolding history_after
+turned_holds b h = record {
+  some = (h.some.0 ++ b.log, (h.over h.some.0 h.some.1).present);
+  over = λ before was. record { present = let P : List Entry → Type 0 = λ l. StandsFor b.present l in subst P (sym (append-nil before)) was; places = refl };
+  symbols = refl;
+  few = omega arith;
+  limit = h.limit;
+  bound = omega (arith, few_run b.present.lines);
+  count = refl;
+  devices = h.devices;
+  generation = omega arith;
+}
+
+pub turned_if_holds : (turns : Bool) (b : Logged) → Holds b → Holds (turned_if turns b)
+turned_if_holds true b h = turned_holds b h
+turned_if_holds false b h = h
+
+-- what is seen behind `prepared` and `begin`
+pub began : (turns : Bool) (now : Summary) (limit number later : ℕ) (old current : Generation) (next : Option Generation)
+    → IsNext turns now next → current ≡ unwrap_or next old → later ≡ cond (is_some next) (next_generation number) number
+    → shown now limit later current ≡ turned_if turns (shown now limit number old)
+began true now limit number later old current None is_next is_current is_number = elim is_next [ ]
+began false now limit number later old current (Some g) is_next is_current is_number = elim is_next [ ]
+began false now limit number later old current None is_next is_current is_number =
+    ap (λ n. shown now limit n current) is_number ∙ ap (shown now limit number) is_current
+began true now limit number later old current (Some g) is_next is_current is_number =
+    ap (λ n. shown now limit n current) is_number ∙ ap (shown now limit (next_generation number)) is_current
+    ∙ same_seen now limit (next_generation number) g is_next
+  where
+    same_seen : (now : Summary) (limit number : ℕ) (g : Generation) → Begins now g
+        → shown now limit number g ≡ record { opening = now; present = now; log = []; length = 0; symbols = 0; limit = limit; generation = number }
+    same_seen now limit number g begins = cc (begins.opening, begins.entries, begins.places, begins.symbols)
+
+pub ready_log : (count bytes : ℕ) (old current : Generation) (next : Option Generation) → IsReady count bytes (log_of next old.log) → current ≡ unwrap_or next old
+    → IsReady count bytes current.log
+ready_log count bytes old current None ready is = subst (λ g. IsReady count bytes g.log) (sym is) ready
+ready_log count bytes old current (Some g) ready is = subst (λ g. IsReady count bytes g.log) (sym is) ready

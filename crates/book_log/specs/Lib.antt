@@ -1,0 +1,8 @@
+pub mod Entries
+pub mod Readings
+pub mod History
+pub mod Standing
+pub mod Logged
+pub mod Pieces
+pub mod Steps
+pub mod Turning

@@ -1,0 +1,164 @@
+ghost use Rattle.std.specs.Prelude.{◌≡◌, ◌≤◌, ◌<◌, ◌∷◌, ◌++◌, [], None, IfOk, length};
+ghost use Rattle.std.specs.Option.{option_or};
+ghost use Rattle.book_batch.specs.Sharing.{SharesLines, shares_of};
+ghost use Rattle.book_log.specs.Logged.{AreOf};
+ghost use Rattle.book_log.specs.Readings.{fix_in, last_of, of_device, sky_in};
+ghost use Rattle.book_log.specs.Steps.{announcement};
+
+use book_batch::Batch;
+use gps_fixed::{NoMemory, Stamp};
+use gps_report::{Body, Fix, Names, Report, Sky};
+use std::alloc::Global;
+
+/// The reports of one call for one device, with their lines, and the last fix and the last sky among them.
+#[derive(Drop)]
+pub struct Gathered {
+    pub(crate) batch: Batch,
+    pub(crate) fix: Option<Fix>,
+    pub(crate) sky: Option<Sky>,
+}
+
+#[derive(Drop)]
+struct Listed {
+    reports: Vec<Report>,
+    fix: Option<Fix>,
+    sky: Option<Sky>,
+}
+
+fn newer_fix(body: &Body, before: Option<Fix>) -> Option<Fix>
+    ensures { result ≡ option_or (fix_in body.now) before }
+{
+    match body {
+        Body::Tpv(fix) => Some(*fix),
+        _ => before,
+    }
+}
+
+fn newer_sky(body: &Body, before: Option<Sky>) -> Result<Option<Sky>, NoMemory>
+    ensures { IfOk result (λ sky. sky ≡ option_or (sky_in body.now) before) }
+{
+    match body {
+        Body::Sky(sky) => Ok(Some(sky.copy()?)),
+        _ => Ok(before),
+    }
+}
+
+/// Room for so many reports, and in it the announcement of a first byte, where there is one.
+fn begun(
+    alloc: Global,
+    device: u8,
+    first: Option<Stamp>,
+    more: usize,
+) -> Result<Vec<Report>, NoMemory>
+    ensures { IfOk result (λ reports. reports.items ≡ of_device device (announcement first)) }
+{
+    let mut reports = Vec::with_capacity(alloc, more)?;
+    if let Some(at) = first {
+        let body = Body::Device(Some(at));
+        reports.push(Report { device, body })?;
+    }
+    Ok(reports)
+}
+
+/// The reports of a device's new bodies, behind the announcement of its first byte, where it came with them.
+#[tactic(auto, using(crate::proofs::ReadingLaws::last_more, crate::proofs::ReadingLaws::of_device_more))]
+fn list(
+    alloc: Global,
+    device: u8,
+    first: Option<Stamp>,
+    bodies: Vec<Body>,
+) -> Result<Listed, NoMemory>
+    ensures reports { IfOk result (λ out. out.reports.items ≡ of_device device (announcement first ++ bodies.items)) }
+    ensures fix { IfOk result (λ out. out.fix ≡ last_of fix_in bodies.items) }
+    ensures sky { IfOk result (λ out. out.sky ≡ last_of sky_in bodies.items) }
+{
+    let mut reports = begun(alloc, device, first, bodies.len())?;
+    let mut fix = None;
+    let mut sky = None;
+    for body in bodies {
+        fix = newer_fix(&body, fix);
+        sky = newer_sky(&body, sky)?;
+        reports.push(Report { device, body })?;
+    }
+    Ok(Listed { reports, fix, sky })
+}
+
+/// The reports at a device's end: its last bodies, and then that it has ended.
+fn list_end(alloc: Global, device: u8, bodies: Vec<Body>) -> Result<Listed, NoMemory>
+    ensures reports { IfOk result (λ out. out.reports.items ≡ of_device device (bodies.items ++ Body.Device None ∷ [])) }
+    ensures fix { IfOk result (λ out. out.fix ≡ last_of fix_in bodies.items) }
+    ensures sky { IfOk result (λ out. out.sky ≡ last_of sky_in bodies.items) }
+{
+    let mut out = list(alloc, device, None, bodies)?;
+    let body = Body::Device(None);
+    out.reports.push(Report { device, body })?;
+    Ok(out)
+}
+
+/// The batch of a device's reports.
+#[tactic(auto, using(crate::proofs::Owned::are_named))]
+fn batched(
+    alloc: Global,
+    device: u8,
+    listed: Listed,
+    names: &Names,
+    shares: u32,
+) -> Result<Gathered, NoMemory>
+    requires own { AreOf device listed.reports.items }
+    requires named { device < length names.now }
+    requires few { shares ≤ 64 }
+    ensures reports { IfOk result (λ out. out.batch.reports ≡ listed.reports.items) }
+    ensures shares { IfOk result (λ out. shares_of out.batch ≡ shares) }
+    ensures lines { IfOk result (λ out. SharesLines names.now out.batch) }
+    ensures fix { IfOk result (λ out. out.fix ≡ listed.fix) }
+    ensures sky { IfOk result (λ out. out.sky ≡ listed.sky) }
+{
+    let Listed { reports, fix, sky } = listed;
+    let batch = Batch::of_vec(alloc, reports, names, shares)?;
+    Ok(Gathered { batch, fix, sky })
+}
+
+/// The reports of a device's new bodies, behind the announcement of its first byte, where it came with them, and their lines.
+#[tactic(auto, using(crate::proofs::Owned::own_ones))]
+pub fn gather(
+    alloc: Global,
+    device: u8,
+    first: Option<Stamp>,
+    bodies: Vec<Body>,
+    names: &Names,
+    shares: u32,
+) -> Result<Gathered, NoMemory>
+    requires named { device < length names.now }
+    requires few { shares ≤ 64 }
+    ensures reports { IfOk result (λ out. out.batch.reports ≡ of_device device (announcement first ++ bodies.items)) }
+    ensures shares { IfOk result (λ out. shares_of out.batch ≡ shares) }
+    ensures lines { IfOk result (λ out. SharesLines names.now out.batch) }
+    ensures fix { IfOk result (λ out. out.fix ≡ last_of fix_in bodies.items) }
+    ensures sky { IfOk result (λ out. out.sky ≡ last_of sky_in bodies.items) }
+{
+    let listed = list(alloc, device, first, bodies)?;
+    let gathered = batched(alloc, device, listed, names, shares)?;
+    Ok(gathered)
+}
+
+/// The reports at a device's end, and their lines.
+#[tactic(auto, using(crate::proofs::Owned::own_ones))]
+pub fn gather_end(
+    alloc: Global,
+    device: u8,
+    bodies: Vec<Body>,
+    names: &Names,
+    shares: u32,
+) -> Result<Gathered, NoMemory>
+    requires named { device < length names.now }
+    requires few { shares ≤ 64 }
+    ensures reports { IfOk result (λ out. out.batch.reports ≡ of_device device (bodies.items ++ Body.Device None ∷ [])) }
+    ensures shares { IfOk result (λ out. shares_of out.batch ≡ shares) }
+    ensures lines { IfOk result (λ out. SharesLines names.now out.batch) }
+    ensures fix { IfOk result (λ out. out.fix ≡ last_of fix_in bodies.items) }
+    ensures sky { IfOk result (λ out. out.sky ≡ last_of sky_in bodies.items) }
+{
+    let listed = list_end(alloc, device, bodies)?;
+    let gathered = batched(alloc, device, listed, names, shares)?;
+    Ok(gathered)
+}

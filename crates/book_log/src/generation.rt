@@ -1,0 +1,67 @@
+ghost use Rattle.std.specs.Prelude.{◌≡◌, ◌≤◌, ◌+◌, ◌&&◌, Bool, cond, is_some, unwrap_or, nat_lt, IfOk, length};
+ghost use Rattle.book_log.specs.Logged.{next_generation};
+ghost use Rattle.book_log.specs.Turning.{IsNext, IsReady, log_of};
+
+use crate::lines::Lines;
+use crate::log::Log;
+use gps_fixed::NoMemory;
+use std::alloc::Global;
+
+/// One generation: what was kept as it began, the log since, how many symbols that holds, and the length of its history.
+#[derive(Drop)]
+pub struct Generation {
+    pub(crate) opening: Lines,
+    pub(crate) log: Log,
+    pub(crate) length: u64,
+    pub(crate) symbols: u32,
+}
+
+/// Whether a new generation begins before so many more symbols.
+pub fn turns_due(symbols: u32, limit: u32, more: u32) -> bool
+    requires { more ≤ 512 }
+    ensures { result ≡ (nat_lt 0 symbols && nat_lt limit (symbols + more)) }
+{
+    0 < symbols && u64::from(limit) < u64::from(symbols) + u64::from(more)
+}
+
+/// Takes what a call with so many bytes will need: where a turn is due the next generation, which opens with copies of the devices; and
+/// room in the log that the call goes to, beside one event for each device's end or loss.
+pub fn prepared(
+    alloc: Global,
+    turns: bool,
+    now: &Lines,
+    log: &mut Log,
+    bytes: usize,
+) -> Result<Option<Generation>, NoMemory>
+    requires { length now.now.lines ≤ 255 }
+    ensures next { IfOk result (λ next. IsNext turns now.now next) }
+    ensures ready { IfOk result (λ next. IsReady (length now.now.lines) bytes (log_of next log.new)) }
+    ensures entries { log.new.entries ≡ log.old.entries }
+    ensures kept { log.old.room ≤ log.new.room }
+{
+    let events = now.len() + 1;
+    if turns {
+        let opening = now.copy(alloc)?;
+        let log = Log::with_room(alloc, events, bytes)?;
+        Ok(Some(Generation {
+            opening,
+            log,
+            length: 0,
+            symbols: 0,
+        }))
+    } else {
+        log.reserve(events, bytes)?;
+        Ok(None)
+    }
+}
+
+/// Begins the next generation, where there is one.
+pub fn begin(next: Option<Generation>, current: &mut Generation, number: &mut u64)
+    ensures current { current.new ≡ unwrap_or next current.old }
+    ensures number { number.new ≡ cond (is_some next) (next_generation number.old) number.old }
+{
+    if let Some(next) = next {
+        *current = next;
+        *number = number.saturating_add(1);
+    }
+}

@@ -1,0 +1,24 @@
+//! The devices of a book, the opening of its generation and the log since, and their history.
+//!
+//! A log is kept by the pieces that came, never by symbols, and the reports themselves are not kept: the history is a function of logs.
+//! A full log is forgotten by a turn, which keeps of it what later reports and replies need. This project's own.
+#![tactic(auto)]
+
+mod addition;
+mod device_log;
+mod gather;
+mod generation;
+mod laws;
+mod line;
+mod lines;
+mod log;
+mod stage;
+#[cfg(test)]
+mod tests;
+
+pub use addition::Addition;
+pub use device_log::DeviceLog;
+pub use laws::{
+    history_goes_on, later_history_is_decided, stops_stand_in_the_log, turns_forget_no_device,
+};
+pub use stage::Stage;

@@ -1,0 +1,126 @@
+ghost use Rattle.std.specs.Prelude.{◌≡◌, ◌≤◌, ◌<◌, ◌+◌, ◌++◌, [], IfOk, OnOk, length};
+ghost use Rattle.std.specs.Vec.{vec_len, vec_capacity};
+ghost use Rattle.book_log.specs.Entries.{edged, ended, fed, lost};
+ghost use Rattle.book_log.specs.Pieces.{Keeps};
+
+use gps_fixed::{NoMemory, Stamp};
+use gps_report::{Edge, EdgeKind};
+use std::alloc::Global;
+use std::marker::Model;
+
+/// What came of a device: so many bytes at one stamp, a pulse edge, its end or its loss. It takes 24 bytes.
+#[derive(Clone, Copy, Debug, PartialEq, Eq)]
+pub enum Event {
+    Fed {
+        device: u8,
+        count: u16,
+        at: Stamp,
+    },
+    Edged {
+        device: u8,
+        kind: EdgeKind,
+        seq: u32,
+        at: Stamp,
+    },
+    Ended(u8),
+    Lost(u8),
+}
+
+/// A log by its pieces: what came, in order, and the bytes of all pieces joined.
+#[derive(Drop)]
+pub struct Log {
+    events: Vec<Event>,
+    bytes: Vec<u8>,
+}
+
+impl Model for Log {
+    ghost use Rattle.std.specs.Prelude.{◌≡◌, ◌-◌, length};
+    ghost use Rattle.std.specs.Vec.{vec_len, vec_capacity};
+    ghost use Rattle.book_log.specs.Pieces.{Held, byte_count, entries_of};
+
+    ghost Value = { Held };
+
+    ghost view = { λ l. record { entries = entries_of l.events.items l.bytes.items; room = vec_capacity l.events - vec_len l.events; spare = vec_capacity l.bytes - vec_len l.bytes } };
+
+    ghost invariant = { λ l. byte_count l.events.items ≡ length l.bytes.items };
+}
+
+/// Adds bytes for which there is room.
+fn extend_reserved(bytes: &mut Vec<u8>, more: &[u8])
+    requires { vec_len bytes.old + length more.now ≤ vec_capacity bytes.old }
+    ensures items { bytes.new.items ≡ bytes.old.items ++ more.now }
+    ensures capacity { vec_capacity bytes.old ≤ vec_capacity bytes.new }
+{
+    let _ = bytes.extend_from_slice(more);
+}
+
+impl Log {
+    /// An empty log with room for so many events and bytes.
+    pub fn with_room(alloc: Global, events: usize, bytes: usize) -> Result<Log, NoMemory>
+        ensures entries { IfOk result (λ log. log.entries ≡ []) }
+        ensures room { IfOk result (λ log. events ≤ log.room) }
+        ensures spare { IfOk result (λ log. bytes ≤ log.spare) }
+    {
+        let events = Vec::with_capacity(alloc, events)?;
+        let bytes = Vec::with_capacity(alloc, bytes)?;
+        Ok(Log { events, bytes })
+    }
+
+    /// Makes room for so many further events and bytes.
+    pub fn reserve(&mut self, events: usize, bytes: usize) -> Result<(), NoMemory>
+        ensures entries { self.new.entries ≡ self.old.entries }
+        ensures kept { self.old.room ≤ self.new.room }
+        ensures room { OnOk result (events ≤ self.new.room) }
+        ensures spare { OnOk result (bytes ≤ self.new.spare) }
+    {
+        self.events.reserve(events)?;
+        self.bytes.reserve(bytes)?;
+        Ok(())
+    }
+
+    /// Adds a piece of bytes, for which there is room. Takes no memory.
+    #[tactic(auto, using(crate::proofs::PieceLaws::pushed_bytes, crate::proofs::PieceLaws::count_more))]
+    pub fn push_piece(&mut self, device: u8, at: Stamp, bytes: &[u8])
+        requires room { 0 < self.old.room }
+        requires spare { length bytes.now ≤ self.old.spare }
+        requires piece { length bytes.now ≤ 512 }
+        ensures { Keeps self.old self.new (fed device at bytes.now) }
+    {
+        let count = bytes.len() as u16;
+        extend_reserved(&mut self.bytes, bytes);
+        self.events.push_reserved(Event::Fed { device, count, at });
+    }
+
+    /// Adds a pulse edge, for which there is room. Takes no memory.
+    #[tactic(auto, using(crate::proofs::PieceLaws::pushed, crate::proofs::PieceLaws::count_more))]
+    pub fn push_edge(&mut self, device: u8, edge: &Edge)
+        requires { 0 < self.old.room }
+        ensures { Keeps self.old self.new (edged device edge.now) }
+    {
+        let Edge { kind, seq, at } = *edge;
+        self.events.push_reserved(Event::Edged {
+            device,
+            kind,
+            seq,
+            at,
+        });
+    }
+
+    /// Adds a device's end, for which there is room. Takes no memory.
+    #[tactic(auto, using(crate::proofs::PieceLaws::pushed, crate::proofs::PieceLaws::count_more))]
+    pub fn push_end(&mut self, device: u8)
+        requires { 0 < self.old.room }
+        ensures { Keeps self.old self.new (ended device) }
+    {
+        self.events.push_reserved(Event::Ended(device));
+    }
+
+    /// Adds a device's loss, for which there is room. Takes no memory.
+    #[tactic(auto, using(crate::proofs::PieceLaws::pushed, crate::proofs::PieceLaws::count_more))]
+    pub fn push_loss(&mut self, device: u8)
+        requires { 0 < self.old.room }
+        ensures { Keeps self.old self.new (lost device) }
+    {
+        self.events.push_reserved(Event::Lost(device));
+    }
+}

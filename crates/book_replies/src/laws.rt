@@ -1,0 +1,17 @@
+//! The laws of answers, as contracts of functions that do nothing.
+
+ghost use Rattle.book_replies.specs.Laws.{GoesOn, HasPolicyAfter, OneForEach};
+
+/// Each request has one answer, and the answers go on over joined requests, with the policy that the first
+/// ones left.
+#[tactic(auto, using(crate::proofs::Joined::one_for_each, crate::proofs::Joined::goes_on))]
+pub fn answers_go_on()
+    ensures each { OneForEach }
+    ensures joined { GoesOn }
+{}
+
+/// The policy of each answer is that after its request and all before it.
+#[tactic(auto, using(crate::proofs::Joined::has_policy_after))]
+pub fn policies_are_those_after()
+    ensures { HasPolicyAfter }
+{}

@@ -1,0 +1,13 @@
+//! What each request of a session is answered, at one moment of the devices, and the policy after it. After
+//! gpsd_json(5); that a WATCH is answered by a DEVICES line and a WATCH line together is this project's own.
+#![tactic(auto)]
+
+mod answering;
+mod known;
+mod laws;
+#[cfg(test)]
+mod tests;
+
+pub use answering::{Answer, answers, opening_reply};
+pub use known::Known;
+pub use laws::{answers_go_on, policies_are_those_after};

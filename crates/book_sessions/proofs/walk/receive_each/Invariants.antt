@@ -1,0 +1,22 @@
+-- The walk over the numbers that are left ends the whole walk, and the batch has a row for each of them.
+use Rattle.std.proofs.Common.{◌≡◌, ◌≤◌, List, length, drop}
+use Rattle.book_batch.specs.Lines.{line_for}
+use Rattle.book_batch.specs.Sharing.{SharesLines, shares_of}
+use Rattle.book_sessions.specs.Attendance.{Attendance}
+use Rattle.book_sessions.specs.Roster.{IsAfterAll}
+use Rattle.book_sessions.specs.Spreading.{Spreads}
+use Rattle.book_sessions.specs.Walks.{Walks}
+use Rattle.book_sessions.proofs.walk.receive_each.Given as goal
+
+abbrev pub invariant-numbers : goal.invariant-numbers
+invariant-numbers g l =
+    let Becomes = Spreads g.O.Outlet.exact (line_for l.names) l.first l.initial.batch.reports in
+    record {
+      so_far : (new : List Attendance) → Walks Becomes (drop l.n-index l.numbers.items) l.members.items new
+          → Walks Becomes l.numbers.items l.initial.members.items new;
+      count : length l.members.items ≡ length l.initial.members.items;
+      after : IsAfterAll l.first l.members.items;
+      shares : length (drop l.n-index l.numbers.items) ≤ shares_of l.batch;
+      lines : SharesLines l.names l.batch;
+      reports : l.batch.reports ≡ l.initial.batch.reports;
+    }

@@ -1,0 +1,100 @@
+-- How a session's requests are answered: in order, until the session is closed. This project's own.
+use Rattle.std.specs.Prelude.{◌≡◌, ◌≤◌, ◌<◌, ◌↔◌, ℕ, zero, suc, ◌+◌, ◌-◌, ◌^◌, Bool, true, false, ◌||◌, nat_le, List, [], ◌∷◌, ◌++◌, length, take, map, Option, Some, None}
+use Rattle.std.specs.List.{list_any}
+use Rattle.gps_command.specs.declared.request.RawCommand.{RawCommand}
+use Rattle.gps_command.specs.Kept as input
+use Rattle.gps_report.specs.declared.report.Report.{Report}
+use Rattle.book_replies.specs.declared.answering.Answer.{Answer}
+use Rattle.book_replies.specs.Knowledge.{Knowledge}
+use Rattle.book_replies.specs.Replies.{answered}
+use Rattle.session_core.specs.declared.mark.Close.{Close}
+use Rattle.session_core.specs.declared.mark.Close.TheVariants.{TooManyRequests, Overrun}
+use Rattle.session_core.specs.declared.mark.Mark.{Mark}
+use Rattle.session_core.specs.declared.outlet.Push.{Push}
+use Rattle.session_core.specs.declared.outlet.Push.TheVariants.{Full}
+use Rattle.session_core.specs.Pushing.{MatchPush}
+use Rattle.session_core.specs.Shown.{Shown, closed_at, last_policy, one_more, replied}
+use Rattle.session_core.specs.Stretches.{Stretch, answer_stretch}
+use Rattle.session_core.specs.Holding.{Selection, Holding, Gains}
+use Rattle.book_sessions.specs.Attendance.{Attendance}
+
+-- what the outlet of a session may answer to a push
+pub record MayAnswer (exact : Bool) (s : Shown) (push : Push) : Type 0 where
+  pub full : push ≡ Full → s.cap ≤ length s.kept
+  pub exactly : exact ≡ true → (push ≡ Full) ↔ (s.cap ≤ length s.kept)
+
+abbrev pub most_requests : ℕ
+most_requests = 65_536
+
+abbrev pub Either : Bool → Type 0 → Type 0 → Type 0
+Either true one other = one
+Either false one other = other
+
+abbrev pub ended : ℕ → Close → Attendance → Attendance
+ended place why a = record a { session = closed_at place why a.session }
+
+abbrev pub put : ℕ → Answer → Attendance → Attendance
+put place answer a = record a {
+  session = replied place answer.policy answer.reply a.session;
+  watched = a.watched || answer.policy.enable;
+}
+
+-- These answers are put in order. After 65,536 answered requests the next one closes the session; so does an outlet that is full.
+abbrev pub Answers : Bool → ℕ → Attendance → List Answer → Attendance → Type 0
+Answers exact place old [] new = new ≡ old
+Answers exact place old (answer ∷ more) new =
+    Either (nat_le most_requests old.session.requests)
+    (new ≡ ended place TooManyRequests old)
+    ((push : Push) × MayAnswer exact old.session push
+    × MatchPush push (Answers exact place (put place answer old) more new) (new ≡ ended place Overrun old))
+
+-- the number of items after so many more; it stays at its greatest value
+abbrev pub raised : ℕ → ℕ → ℕ
+raised items zero = items
+raised items (suc more) = raised (one_more (2 ^ 64 - 1) items) more
+
+abbrev pub mark_at : ℕ → Answer → Mark
+mark_at place answer = record { place = place; policy = answer.policy }
+
+abbrev pub stretch_at : ℕ → Answer → Stretch
+stretch_at place answer = answer_stretch place answer.policy answer.reply
+
+abbrev pub enables : Answer → Bool
+enables answer = answer.policy.enable
+
+-- why so much was not put
+abbrev pub Causes : Shown → Close → Type 0
+Causes s TooManyRequests = most_requests ≤ s.requests
+Causes s Overrun = s.cap ≤ length s.kept
+Causes s _ = ⊥
+
+-- where the session is closed now, some answers were not put, else all were
+abbrev pub Stops : ℕ → ℕ → Shown → Option (ℕ × Close) → Type 0
+Stops place left s None = left ≡ 0
+Stops place left s (Some closing) = (0 < left) × (closing.0 ≡ place) × Causes s closing.1
+
+-- exactly these answers were put, at this place
+pub record Puts (place : ℕ) (old new : Attendance) (answers : List Answer) : Type 0 where
+  pub kept : new.session.kept ≡ old.session.kept ++ map (λ answer. answer.reply) answers
+  pub marks : new.session.marks ≡ old.session.marks ++ map (mark_at place) answers
+  pub policy : new.session.policy ≡ last_policy old.session.policy (map (mark_at place) answers)
+  pub watched : new.watched ≡ (old.watched || list_any enables answers)
+  pub requests : new.session.requests ≡ old.session.requests + length answers
+  pub items : new.session.items ≡ raised old.session.items (length answers)
+  pub name : new.session.name ≡ old.session.name
+  pub cap : new.session.cap ≡ old.session.cap
+  pub gains : (lines : Selection) (history : List Report) (stretches : List Stretch) → length history ≡ place → Holding lines history old.session stretches
+      → Gains lines history history old.session new.session stretches (stretches ++ map (stretch_at place) answers) (map (λ answer. answer.reply) answers)
+
+-- a piece of input at one place: its requests are answered by what is known, until the session is closed
+pub record Inputs (exact : Bool) (known : Knowledge) (names : List (List ℕ)) (place : ℕ) (piece : List ℕ) (old new : Attendance) : Type 0 where
+  pub requests : List RawCommand
+  -- these are the requests that the piece ends, behind all input before it
+  pub gains : (bytes : List ℕ) → input.StandsFor old.cutter bytes → input.Gains bytes piece requests
+  pub cutter : (bytes : List ℕ) → input.StandsFor old.cutter bytes → new.session.closing ≡ None → input.StandsFor new.cutter (bytes ++ piece)
+  -- so many are answered
+  pub count : ℕ
+  pub few : count ≤ length requests
+  pub puts : Puts place old new (take count (answered known names old.session.policy requests))
+  pub stops : Stops place (length requests - count) new.session new.session.closing
+  pub room : 0 < count → (new.session.requests ≤ most_requests) × (exact ≡ true → length new.session.kept ≤ new.session.cap)

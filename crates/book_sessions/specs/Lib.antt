@@ -1,0 +1,5 @@
+pub mod Attendance
+pub mod Answering
+pub mod Roster
+pub mod Spreading
+pub mod Walks

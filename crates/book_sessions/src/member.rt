@@ -1,0 +1,315 @@
+ghost use Rattle.std.specs.Prelude.{◌≡◌, ◌≤◌, ◌<◌, ◌+◌, ◌^◌, ◌||◌, ◌&&◌, not, ℕ, true, false, List, [], length, map, Option, Some, None, slice_get, drop, IfOk, IfErr, IfNone, OnOk, OnErr, is_some, ◌++◌};
+ghost use Rattle.std.specs.Option.{option_to_list};
+ghost use Rattle.gps_command.specs.Kept.{kept_open};
+ghost use Rattle.book_replies.specs.Replies.{answered, opening_reply};
+ghost use Rattle.session_core.specs.declared.mark.Close.{Close};
+ghost use Rattle.session_core.specs.declared.outlet.Push.{Push};
+ghost use Rattle.session_core.specs.Pushing.{MatchPush};
+ghost use Rattle.session_core.specs.Shown.{last_place};
+ghost use Rattle.book_sessions.specs.Attendance.{Attendance, closed, is_open, opened, renewed, rested, with_kept};
+ghost use Rattle.book_sessions.specs.Answering.{Answers, Inputs, MayAnswer, ended, put};
+ghost use Rattle.book_sessions.specs.Roster.{shut_at};
+ghost use Rattle.book_sessions.specs.Spreading.{Spreads};
+ghost use Rattle.book_batch.specs.Lines.{line_for};
+ghost use Rattle.book_batch.specs.Sharing.{AreNamed, row_of};
+
+use crate::spreading::report_all;
+use book_batch::Row;
+use book_replies::{Known, answers, opening_reply};
+use gps_command::{CommandCutter, RawCommand};
+use gps_fixed::NoMemory;
+use gps_report::{Names, Policy, Report};
+use session_core::{Close, Item, Outlet, PlainOutlet, Push, Session, TwoEnded};
+use std::alloc::Global;
+use std::marker::Model;
+use watch_policy::opening;
+
+/// So many requests of a session are answered.
+const MOST_REQUESTS: u32 = 65_536;
+
+/// A session of a roster, with the cutter of its input.
+#[derive(Drop)]
+pub(crate) struct Member<O: Outlet> {
+    session: Session<O>,
+    cutter: CommandCutter,
+    watched: bool,
+}
+
+impl<O: Outlet> Model for Member<O> {
+    ghost use Rattle.std.specs.Prelude.{◌≡◌, ◌<◌, None, length};
+    ghost use Rattle.book_sessions.specs.Attendance.{Attendance};
+
+    ghost Value = { Attendance };
+
+    ghost view = { λ m. record { session = m.session; cutter = m.cutter; watched = m.watched } };
+
+    ghost invariant = { λ m. m.session.closing ≡ None → 0 < length m.session.marks };
+}
+
+/// An answer whose reply can be put.
+#[derive(Drop)]
+struct Reply {
+    policy: Policy,
+    item: Item,
+}
+
+impl Model for Reply {
+    ghost use Rattle.book_replies.specs.declared.answering.Answer.{Answer};
+
+    ghost Value = { Answer };
+
+    ghost view = { λ r. record { policy = r.policy; reply = r.item } };
+}
+
+fn opening_item(alloc: Global) -> Result<Item, NoMemory>
+    ensures { IfOk result (λ item. item ≡ opening_reply) }
+{
+    let reply = opening_reply(alloc)?;
+    Item::of(alloc, reply)
+}
+
+/// A cutter that keeps nothing. Takes no memory.
+#[tactic(auto, unfolding(gps_command::specs::Kept::kept_from))]
+fn new_cutter(alloc: Global) -> CommandCutter
+    ensures { result ≡ kept_open [] }
+{
+    CommandCutter::new(alloc)
+}
+
+fn replies_to(
+    alloc: Global,
+    known: &Known,
+    names: &Names,
+    policy: &Policy,
+    requests: &[RawCommand],
+) -> Result<Vec<Reply>, NoMemory>
+    requires { length names.now ≡ length known.now.firsts }
+    ensures { IfOk result (λ out. out.items ≡ answered known.now names.now policy.now requests.now) }
+{
+    let answers = answers(alloc, known, names, policy, requests)?;
+    let mut out = Vec::new(alloc);
+    'answers: for answer in answers {
+        let item = Item::of(alloc, answer.reply)?;
+        let policy = answer.policy;
+        out.push(Reply { policy, item })?;
+    }
+    Ok(out)
+}
+
+fn is_new(before: bool, now: bool) -> bool
+    ensures { result ≡ (not before && now) }
+{
+    !before && now
+}
+
+fn count_of(replies: &Vec<Reply>) -> Result<u32, NoMemory>
+    ensures { IfOk result (λ count. count ≡ length replies.now.items) }
+{
+    match u32::try_from(replies.len()) {
+        Ok(count) => Ok(count),
+        Err(_) => Err(NoMemory),
+    }
+}
+
+impl<O: Outlet> Member<O> {
+    /// A new session, whose first item is the opening reply. Where memory is refused, the outlet comes back.
+    pub(crate) fn new(alloc: Global, outlet: O, place: u64) -> Result<Member<O>, O>
+        requires empty { O.kept outlet ≡ [] }
+        requires cap { 1 ≤ O.cap outlet }
+        ensures opened { IfOk result (λ m. m ≡ opened (O.name outlet) (O.cap outlet) place) }
+        ensures outlet { IfErr result (λ back. back ≡ outlet) }
+    {
+        let item = match opening_item(alloc) {
+            Ok(item) => item,
+            Err(_) => return Err(outlet),
+        };
+        let mut session = Session::new(alloc, outlet)?;
+        match session.reply(place, opening(), item) {
+            Push::Done => Ok(Member {
+                session,
+                cutter: new_cutter(alloc),
+                watched: false,
+            }),
+            Push::Full => unreachable!(),
+        }
+    }
+
+    pub(crate) fn is_open(&self) -> bool
+        ensures { result ≡ is_open self.now }
+    {
+        self.session.closing().is_none()
+    }
+
+    pub(crate) fn closing(&self) -> Option<(u64, Close)>
+        ensures { result ≡ self.now.session.closing }
+    {
+        self.session.closing()
+    }
+
+    pub(crate) fn items(&self) -> u64
+        ensures { result ≡ self.now.session.items }
+    {
+        self.session.items()
+    }
+
+    pub(crate) fn watched(&self) -> bool
+        ensures { result ≡ self.now.watched }
+    {
+        self.watched
+    }
+
+    fn reply(&mut self, place: u64, reply: Reply) -> Push
+        requires open { self.old.session.closing ≡ None }
+        requires room { 1 ≤ self.old.session.spare }
+        requires after { last_place 0 self.old.session.marks ≤ place }
+        ensures now { MatchPush result (self.new ≡ put place reply self.old) (self.new ≡ ended place Close.Overrun self.old) }
+        ensures may { MayAnswer O.exact self.old.session result }
+    {
+        let enables = reply.policy.enable;
+        let push = self.session.reply(place, reply.policy, reply.item);
+        if push == Push::Done {
+            self.watched = self.watched || enables;
+        }
+        push
+    }
+
+    fn end(&mut self, place: u64, why: Close)
+        requires open { self.old.session.closing ≡ None }
+        requires after { last_place 0 self.old.session.marks ≤ place }
+        ensures { self.new ≡ ended place why self.old }
+    {
+        self.session.close(place, why);
+    }
+
+    /// Gives up the bytes of an open request where the session is closed.
+    fn rest(&mut self, alloc: Global)
+        ensures { self.new ≡ rested self.old }
+    {
+        if self.session.closing().is_some() {
+            self.cutter = new_cutter(alloc);
+        }
+    }
+
+    pub(crate) fn close(&mut self, alloc: Global, place: u64, why: Close)
+        requires open { self.old.session.closing ≡ None }
+        requires after { last_place 0 self.old.session.marks ≤ place }
+        ensures { self.new ≡ closed place why self.old }
+    {
+        self.session.close(place, why);
+        self.cutter = new_cutter(alloc);
+    }
+
+    #[tactic(auto, using(crate::proofs::Answered::put_too_many, crate::proofs::Answered::put_full, crate::proofs::Answered::put_done, crate::proofs::Answered::last_place_push))]
+    fn put_all(&mut self, place: u64, replies: Vec<Reply>)
+        requires open { self.old.session.closing ≡ None }
+        requires room { length replies.items ≤ self.old.session.spare }
+        requires after { last_place 0 self.old.session.marks ≤ place }
+        ensures { Answers O.exact place self.old replies.items self.new }
+    {
+        'replies: for reply in replies {
+            if self.session.requests() >= MOST_REQUESTS {
+                self.end(place, Close::TooManyRequests);
+                return;
+            }
+            if self.reply(place, reply) == Push::Full {
+                return;
+            }
+        }
+    }
+
+    /// Closes an open session, and leaves a closed one.
+    pub(crate) fn shut(&mut self, alloc: Global, place: u64, why: Close)
+        requires after { last_place 0 self.old.session.marks ≤ place }
+        ensures now { self.new ≡ shut_at place why self.old }
+        ensures marks { self.new.session.marks ≡ self.old.session.marks }
+    {
+        if self.is_open() {
+            self.close(alloc, place, why);
+        }
+    }
+
+    /// Reports to an open session each item of the row that its policy selects, until its outlet is full.
+    pub(crate) fn receive(
+        &mut self,
+        alloc: Global,
+        first: u64,
+        reports: &[Report],
+        row: Row,
+        names: &Names,
+    )
+        requires after { last_place 0 self.old.session.marks ≤ first }
+        requires few { first + length reports.now < 2 ^ 63 }
+        requires named { AreNamed names.now reports.now }
+        requires row { row ≡ row_of names.now reports.now }
+        ensures spreads { Spreads O.exact (line_for names.now) first reports.now self.old self.new }
+        ensures marks { self.new.session.marks ≡ self.old.session.marks }
+    {
+        if self.is_open() {
+            report_all(&mut self.session, first, reports, row, names);
+            self.rest(alloc);
+        }
+    }
+
+    /// Answers each request that the piece ends, in order, until the session is closed. Whether it is watched for the first
+    /// time.
+    pub(crate) fn input(
+        &mut self,
+        alloc: Global,
+        place: u64,
+        known: &Known,
+        names: &Names,
+        piece: &[u8],
+    ) -> Result<bool, NoMemory>
+        requires open { self.old.session.closing ≡ None }
+        requires after { last_place 0 self.old.session.marks ≤ place }
+        requires named { length names.now ≡ length known.now.firsts }
+        ensures gains { OnOk result (Inputs O.exact known.now names.now place piece.now self.old self.new) }
+        ensures watched { IfOk result (λ more. self.new.watched ≡ (self.old.watched || more)) }
+        ensures fresh { IfOk result (λ more. more ≡ true → self.old.watched ≡ false) }
+        ensures err { OnErr result (self.new ≡ self.old) }
+    {
+        let before = self.watched;
+        let cut = self.cutter.cut(piece)?;
+        let replies = replies_to(
+            alloc,
+            known,
+            names,
+            self.session.policy(),
+            cut.requests.as_slice(),
+        )?;
+        let count = count_of(&replies)?;
+        self.session.reserve(count)?;
+        let _requests = self.cutter.put(cut);
+        self.put_all(place, replies);
+        self.rest(alloc);
+        Ok(is_new(before, self.watched))
+    }
+
+    pub(crate) fn turn(&mut self)
+        ensures { self.new ≡ renewed self.old }
+    {
+        self.session.turn();
+    }
+}
+
+impl Member<PlainOutlet> {
+    pub(crate) fn take(&mut self) -> Option<Item>
+        ensures item { result ≡ slice_get self.old.session.kept 0 }
+        ensures now { self.new ≡ with_kept (drop 1 self.old.session.kept) self.old }
+    {
+        self.session.take()
+    }
+}
+
+impl<O: TwoEnded> Member<O> {
+    pub(crate) fn settle(&mut self, far: &mut O::Far) -> Option<Item>
+        requires { O.belongs (O.far_name far.old) self.old.session.name }
+        ensures same { self.new ≡ self.old }
+        ensures item { O.got far.new ≡ O.got far.old ++ option_to_list result }
+        ensures prefix { (rest : List (List ℕ)) × (self.new.session.kept ≡ O.got far.new ++ rest) }
+        ensures all { IfNone result (O.got far.new ≡ self.new.session.kept) }
+        ensures far_name { O.far_name far.new ≡ O.far_name far.old }
+    {
+        self.session.settle(far)
+    }
+}

@@ -1,0 +1,292 @@
+ghost use Rattle.std.specs.Prelude.{◌≡◌, ◌≢◌, ◌≤◌, ◌<◌, ◌+◌, ◌^◌, ℕ, true, false, List, [], ◌∷◌, ◌++◌, length, map, count_by, drop, slice_get, slice_index_or, slice_set, nat_lt, option_map, option_and_then, IfOk, IfErr, IfNone, OnOk, OnErr};
+ghost use Rattle.std.specs.List.{AllZip};
+ghost use Rattle.std.specs.Option.{option_to_list};
+ghost use Rattle.gps_report.specs.declared.report.Report.{Report};
+ghost use Rattle.session_core.specs.Holding.{Holding, Selection};
+ghost use Rattle.session_core.specs.Shown.{opening_policy};
+ghost use Rattle.session_core.specs.Stretches.{answer_stretch};
+ghost use Rattle.book_replies.specs.Replies.{opening_reply};
+ghost use Rattle.book_batch.specs.Lines.{line_for};
+ghost use Rattle.book_batch.specs.Sharing.{AreNamed, SharesLines, shares_of};
+ghost use Rattle.book_sessions.specs.Attendance.{Attendance, is_open, opened, renewed, with_kept};
+ghost use Rattle.book_sessions.specs.Answering.{Inputs};
+ghost use Rattle.book_sessions.specs.Roster.{Changes, Closes, IsAfter, IsAfterAll, IsOpenAt, Refuses, Shuts, Turns, live_in, was_watched};
+ghost use Rattle.book_sessions.specs.Spreading.{Spreads};
+
+use crate::member::Member;
+use crate::walk::{close_at, close_each, input_at, keep_open, make_room, receive_each, turn_each};
+use book_batch::Batch;
+use book_replies::Known;
+use gps_fixed::NoMemory;
+use gps_report::Names;
+use session_core::{Close, Item, Outlet, PlainOutlet, TwoEnded};
+use std::alloc::Global;
+use std::marker::Model;
+
+/// So many sessions are open at once.
+const MOST_LIVE: u32 = 64;
+
+/// So many sessions are opened in one run.
+const MOST_OPENED: u32 = 100_000;
+
+/// Why a roster does not admit a session.
+#[derive(Clone, Copy, Debug, PartialEq, Eq)]
+pub enum AdmitFault {
+    /// 64 are live, or 100,000 were opened.
+    TooManySessions { live: u32, opened: u32 },
+    NoMemory,
+}
+
+/// The sessions of a run, by number. Contracts see the plain list of them.
+#[derive(Drop)]
+pub struct Roster<O: Outlet> {
+    alloc: Global,
+    members: Vec<Member<O>>,
+    /// The numbers of the open ones, in order.
+    live: Vec<u32>,
+    /// The numbers of those that were open in this generation.
+    recent: Vec<u32>,
+    watched: u32,
+}
+
+impl<O: Outlet> Model for Roster<O> {
+    ghost use Rattle.std.specs.Prelude.{List};
+    ghost use Rattle.book_sessions.specs.Attendance.{Attendance};
+    ghost use Rattle.book_sessions.specs.Roster.{IsRoster};
+
+    ghost Value = { List Attendance };
+
+    ghost view = { λ r. r.members.items };
+
+    ghost invariant = { λ r. IsRoster r.live.items r.recent.items r.watched r.members.items };
+}
+
+impl<O: Outlet> Roster<O> {
+    /// No session yet. Takes no memory.
+    pub fn new(alloc: Global) -> Roster<O>
+        ensures { result ≡ [] }
+    {
+        Roster {
+            alloc,
+            members: Vec::new(alloc),
+            live: Vec::new(alloc),
+            recent: Vec::new(alloc),
+            watched: 0,
+        }
+    }
+
+    /// How many sessions are open.
+    #[tactic(auto, using(crate::proofs::Walking::numbers_count))]
+    pub fn live(&self) -> u32
+        ensures live { result ≡ live_in self.now }
+        ensures few { result ≤ 64 }
+    {
+        self.live.len() as u32
+    }
+
+    /// How many sessions were opened.
+    pub fn opened(&self) -> u32
+        ensures opened { result ≡ length self.now }
+        ensures few { result ≤ 100000 }
+    {
+        self.members.len() as u32
+    }
+
+    /// How many sessions, open or closed, have had a mark with an enabled policy.
+    pub fn watched(&self) -> u32
+        ensures { result ≡ count_by was_watched self.now }
+    {
+        self.watched
+    }
+
+    /// Whether there is a session of this number.
+    pub fn exists(&self, s: u32) -> bool
+        ensures { result ≡ nat_lt s (length self.now) }
+    {
+        (s as usize) < self.members.len()
+    }
+
+    pub fn is_open(&self, s: u32) -> bool
+        requires { s < length self.now }
+        ensures open { result ≡ true → IsOpenAt s self.now }
+        ensures closed { result ≡ false → (free : Attendance) → (slice_index_or self.now s free).session.closing ≢ None }
+    {
+        self.members[s as usize].is_open()
+    }
+
+    /// The number of items put to a session, or `None` where there is no such session.
+    pub fn items(&self, s: u32) -> Option<u64>
+        ensures { result ≡ option_map (λ a. a.session.items) (slice_get self.now s) }
+    {
+        match self.members.get(s as usize) {
+            Some(member) => Some(member.items()),
+            None => None,
+        }
+    }
+
+    /// Where and why a session was closed, or `None` where there is no such session or it is open.
+    pub fn closing(&self, s: u32) -> Option<(u64, Close)>
+        ensures { result ≡ option_and_then (λ a. a.session.closing) (slice_get self.now s) }
+    {
+        match self.members.get(s as usize) {
+            Some(member) => member.closing(),
+            None => None,
+        }
+    }
+
+    /// Opens the next session, numbered from 0; its first item is the opening reply. Refused where 64 are live or 100,000
+    /// were opened, and then where memory is refused. A refusal changes nothing, and the outlet comes back.
+    #[tactic(auto, using(crate::proofs::Places::opening_holds))]
+    pub fn admit(&mut self, outlet: O, place: u64) -> Result<u32, (O, AdmitFault)>
+        requires empty { O.kept outlet ≡ [] }
+        requires cap { 1 ≤ O.cap outlet }
+        ensures number { IfOk result (λ s. s ≡ length self.old) }
+        ensures admitted { OnOk result (self.new ≡ self.old ++ opened (O.name outlet) (O.cap outlet) place ∷ []) }
+        ensures few { OnOk result ((live_in self.old < 64) × (length self.old < 100000)) }
+        ensures opens { (lines : Selection) (history : List Report) → length history ≡ place
+            → Holding lines history (opened (O.name outlet) (O.cap outlet) place).session (answer_stretch place opening_policy opening_reply ∷ []) }
+        ensures after { (later : ℕ) → place ≤ later → IsAfterAll later self.old → IsAfterAll later self.new }
+        ensures refuses { IfErr result (λ refusal. Refuses self.old refusal.1) }
+        ensures outlet { IfErr result (λ refusal. refusal.0 ≡ outlet) }
+        ensures err { OnErr result (self.new ≡ self.old) }
+    {
+        let live = self.live();
+        let opened = self.opened();
+        if live >= MOST_LIVE || opened >= MOST_OPENED {
+            return Err((outlet, AdmitFault::TooManySessions { live, opened }));
+        }
+        if make_room(&mut self.members, &mut self.live, &mut self.recent).is_err() {
+            return Err((outlet, AdmitFault::NoMemory));
+        }
+        match Member::new(self.alloc, outlet, place) {
+            Ok(member) => {
+                self.members.push_reserved(member);
+                self.live.push_reserved(opened);
+                self.recent.push_reserved(opened);
+                Ok(opened)
+            }
+            Err(outlet) => Err((outlet, AdmitFault::NoMemory)),
+        }
+    }
+
+    /// Answers, at one place, each request that the piece ends, in order, until the session is closed: by the 65,537th
+    /// request, or where its outlet is full. A refusal changes nothing.
+    pub fn input(
+        &mut self,
+        s: u32,
+        place: u64,
+        known: &Known,
+        names: &Names,
+        piece: &[u8],
+    ) -> Result<(), NoMemory>
+        requires exists { s < length self.old }
+        requires open { IsOpenAt s self.old }
+        requires after { IsAfter place s self.old }
+        requires named { length names.now ≡ length known.now.firsts }
+        ensures input { OnOk result (Changes s (Inputs O.exact known.now names.now place piece.now) self.old self.new) }
+        ensures after { (later : ℕ) → place ≤ later → IsAfterAll later self.old → IsAfterAll later self.new }
+        ensures err { OnErr result (self.new ≡ self.old) }
+    {
+        let alloc = self.alloc;
+        let watched = input_at(
+            &mut self.members,
+            s as usize,
+            alloc,
+            place,
+            known,
+            names,
+            piece,
+        )?;
+        keep_open(&self.members, &mut self.live);
+        self.watched += u32::from(watched);
+        Ok(())
+    }
+
+    /// Closes a session. Takes no memory.
+    pub fn hang_up(&mut self, s: u32, place: u64, why: Close)
+        requires exists { s < length self.old }
+        requires open { IsOpenAt s self.old }
+        requires after { IsAfter place s self.old }
+        ensures closes { Changes s (Closes place why) self.old self.new }
+        ensures after { (later : ℕ) → IsAfterAll later self.old → IsAfterAll later self.new }
+    {
+        let alloc = self.alloc;
+        close_at(&mut self.members, s as usize, alloc, place, why);
+        keep_open(&self.members, &mut self.live);
+    }
+
+    /// Reports to each open session, in order, each line of the batch that its policy selects, at the place `first` plus the
+    /// report's index, until a full outlet closes that session. Takes no memory.
+    #[tactic(auto, using(crate::proofs::Walking::numbers_within, crate::proofs::Walking::numbers_count))]
+    pub fn spread(&mut self, first: u64, batch: Batch, names: &Names)
+        requires shares { live_in self.old ≤ shares_of batch }
+        requires after { IsAfterAll first self.old }
+        requires few { first + length batch.reports < 2 ^ 63 }
+        requires named { AreNamed names.now batch.reports }
+        requires lines { SharesLines names.now batch }
+        ensures spreads { AllZip (Spreads O.exact (line_for names.now) first batch.reports) self.old self.new }
+        ensures after { (later : ℕ) → IsAfterAll later self.old → IsAfterAll later self.new }
+    {
+        let alloc = self.alloc;
+        receive_each(&mut self.members, &self.live, alloc, first, batch, names);
+        keep_open(&self.members, &mut self.live);
+    }
+
+    /// A new generation begins: an open session keeps its policy alone, from place 0 on, and a closed one ends there. Takes no
+    /// memory.
+    #[tactic(auto, using(crate::proofs::Rosters::turned_map, crate::proofs::Rosters::turned_zip))]
+    pub fn turn(&mut self)
+        ensures turned { self.new ≡ map renewed self.old }
+        ensures each { AllZip Turns self.old self.new }
+        ensures after { IsAfterAll 0 self.new }
+    {
+        turn_each(&mut self.members, &self.recent);
+        keep_open(&self.members, &mut self.recent);
+    }
+
+    /// Closes each open session, as the daemon has ended. Takes no memory.
+    #[tactic(auto, using(crate::proofs::Walking::numbers_within))]
+    pub fn shut(&mut self, place: u64)
+        requires { IsAfterAll place self.old }
+        ensures shuts { AllZip (Shuts place Close.DaemonEnd) self.old self.new }
+        ensures after { (later : ℕ) → IsAfterAll later self.old → IsAfterAll later self.new }
+    {
+        let alloc = self.alloc;
+        close_each(
+            &mut self.members,
+            &self.live,
+            alloc,
+            place,
+            Close::DaemonEnd,
+        );
+        keep_open(&self.members, &mut self.live);
+    }
+}
+
+impl Roster<PlainOutlet> {
+    /// Takes the first item that the session's outlet holds, or `None` exactly where it holds nothing. Takes no memory.
+    pub fn take(&mut self, s: u32) -> Option<Item>
+        requires { s < length self.old }
+        ensures item { (free : Attendance) → result ≡ slice_get (slice_index_or self.old s free).session.kept 0 }
+        ensures now { Changes s (λ a b. b ≡ with_kept (drop 1 a.session.kept) a) self.old self.new }
+    {
+        let member = &mut self.members[s as usize];
+        member.take()
+    }
+}
+
+impl<O: TwoEnded> Roster<O> {
+    /// Takes one item at the far end of the session's outlet and hands it on. Takes no memory.
+    pub fn settle(&mut self, s: u32, far: &mut O::Far) -> Option<Item>
+        requires exists { s < length self.old }
+        requires belongs { (free : Attendance) → O.belongs (O.far_name far.old) (slice_index_or self.old s free).session.name }
+        ensures same { self.new ≡ self.old }
+        ensures item { O.got far.new ≡ O.got far.old ++ option_to_list result }
+        ensures prefix { (free : Attendance) → (rest : List (List ℕ)) × ((slice_index_or self.new s free).session.kept ≡ O.got far.new ++ rest) }
+        ensures all { IfNone result ((free : Attendance) → O.got far.new ≡ (slice_index_or self.new s free).session.kept) }
+        ensures far_name { O.far_name far.new ≡ O.far_name far.old }
+    {
+        let member = &mut self.members[s as usize];
+        member.settle(far)
+    }
+}

@@ -1,0 +1,86 @@
+ghost use Rattle.std.specs.Prelude.{◌≡◌, ◌≤◌, ◌<◌, ◌+◌, ◌^◌, MatchOption, count_by, length};
+ghost use Rattle.std.specs.Int.{from_bool};
+ghost use Rattle.std.specs.List.{All, AllZip};
+ghost use Rattle.session_core.specs.declared.mark.Close.{Close};
+ghost use Rattle.session_core.specs.declared.outlet.Push.{Push};
+ghost use Rattle.session_core.specs.Pushing.{MatchPush};
+ghost use Rattle.session_core.specs.Shown.{closed_at, given, last_place};
+ghost use Rattle.book_batch.specs.Lines.{line_for};
+ghost use Rattle.book_batch.specs.Sharing.{AreNamed, SharesLines, row_of, shares_of};
+ghost use Rattle.book_sessions.specs.Answering.{MayAnswer};
+ghost use Rattle.book_sessions.specs.Spreading.{Reports, Takes, due, is_live};
+
+use book_batch::{Batch, Row};
+use gps_report::{Names, Report};
+use session_core::{Close, Item, Outlet, Push, Session};
+
+/// Where there is no item, nothing is pushed.
+fn report_some<O: Outlet>(session: &mut Session<O>, place: u64, item: Option<Item>) -> Push
+    requires open { session.old.closing ≡ None }
+    requires after { last_place 0 session.old.marks ≤ place }
+    ensures { MatchOption item ((result ≡ Push.Done) × (session.new ≡ session.old)) (λ line. MayAnswer O.exact session.old result
+        × MatchPush result (session.new ≡ given line session.old) (session.new ≡ closed_at place Close.Overrun session.old)) }
+{
+    match item {
+        Some(item) => session.report(place, item),
+        None => Push::Done,
+    }
+}
+
+/// Reports each item that the session's policy selects, until the outlet is full.
+pub(crate) fn report_all<O: Outlet>(
+    session: &mut Session<O>,
+    first: u64,
+    reports: &[Report],
+    mut row: Row,
+    names: &Names,
+)
+    requires open { session.old.closing ≡ None }
+    requires after { last_place 0 session.old.marks ≤ first }
+    requires few { first + length reports.now < 2 ^ 63 }
+    requires named { AreNamed names.now reports.now }
+    requires row { row ≡ row_of names.now reports.now }
+    ensures { Takes O.exact (due (line_for names.now) session.old.policy first reports.now) session.old session.new }
+{
+    let mut place = first;
+    'reports: for report in reports {
+        let item = row.item_for(session.policy(), names, report);
+        if report_some(session, place, item) == Push::Full {
+            return;
+        }
+        place += 1;
+    }
+}
+
+/// Reports a row of the batch to an open session, and nothing to a closed one.
+fn report_row<O: Outlet>(session: &mut Session<O>, first: u64, batch: &mut Batch, names: &Names)
+    requires after { last_place 0 session.old.marks ≤ first }
+    requires shares { from_bool (is_live session.old) ≤ shares_of batch.old }
+    requires few { first + length batch.old.reports < 2 ^ 63 }
+    requires named { AreNamed names.now batch.old.reports }
+    requires lines { SharesLines names.now batch.old }
+    ensures session { Reports O.exact (line_for names.now) first batch.old.reports session.old session.new }
+    ensures shares { shares_of batch.old ≡ shares_of batch.new + from_bool (is_live session.old) }
+    ensures lines { SharesLines names.now batch.new }
+    ensures reports { batch.new.reports ≡ batch.old.reports }
+{
+    if session.closing().is_none() {
+        let row = batch.take_row();
+        report_all(session, first, batch.reports(), row, names);
+    }
+}
+
+/// Reports to each open session, in order, each item of the batch that the session's policy selects, at the place `first`
+/// plus the report's index, until a full outlet closes that session. Takes no memory.
+pub fn spread<O: Outlet>(sessions: &mut [Session<O>], first: u64, mut batch: Batch, names: &Names)
+    requires shares { count_by is_live sessions.old ≤ shares_of batch }
+    requires after { All (λ s. last_place 0 s.marks ≤ first) sessions.old }
+    requires few { first + length batch.reports < 2 ^ 63 }
+    requires named { AreNamed names.now batch.reports }
+    requires lines { SharesLines names.now batch }
+    ensures { AllZip (Reports O.exact (line_for names.now) first batch.reports) sessions.old sessions.new }
+{
+    'sessions: for session in sessions.iter_mut() {
+        report_row(session, first, &mut batch, names);
+    }
+}

@@ -1,0 +1,143 @@
+//! What the roster does over its vectors. No contract of these functions is public.
+
+ghost use Rattle.std.specs.Prelude.{◌≡◌, ◌≤◌, ◌<◌, ◌+◌, ◌^◌, filter, length, count_by, vec_len, vec_capacity, IfOk, OnOk, OnErr};
+ghost use Rattle.std.specs.Int.{from_bool};
+ghost use Rattle.std.specs.List.{All};
+ghost use Rattle.book_batch.specs.Lines.{line_for};
+ghost use Rattle.book_batch.specs.Sharing.{AreNamed, SharesLines, shares_of};
+ghost use Rattle.book_sessions.specs.Attendance.{Attendance, is_open, renewed};
+ghost use Rattle.book_sessions.specs.Answering.{Inputs};
+ghost use Rattle.book_sessions.specs.Roster.{Changes, Closes, IsAfter, IsAfterAll, IsOpenAt, shut_at, was_watched};
+ghost use Rattle.book_sessions.specs.Spreading.{Spreads};
+ghost use Rattle.book_sessions.specs.Walks.{Walks, passes_at};
+
+use crate::member::Member;
+use book_batch::Batch;
+use book_replies::Known;
+use gps_fixed::NoMemory;
+use gps_report::Names;
+use session_core::{Close, Outlet};
+use std::alloc::Global;
+
+fn is_open_at<O: Outlet>(members: &Vec<Member<O>>, n: u32) -> bool
+    ensures { result ≡ passes_at is_open members.now.items n }
+{
+    match members.get(n as usize) {
+        Some(member) => member.is_open(),
+        None => false,
+    }
+}
+
+/// Of these numbers those of open sessions stay.
+pub(crate) fn keep_open<O: Outlet>(members: &Vec<Member<O>>, numbers: &mut Vec<u32>)
+    ensures { numbers.new.items ≡ filter (passes_at is_open members.now.items) numbers.old.items }
+{
+    numbers.retain(|n| is_open_at(members, *n));
+}
+
+/// Room for one more of each.
+pub(crate) fn make_room<O: Outlet>(
+    members: &mut Vec<Member<O>>,
+    live: &mut Vec<u32>,
+    recent: &mut Vec<u32>,
+) -> Result<(), NoMemory>
+    ensures members { members.new.items ≡ members.old.items }
+    ensures live { live.new.items ≡ live.old.items }
+    ensures recent { recent.new.items ≡ recent.old.items }
+    ensures room { OnOk result (vec_len members.new < vec_capacity members.new) }
+    ensures live_room { OnOk result (vec_len live.new < vec_capacity live.new) }
+    ensures recent_room { OnOk result (vec_len recent.new < vec_capacity recent.new) }
+{
+    members.reserve(1)?;
+    live.reserve(1)?;
+    recent.reserve(1)?;
+    Ok(())
+}
+
+/// Whether the session is watched for the first time.
+pub(crate) fn input_at<O: Outlet>(
+    members: &mut Vec<Member<O>>,
+    s: usize,
+    alloc: Global,
+    place: u64,
+    known: &Known,
+    names: &Names,
+    piece: &[u8],
+) -> Result<bool, NoMemory>
+    requires exists { s < length members.old.items }
+    requires open { IsOpenAt s members.old.items }
+    requires after { IsAfter place s members.old.items }
+    requires named { length names.now ≡ length known.now.firsts }
+    ensures input { OnOk result (Changes s (Inputs O.exact known.now names.now place piece.now) members.old.items members.new.items) }
+    ensures watched { IfOk result (λ more. count_by was_watched members.new.items ≡ count_by was_watched members.old.items + from_bool more) }
+    ensures err { OnErr result (members.new.items ≡ members.old.items) }
+{
+    let member = &mut members[s];
+    member.input(alloc, place, known, names, piece)
+}
+
+pub(crate) fn close_at<O: Outlet>(
+    members: &mut Vec<Member<O>>,
+    s: usize,
+    alloc: Global,
+    place: u64,
+    why: Close,
+)
+    requires exists { s < length members.old.items }
+    requires open { IsOpenAt s members.old.items }
+    requires after { IsAfter place s members.old.items }
+    ensures { Changes s (Closes place why) members.old.items members.new.items }
+{
+    let member = &mut members[s];
+    member.close(alloc, place, why);
+}
+
+pub(crate) fn turn_each<O: Outlet>(members: &mut Vec<Member<O>>, numbers: &Vec<u32>)
+    requires { All (λ n. n < length members.old.items) numbers.now.items }
+    ensures { Walks (λ a b. b ≡ renewed a) numbers.now.items members.old.items members.new.items }
+{
+    'numbers: for n in numbers {
+        let member = &mut members[*n as usize];
+        member.turn();
+    }
+}
+
+pub(crate) fn close_each<O: Outlet>(
+    members: &mut Vec<Member<O>>,
+    numbers: &Vec<u32>,
+    alloc: Global,
+    place: u64,
+    why: Close,
+)
+    requires within { All (λ n. n < length members.old.items) numbers.now.items }
+    requires after { IsAfterAll place members.old.items }
+    ensures { Walks (λ a b. b ≡ shut_at place why a) numbers.now.items members.old.items members.new.items }
+{
+    'numbers: for n in numbers {
+        let member = &mut members[*n as usize];
+        member.shut(alloc, place, why);
+    }
+}
+
+pub(crate) fn receive_each<O: Outlet>(
+    members: &mut Vec<Member<O>>,
+    numbers: &Vec<u32>,
+    alloc: Global,
+    first: u64,
+    mut batch: Batch,
+    names: &Names,
+)
+    requires within { All (λ n. n < length members.old.items) numbers.now.items }
+    requires shares { length numbers.now.items ≤ shares_of batch }
+    requires after { IsAfterAll first members.old.items }
+    requires few { first + length batch.reports < 2 ^ 63 }
+    requires named { AreNamed names.now batch.reports }
+    requires lines { SharesLines names.now batch }
+    ensures { Walks (Spreads O.exact (line_for names.now) first batch.reports) numbers.now.items members.old.items members.new.items }
+{
+    'numbers: for n in numbers {
+        let row = batch.take_row();
+        let member = &mut members[*n as usize];
+        member.receive(alloc, first, batch.reports(), row, names);
+    }
+}

@@ -1,0 +1,3 @@
+pub mod Given
+mod Orders
+mod Rooms

@@ -1,0 +1,4 @@
+pub mod Changes
+pub mod Samples
+pub mod Steps
+pub mod Units

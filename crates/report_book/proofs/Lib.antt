@@ -1,0 +1,6 @@
+pub mod Lists
+pub mod Adding
+pub mod Turning
+pub mod Changing
+pub mod Reading
+pub mod Calls

@@ -1,0 +1,65 @@
+-- A new generation of a book.
+use Rattle.std.proofs.Common.{◌≡◌, ◌≤◌, ◌+◌, ℕ, Bool, true, false, cond, refl, sym, ap, ◌∙◌, subst, List, [], ◌∷◌, ◌++◌, length, map, get_or, append-nil, arith, ◌<◌}
+use Rattle.std.specs.List.{All, AllZip, fold}
+use Rattle.std.proofs.lemmas.List.{length-map}
+use Rattle.std.proofs.lemmas.List.Elements.{AllZip-get_or}
+use Rattle.session_core.specs.declared.mark.Close.{Close}
+use Rattle.session_core.specs.Holding.{stretches_left}
+use Rattle.session_core.specs.Shown.{turned_closing}
+use Rattle.book_batch.specs.Lines.{line_for}
+use Rattle.book_log.specs.History.{history_after}
+use Rattle.book_log.specs.Logged.{Logged, Holds as LogHolds, turned as turned_log}
+use Rattle.book_log.proofs.LoggedSteps.{turned_holds}
+use Rattle.book_sessions.specs.Attendance.{Attendance, is_open, renewed}
+use Rattle.book_sessions.specs.Roster.{Turns, live_in}
+use Rattle.book_units.specs.Changes.{EachUnit, Turns as UnitTurns, turned as turned_unit}
+use Rattle.book_units.specs.Units.{UnitView, carried_by, since_turn}
+use Rattle.report_book.specs.BookView.{BookView, renewed_if, turned_if}
+use Rattle.report_book.specs.Standing.{Holds, Over, SessionHolds, UnitHolds}
+
+book_turned : (b : BookView) → Holds b → AllZip Turns b.sessions (map renewed b.sessions) → EachUnit (λ _. UnitTurns) b.units (map turned_unit b.units) → Holds (turned_if true b)
+unfolding history_after
+book_turned b held sessions units =
+    let count = units.count in
+    record {
+      log = turned_holds b.log held.log;
+      over = λ before stands. record {
+        sessions = λ k d within.
+            let long : length (map renewed b.sessions) ≡ length b.sessions = length-map b.sessions renewed in
+            let there : k < length b.sessions = omega arith in
+            let turns : Turns (get_or b.sessions k d) (get_or (map renewed b.sessions) k d) =
+            AllZip-get_or Turns b.sessions (map renewed b.sessions) k d d sessions there in
+            let s = (get_or b.sessions k d).session in
+            (stretches_left s.closing s.policy, turns.holding (line_for b.names));
+        units = λ u free within.
+            let there : u < length b.units = omega arith in
+            let turns : UnitTurns (get_or b.units u free) (get_or (map turned_unit b.units) u free) = units.each u free there in
+            turns.since ∙ sym turns.carried ∙ sym (append-nil (carried_by (get_or (map turned_unit b.units) u free)));
+      };
+      names = held.names;
+      count = held.count;
+      units = count ∙ held.units;
+    }
+
+pub book_turned_if : (turns : Bool) (b : BookView) → Holds b → (turns ≡ true → AllZip Turns b.sessions (map renewed b.sessions))
+    → (turns ≡ true → EachUnit (λ _. UnitTurns) b.units (map turned_unit b.units)) → Holds (turned_if turns b)
+book_turned_if true b held sessions units = book_turned b held (sessions refl) (units refl)
+book_turned_if false b held sessions units = held
+
+-- a turn closes no session
+open_still : (a : Attendance) → is_open (renewed a) ≡ is_open a
+open_still a = by a.session.closing
+  where
+    by : (c : Rattle.std.specs.Prelude.Option (ℕ × Close)) → Rattle.std.specs.Prelude.not (Rattle.std.specs.Prelude.is_some (turned_closing c)) ≡ Rattle.std.specs.Prelude.not (Rattle.std.specs.Prelude.is_some c)
+    by Rattle.std.specs.Prelude.None = refl
+    by (Rattle.std.specs.Prelude.Some closing) = refl
+
+live_from : (n : ℕ) (sessions : List Attendance) → fold (λ (m : ℕ) (a : Attendance). m + cond (is_open a) 1 0) n (map renewed sessions) ≡ fold (λ (m : ℕ) (a : Attendance). m + cond (is_open a) 1 0) n sessions
+live_from n [] = refl
+live_from n (a ∷ sessions) =
+    live_from (n + cond (is_open (renewed a)) 1 0) sessions
+    ∙ ap (λ b. fold (λ (m : ℕ) (x : Attendance). m + cond (is_open x) 1 0) (n + cond b 1 0) sessions) (open_still a)
+
+pub live_still : (turns : Bool) (sessions : List Attendance) → live_in (renewed_if turns sessions) ≡ live_in sessions
+live_still true sessions = live_from 0 sessions
+live_still false sessions = refl

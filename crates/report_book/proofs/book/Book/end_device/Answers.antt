@@ -1,0 +1,37 @@
+use Rattle.std.proofs.Common.{◌≡◌, ◌≤◌, ◌<◌, ℕ, Bool, false, length, ap, sym, subst, arith}
+use Rattle.book_log.proofs.Owned.{are_named}
+use Rattle.book_log.specs.Entries.{fed, edged, ended}
+use Rattle.book_log.specs.Logged.{turns_at}
+use Rattle.report_book.specs.BookView.{BookView, turned_if}
+use Rattle.report_book.specs.Moves.{Earns}
+use Rattle.report_book.proofs.Calls.{after_if, is_device, moved, roomy}
+use Rattle.report_book.proofs.book.Book.end_device.Goals as goal
+
+pub put-requires-clause-after : goal.put-requires-clause-after
+put-requires-clause-after g c =
+    after_if false c.in_ok-added.added.turned c.in_ok-added.added.first (record { names = c.self.inside.names; log = c.self.inside.log; sessions = c.self.inside.roster; units = c.self.inside.units.units }) c.self.invariant c.in_ok-added.ensures.turned c.in_ok-added.ensures.first
+
+pub put-requires-clause-named : goal.put-requires-clause-named
+put-requires-clause-named g c =
+    let N : BookView → Type 0 = λ b. c.args.d < length b.names in
+    are_named c.args.d c.self.inside.names c.in_ok-added.added.batch.reports c.in_ok-added.ensures.own (subst N (sym c.self.view_is) (is_device c.args.self.now c.args.d c.in_ok-check_device.field-0 c.in_ok-check_device.ensures))
+
+pub put-requires-clause-room : goal.put-requires-clause-room
+put-requires-clause-room g c =
+    let short : length c.in_ok-added.added.batch.reports ≤ 2568 = let short = c.in_ok-added.ensures.few in omega arith in
+    roomy c.args.d c.reserve.new.self.spare c.in_ok-added.added.batch.reports c.in_ok-reserve.ensures.room c.in_ok-added.ensures.own short
+
+pub invariant_of-self-2 : goal.invariant_of-self-2
+invariant_of-self-2 g c =
+    (moved g.O.Outlet.exact c.self.inside.names c.self.inside.log c.end_device.new.self c.self.inside.roster c.put.new.roster c.self.inside.units.units c.reserve.new.self.units c.put.new.units.units
+    false c.in_ok-added.added.turned c.in_ok-added.added.first (ended c.args.d) c.in_ok-added.added.batch.reports
+    c.self.invariant c.in_ok-added.ensures.turned c.in_ok-added.ensures.first c.reserve.ensures.units c.in_ok-added.ensures.holds c.in_ok-added.ensures.adds
+    c.put.ensures.turned c.put.ensures.carried c.put.ensures.sessions c.put.ensures.units).holds
+
+pub returns-clause-earns : goal.returns-clause-earns
+returns-clause-earns g c =
+    let P : BookView → Type 0 = λ b. Earns b (record { names = c.self.inside.names; log = c.end_device.new.self; sessions = c.put.new.roster; units = c.put.new.units.units }) (ended c.args.d) in
+    subst P c.self.view_is ((moved g.O.Outlet.exact c.self.inside.names c.self.inside.log c.end_device.new.self c.self.inside.roster c.put.new.roster c.self.inside.units.units c.reserve.new.self.units c.put.new.units.units
+    false c.in_ok-added.added.turned c.in_ok-added.added.first (ended c.args.d) c.in_ok-added.added.batch.reports
+    c.self.invariant c.in_ok-added.ensures.turned c.in_ok-added.ensures.first c.reserve.ensures.units c.in_ok-added.ensures.holds c.in_ok-added.ensures.adds
+    c.put.ensures.turned c.put.ensures.carried c.put.ensures.sessions c.put.ensures.units).earns)

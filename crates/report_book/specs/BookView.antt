@@ -1,0 +1,27 @@
+-- What contracts see of a book: the names of its devices, what came of them, its sessions by number, and its units. This project's own.
+use Rattle.std.specs.Prelude.{ℕ, Bool, List, cond, map}
+use Rattle.book_log.specs.Logged.{Logged, turned_if as log_turned_if}
+use Rattle.book_sessions.specs.Attendance.{Attendance, renewed}
+use Rattle.book_units.specs.Changes.{turned as turned_unit}
+use Rattle.book_units.specs.Units.{UnitView}
+
+pub record BookView : Type 0 where
+  pub names : List (List ℕ)
+  pub log : Logged
+  pub sessions : List Attendance
+  pub units : List UnitView
+
+abbrev pub renewed_if : Bool → List Attendance → List Attendance
+renewed_if turns sessions = cond turns (map renewed sessions) sessions
+
+abbrev pub units_turned_if : Bool → List UnitView → List UnitView
+units_turned_if turns units = cond turns (map turned_unit units) units
+
+-- where a new generation begins, the old log is forgotten, each session goes on from place 0, and each unit carries what it has not published
+abbrev pub turned_if : Bool → BookView → BookView
+turned_if turns b = record {
+  names = b.names;
+  log = log_turned_if turns b.log;
+  sessions = renewed_if turns b.sessions;
+  units = units_turned_if turns b.units;
+}

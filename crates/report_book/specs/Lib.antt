@@ -1,0 +1,6 @@
+pub mod BookView
+pub mod Knowing
+pub mod Standing
+pub mod Moves
+pub mod Refusals
+pub mod Faults

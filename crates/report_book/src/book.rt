@@ -1,0 +1,435 @@
+ghost use Rattle.std.specs.Prelude.{◌≡◌, ◌≤◌, ◌<◌, ◌+◌, ◌*◌, ◌^◌, ◌++◌, ◌⊎◌, map, ℕ, true, false, List, [], ◌∷◌, length, count_by, cond, get_or, slice_get, option_map, option_and_then, Some, None, IfOk, IfErr, IfSome, OnOk, OnErr, IfNone, drop, nat_lt};
+ghost use Rattle.std.specs.List.{All, AllZip, list_all};
+ghost use Rattle.std.specs.Arc.{arc_value};
+ghost use Rattle.std.specs.Option.{option_to_list};
+ghost use Rattle.session_core.specs.declared.mark.Close.{Close as CloseValue};
+ghost use Rattle.shm_segment.specs.Publishing.{noticed};
+ghost use Rattle.book_log.specs.Entries.{edged, ended, fed, lost};
+ghost use Rattle.book_log.specs.Logged.{turns_at};
+ghost use Rattle.book_log.specs.Standing.{has_stopped};
+ghost use Rattle.book_batch.specs.Lines.{line_for};
+ghost use Rattle.book_batch.specs.Sharing.{AreNamed, SharesLines, shares_of};
+ghost use Rattle.book_sessions.specs.Attendance.{Attendance, renewed};
+ghost use Rattle.book_sessions.specs.Roster.{IsAfterAll, Turns, live_in, was_watched};
+ghost use Rattle.book_sessions.specs.Spreading.{Spreads};
+ghost use Rattle.book_units.specs.Changes.{EachUnit, Gains as UnitGains, Turns as UnitTurns, turned as turned_unit};
+ghost use Rattle.book_units.specs.Samples.{samples_of};
+ghost use Rattle.book_units.specs.Steps.{BearsOut, state_of};
+ghost use Rattle.book_units.specs.Units.{UnitView, HasRoom, segment_of};
+ghost use Rattle.report_book.specs.BookView.{renewed_if, turned_if, units_turned_if};
+ghost use Rattle.report_book.specs.Moves.{AddsQuietly, Admits, Earns, HangsUp, Hears, IsNewBook, Moves, PublishesAt, ShutsAll, TakesFirst};
+ghost use Rattle.report_book.specs.Refusals.{RefusesAs, RefusesOnly, RefusesWith, crowd_fault, device_fault, missing_session, missing_unit, session_fault};
+ghost use Rattle.report_book.specs.Standing.{Holds};
+
+use crate::fault::BookFault;
+use crate::knowing::known;
+use book_log::{Addition, DeviceLog};
+use book_sessions::Roster;
+use book_units::{UnitState, UnitStep, Units};
+use gps_fixed::{NoMemory, Stamp};
+use gps_report::{Edge, Names};
+use session_core::{Close, Item, Outlet, PlainOutlet, TwoEnded};
+use shm_segment::{Account, MonitorSeat, Notice, Segment};
+use std::alloc::Global;
+use std::marker::Model;
+use std::sync::Arc;
+
+/// A call adds at most so many samples to a unit.
+const MOST_SAMPLES: usize = 2568;
+
+/// The devices of a daemon, its one history, its sessions, and its units.
+///
+/// A device is named by its number, from 0 on, and has two units: unit 2d has its serial times with precision -1, and unit 2d + 1 its
+/// pulses with precision -20. Sessions are numbered from 0 in the order in which they were admitted. A refused call leaves the book as
+/// it was.
+#[derive(Drop)]
+pub struct Book<O: Outlet> {
+    alloc: Global,
+    names: Names,
+    log: DeviceLog,
+    roster: Roster<O>,
+    units: Units,
+}
+
+impl<O: Outlet> Model for Book<O> {
+    ghost use Rattle.report_book.specs.BookView.{BookView};
+    ghost use Rattle.report_book.specs.Standing.{Holds};
+
+    ghost Value = { BookView };
+
+    ghost view = { λ b. record { names = b.names; log = b.log; sessions = b.roster; units = b.units.units } };
+
+    ghost invariant = { λ b. Holds (record { names = b.names; log = b.log; sessions = b.roster; units = b.units.units }) };
+}
+
+/// Begins a new generation of the sessions and the units, where one is due. Takes no memory.
+fn turn_if<O: Outlet>(turns: bool, roster: &mut Roster<O>, units: &mut Units)
+    ensures sessions { roster.new ≡ renewed_if turns roster.old }
+    ensures turned { turns ≡ true → AllZip Turns roster.old (map renewed roster.old) }
+    ensures units { units.new.units ≡ units_turned_if turns units.old.units }
+    ensures carried { turns ≡ true → EachUnit (λ _. UnitTurns) units.old.units (map turned_unit units.old.units) }
+    ensures room { units.new.spare ≡ units.old.spare }
+{
+    if turns {
+        roster.turn();
+        units.turn();
+    }
+}
+
+/// Puts in place what came: a new generation where one began, then the samples, then the lines. Takes no memory.
+fn put<O: Outlet>(roster: &mut Roster<O>, units: &mut Units, names: &Names, added: Addition)
+    requires shares { live_in roster.old ≤ shares_of added.batch }
+    requires after { IsAfterAll added.first (renewed_if added.turned roster.old) }
+    requires few { added.first + length added.batch.reports < 2 ^ 63 }
+    requires named { AreNamed names.now added.batch.reports }
+    requires lines { SharesLines names.now added.batch }
+    requires room { HasRoom units.old.spare added.batch.reports }
+    ensures turned { added.turned ≡ true → AllZip Turns roster.old (map renewed roster.old) }
+    ensures carried { added.turned ≡ true → EachUnit (λ _. UnitTurns) units.old.units (map turned_unit units.old.units) }
+    ensures sessions { AllZip (Spreads O.exact (line_for names.now) added.first added.batch.reports) (renewed_if added.turned roster.old) roster.new }
+    ensures units { EachUnit (λ u. UnitGains (samples_of u added.batch.reports)) (units_turned_if added.turned units.old.units) units.new.units }
+{
+    let Addition {
+        turned,
+        first,
+        batch,
+    } = added;
+    turn_if(turned, roster, units);
+    units.add_all(batch.reports());
+    roster.spread(first, batch, names);
+}
+
+impl<O: Outlet> Book<O> {
+    /// A book of devices with these names, whose generations hold at most `limit` symbols, or those of one call where that is more. The
+    /// samples of unit u are numbered from `firsts[u] + 1` on.
+    pub fn new(
+        alloc: Global,
+        names: Names,
+        limit: u32,
+        firsts: [u32; 16],
+    ) -> Result<Book<O>, NoMemory>
+        requires some { 1 ≤ limit }
+        requires most { limit ≤ 33554432 }
+        requires firsts { All (λ first. first ≤ 1073741823) firsts }
+        ensures new { IfOk result (λ b. IsNewBook names limit firsts b) }
+        ensures holds { IfOk result Holds }
+    {
+        let devices = names.len() as u8;
+        let log = DeviceLog::new(alloc, devices, limit)?;
+        let units = Units::new(alloc, devices, firsts)?;
+        Ok(Book {
+            alloc,
+            names,
+            log,
+            roster: Roster::new(alloc),
+            units,
+        })
+    }
+
+    fn check_device(&self, d: u8) -> Result<(), BookFault>
+        ensures { RefusesOnly (device_fault self.now d) result }
+    {
+        if usize::from(d) >= self.names.len() {
+            Err(BookFault::NoSuch)
+        } else if self.log.has_stopped(d) {
+            Err(BookFault::Ended)
+        } else {
+            Ok(())
+        }
+    }
+
+    fn check_session(&self, s: u32) -> Result<(), BookFault>
+        ensures { RefusesOnly (session_fault self.now s) result }
+    {
+        if !self.roster.exists(s) {
+            Err(BookFault::NoSuch)
+        } else if !self.roster.is_open(s) {
+            Err(BookFault::Ended)
+        } else {
+            Ok(())
+        }
+    }
+
+    fn check_exists(&self, s: u32) -> Result<(), BookFault>
+        ensures { RefusesOnly (missing_session self.now s) result }
+    {
+        if self.roster.exists(s) {
+            Ok(())
+        } else {
+            Err(BookFault::NoSuch)
+        }
+    }
+
+    fn check_unit(&self, u: u8) -> Result<(), BookFault>
+        ensures { RefusesOnly (missing_unit self.now u) result }
+    {
+        if usize::from(u) < 2 * self.names.len() {
+            Ok(())
+        } else {
+            Err(BookFault::NoSuch)
+        }
+    }
+
+    /// Gives a device its next piece of bytes, which came at this stamp. Its first piece is announced before its packets.
+    ///
+    /// A new generation begins first exactly where the log holds a symbol and would come to more than the limit.
+    pub fn feed(&mut self, d: u8, at: Stamp, bytes: &[u8]) -> Result<(), BookFault>
+        requires some { 1 ≤ length bytes.now }
+        requires piece { length bytes.now ≤ 512 }
+        ensures fed { OnOk result (Moves O.exact (turns_at self.old.log (length bytes.now)) self.old self.new (fed d at bytes.now)) }
+        ensures earns { OnOk result (Earns (turned_if (turns_at self.old.log (length bytes.now)) self.old) self.new (fed d at bytes.now)) }
+        ensures refusal { RefusesAs (device_fault self.old d) result }
+        ensures unchanged { OnErr result (self.new ≡ self.old) }
+    {
+        self.check_device(d)?;
+        self.units.reserve(d, MOST_SAMPLES)?;
+        let shares = self.roster.live();
+        let added = self.log.feed(d, at, bytes, &self.names, shares)?;
+        put(&mut self.roster, &mut self.units, &self.names, added);
+        Ok(())
+    }
+
+    /// Gives a device its next pulse edge. A new generation begins first as at [`Book::feed`].
+    pub fn edge(&mut self, d: u8, edge: Edge) -> Result<(), BookFault>
+        ensures edged { OnOk result (Moves O.exact (turns_at self.old.log 1) self.old self.new (edged d edge)) }
+        ensures earns { OnOk result (Earns (turned_if (turns_at self.old.log 1) self.old) self.new (edged d edge)) }
+        ensures refusal { RefusesAs (device_fault self.old d) result }
+        ensures unchanged { OnErr result (self.new ≡ self.old) }
+    {
+        self.check_device(d)?;
+        self.units.reserve(d, MOST_SAMPLES)?;
+        let shares = self.roster.live();
+        let added = self.log.edge(d, &edge, &self.names, shares)?;
+        put(&mut self.roster, &mut self.units, &self.names, added);
+        Ok(())
+    }
+
+    /// Ends a device: its running epoch is closed, and then it is announced that it has ended.
+    pub fn end_device(&mut self, d: u8) -> Result<(), BookFault>
+        ensures ended { OnOk result (Moves O.exact false self.old self.new (ended d)) }
+        ensures earns { OnOk result (Earns self.old self.new (ended d)) }
+        ensures refusal { RefusesAs (device_fault self.old d) result }
+        ensures unchanged { OnErr result (self.new ≡ self.old) }
+    {
+        self.check_device(d)?;
+        self.units.reserve(d, MOST_SAMPLES)?;
+        let shares = self.roster.live();
+        let added = self.log.end_device(d, &self.names, shares)?;
+        put(&mut self.roster, &mut self.units, &self.names, added);
+        Ok(())
+    }
+
+    /// A device is lost: it has ended, and nothing is announced. Takes no memory.
+    pub fn lose_device(&mut self, d: u8) -> Result<(), BookFault>
+        ensures lost { OnOk result (AddsQuietly self.old self.new (lost d)) }
+        ensures earns { OnOk result (Earns self.old self.new (lost d)) }
+        ensures refusal { RefusesOnly (device_fault self.old d) result }
+        ensures unchanged { OnErr result (self.new ≡ self.old) }
+    {
+        self.check_device(d)?;
+        self.log.lose_device(d);
+        Ok(())
+    }
+
+    /// Opens the next session, whose first item is the VERSION line. Where it is refused, the outlet comes back.
+    pub fn admit(&mut self, outlet: O) -> Result<u32, (O, BookFault)>
+        requires empty { O.kept outlet ≡ [] }
+        requires cap { 1 ≤ O.cap outlet }
+        ensures number { IfOk result (λ s. s ≡ length self.old.sessions) }
+        ensures admits { OnOk result (Admits (O.name outlet) (O.cap outlet) self.old self.new) }
+        ensures refusal { RefusesWith (crowd_fault self.old) result }
+        ensures outlet { IfErr result (λ refusal. refusal.0 ≡ outlet) }
+        ensures unchanged { OnErr result (self.new ≡ self.old) }
+    {
+        match self.roster.admit(outlet, self.log.place()) {
+            Ok(s) => Ok(s),
+            Err((outlet, fault)) => Err((outlet, fault.into())),
+        }
+    }
+
+    /// Gives a session the next piece of its input: each request that it ends is answered, in order, until the session is closed.
+    pub fn input(&mut self, s: u32, piece: &[u8]) -> Result<(), BookFault>
+        requires some { 1 ≤ length piece.now }
+        requires piece { length piece.now ≤ 512 }
+        ensures hears { OnOk result (Hears O.exact s piece.now self.old self.new) }
+        ensures refusal { RefusesAs (session_fault self.old s) result }
+        ensures unchanged { OnErr result (self.new ≡ self.old) }
+    {
+        self.check_session(s)?;
+        let known = known(self.alloc, &self.log, &self.names)?;
+        let place = self.log.place();
+        self.roster.input(s, place, &known, &self.names, piece)?;
+        Ok(())
+    }
+
+    /// Closes a session. Takes no memory.
+    pub fn hang_up(&mut self, s: u32, why: Close) -> Result<(), BookFault>
+        requires why { (why ≡ CloseValue.HungUp) ⊎ (why ≡ CloseValue.ReadFault) ⊎ (why ≡ CloseValue.NoMemory) }
+        ensures hangs_up { OnOk result (HangsUp s why self.old self.new) }
+        ensures refusal { RefusesOnly (session_fault self.old s) result }
+        ensures unchanged { OnErr result (self.new ≡ self.old) }
+    {
+        self.check_session(s)?;
+        let place = self.log.place();
+        self.roster.hang_up(s, place, why);
+        Ok(())
+    }
+
+    /// Begins a unit's first waiting sample where none is being stored, and makes one store, or none. Takes no memory.
+    pub fn publish_step(&mut self, u: u8) -> Result<UnitStep, BookFault>
+        ensures publishes { IfOk result (λ step. PublishesAt u step self.old self.new) }
+        ensures refusal { RefusesOnly (missing_unit self.old u) result }
+        ensures unchanged { OnErr result (self.new ≡ self.old) }
+    {
+        self.check_unit(u)?;
+        Ok(self.units.publish_step(u))
+    }
+
+    /// Closes each live session, as the daemon has ended. Takes no memory.
+    pub fn shut(&mut self)
+        requires { list_all (λ line. has_stopped line.stage) self.old.log.present.lines ≡ true }
+        ensures { ShutsAll self.old self.new }
+    {
+        let place = self.log.place();
+        self.roster.shut(place);
+    }
+
+    /// A unit's segment, and a seat for a monitor of it.
+    pub fn monitor_seat(&mut self, u: u8) -> Result<(Arc<Segment>, MonitorSeat), BookFault>
+        ensures part { IfOk result (λ r. (free : UnitView) → (arc_value r.0 ≡ segment_of (get_or self.old.units u free)) × (r.1 ≡ segment_of (get_or self.old.units u free))) }
+        ensures refusal { RefusesAs (missing_unit self.old u) result }
+        ensures unchanged { self.new ≡ self.old }
+    {
+        self.check_unit(u)?;
+        let seat = self.units.monitor_seat(u)?;
+        Ok(seat)
+    }
+
+    /// A copy of what a unit's publisher has published. Takes no memory.
+    pub fn notice(&mut self, u: u8) -> Result<Notice, BookFault>
+        ensures notice { IfOk result (λ notice. (free : UnitView) → notice ≡ noticed (get_or self.old.units u free).publisher) }
+        ensures refusal { RefusesOnly (missing_unit self.old u) result }
+        ensures unchanged { self.new ≡ self.old }
+    {
+        self.check_unit(u)?;
+        Ok(self.units.notice(u))
+    }
+
+    /// A unit's publisher learns of a monitor's pairs and loads. Takes no memory.
+    pub fn hear(&mut self, u: u8, account: Account) -> Result<(), BookFault>
+        requires { u < length self.old.units → (free : UnitView) → account.segment ≡ segment_of (get_or self.old.units u free) }
+        ensures heard { OnOk result ((free : UnitView) → BearsOut (get_or self.old.units u free) account.taken account.kept) }
+        ensures refusal { RefusesOnly (missing_unit self.old u) result }
+        ensures unchanged { self.new ≡ self.old }
+    {
+        self.check_unit(u)?;
+        self.units.hear(u, account);
+        Ok(())
+    }
+
+    /// Whether each device has ended or was lost.
+    pub fn all_ended(&self) -> bool
+        ensures { result ≡ list_all (λ line. has_stopped line.stage) self.now.log.present.lines }
+    {
+        self.log.all_ended()
+    }
+
+    /// The number of symbols in the log of this generation.
+    pub fn symbols(&self) -> u32
+        ensures { result ≡ self.now.log.symbols }
+    {
+        self.log.symbols()
+    }
+
+    /// The number of generations before this one; at its greatest value it stays there.
+    pub fn generation(&self) -> u64
+        ensures { result ≡ self.now.log.generation }
+    {
+        self.log.generation()
+    }
+
+    /// The number of sessions that are not closed.
+    pub fn live(&self) -> u32
+        ensures { result ≡ live_in self.now.sessions }
+    {
+        self.roster.live()
+    }
+
+    /// The number of sessions that were opened in the whole run.
+    pub fn opened(&self) -> u32
+        ensures { result ≡ length self.now.sessions }
+    {
+        self.roster.opened()
+    }
+
+    /// The number of sessions, live or closed, that have had a mark with an enabled policy in the whole run.
+    pub fn watched(&self) -> u32
+        ensures { result ≡ count_by was_watched self.now.sessions }
+    {
+        self.roster.watched()
+    }
+
+    /// The number of items put to a session; none exactly where there is no such session.
+    pub fn items(&self, s: u32) -> Option<u64>
+        ensures { result ≡ option_map (λ a. a.session.items) (slice_get self.now.sessions s) }
+    {
+        self.roster.items(s)
+    }
+
+    /// The place of this generation's history at which a session was closed, and why; none exactly where it does not exist or is not
+    /// closed.
+    pub fn closing(&self, s: u32) -> Option<(u64, Close)>
+        ensures { result ≡ option_and_then (λ a. a.session.closing) (slice_get self.now.sessions s) }
+    {
+        self.roster.closing(s)
+    }
+
+    /// How many samples a unit has published in this run, its word count, and how many are left; none exactly where there is no such unit.
+    pub fn unit(&self, u: u8) -> Option<UnitState>
+        ensures { result ≡ option_map state_of (slice_get self.now.units u) }
+    {
+        match self.check_unit(u) {
+            Ok(()) => Some(self.units.unit(u)),
+            Err(_) => None,
+        }
+    }
+
+    /// What always holds of a book.
+    pub fn show(&self)
+        ensures { Holds self.now }
+    {
+        let _log = &self.log;
+    }
+}
+
+impl Book<PlainOutlet> {
+    /// The item that was put first of those that a session's outlet holds; none exactly where it holds nothing. Takes no memory.
+    pub fn take(&mut self, s: u32) -> Result<Option<Item>, BookFault>
+        ensures item { IfOk result (λ item. (free : Attendance) → item ≡ slice_get (get_or self.old.sessions s free).session.kept 0) }
+        ensures takes { OnOk result (TakesFirst s self.old self.new) }
+        ensures refusal { RefusesOnly (missing_session self.old s) result }
+        ensures unchanged { OnErr result (self.new ≡ self.old) }
+    {
+        self.check_exists(s)?;
+        let item = self.roster.take(s);
+        Ok(item)
+    }
+}
+
+impl<O: TwoEnded> Book<O> {
+    /// Takes one item at the far end of a session's outlet and hands it on: what the far end has got begins what the outlet keeps, and is
+    /// all of it where there was none. Takes no memory.
+    pub fn settle(&mut self, s: u32, far: &mut O::Far) -> Result<Option<Item>, BookFault>
+        requires { s < length self.old.sessions → (free : Attendance) → O.belongs (O.far_name far.old) (get_or self.old.sessions s free).session.name }
+        ensures got { IfOk result (λ item. O.got far.new ≡ O.got far.old ++ option_to_list item) }
+        ensures prefix { OnOk result ((free : Attendance) → (rest : List (List ℕ)) × ((get_or self.new.sessions s free).session.kept ≡ O.got far.new ++ rest)) }
+        ensures all { IfOk result (λ item. IfNone item ((free : Attendance) → O.got far.new ≡ (get_or self.new.sessions s free).session.kept)) }
+        ensures far_name { O.far_name far.new ≡ O.far_name far.old }
+        ensures refusal { RefusesOnly (missing_session self.old s) result }
+        ensures unchanged { self.new ≡ self.old }
+    {
+        self.check_exists(s)?;
+        let item = self.roster.settle(s, far);
+        Ok(item)
+    }
+}

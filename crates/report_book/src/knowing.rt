@@ -1,0 +1,70 @@
+ghost use Rattle.std.specs.Prelude.{◌≡◌, ◌++◌, List, IfOk, OnOk, length};
+ghost use Rattle.std.specs.Option.{option_copied};
+ghost use Rattle.book_log.specs.Entries.{Entry};
+ghost use Rattle.book_log.specs.Logged.{Holds};
+ghost use Rattle.book_log.specs.Standing.{StandsFor};
+ghost use Rattle.report_book.specs.Knowing.{fix_reports, known_in, sky_reports};
+
+use book_log::DeviceLog;
+use book_replies::Known;
+use gps_fixed::NoMemory;
+use gps_report::{Body, Fix, Names, Report, Sky};
+use std::alloc::Global;
+
+fn push_fix(
+    fixes: &mut Vec<Report>,
+    device: u8,
+    is_active: bool,
+    fix: Option<Fix>,
+) -> Result<(), NoMemory>
+    ensures { OnOk result (fixes.new.items ≡ fixes.old.items ++ fix_reports device is_active fix) }
+{
+    if !is_active {
+        return Ok(());
+    }
+    if let Some(fix) = fix {
+        let body = Body::Tpv(fix);
+        fixes.push(Report { device, body })?;
+    }
+    Ok(())
+}
+
+fn push_sky(
+    skies: &mut Vec<Report>,
+    device: u8,
+    is_active: bool,
+    sky: Option<&Sky>,
+) -> Result<(), NoMemory>
+    ensures { OnOk result (skies.new.items ≡ skies.old.items ++ sky_reports device is_active (option_copied sky.entry)) }
+{
+    if !is_active {
+        return Ok(());
+    }
+    if let Some(sky) = sky {
+        let body = Body::Sky(sky.copy()?);
+        skies.push(Report { device, body })?;
+    }
+    Ok(())
+}
+
+/// What replies show of the devices now.
+#[tactic(auto, using(crate::proofs::Reading::none_read, crate::proofs::Reading::one_more_read))]
+pub fn known(alloc: Global, log: &DeviceLog, names: &Names) -> Result<Known, NoMemory>
+    requires named { length names.now ≡ length log.now.present.lines }
+    requires holds { Holds log.now }
+    ensures known { IfOk result (λ known. (before : List Entry) → StandsFor log.now.opening before
+        → known ≡ known_in (length names.now) (before ++ log.now.log)) }
+    ensures count { IfOk result (λ known. length known.firsts ≡ length names.now) }
+{
+    let mut firsts = Vec::new(alloc);
+    let mut fixes = Vec::new(alloc);
+    let mut skies = Vec::new(alloc);
+    'devices: for device in 0..names.len() as u8 {
+        let first = log.active(device);
+        let is_active = first.is_some();
+        firsts.push(first)?;
+        push_fix(&mut fixes, device, is_active, log.last_fix(device))?;
+        push_sky(&mut skies, device, is_active, log.last_sky(device))?;
+    }
+    Ok(Known::of(firsts, log.last_stamp(), fixes, skies))
+}

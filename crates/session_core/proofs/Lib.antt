@@ -1,0 +1,5 @@
+pub mod Policies
+pub mod Intervals
+pub mod Growth
+pub mod Gaining
+pub mod Joining

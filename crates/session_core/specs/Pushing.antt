@@ -1,0 +1,8 @@
+-- What a push may answer, case by case. This project's own.
+use Rattle.session_core.specs.declared.outlet.Push.{Push}
+use Rattle.session_core.specs.declared.outlet.Push.TheVariants.{Done, Full}
+
+-- a fact for each answer of a push
+abbrev pub MatchPush : Push → Type 0 → Type 0 → Type 0
+MatchPush Done done full = done
+MatchPush Full done full = full

@@ -1,0 +1,65 @@
+use crate::Item;
+
+/// What an outlet answers to an item.
+#[derive(Clone, Copy, Debug, PartialEq, Eq)]
+pub enum Push {
+    Done,
+    /// The item was dropped.
+    Full,
+}
+
+/// Where the items of a session go, in order.
+pub trait Outlet: Drop {
+    ghost use Rattle.std.specs.Prelude.{◌≡◌, ◌↔◌, ◌≤◌, ℕ, Bool, true, List, [], ◌∷◌, ◌++◌, length};
+    ghost use Rattle.session_core.specs.declared.outlet.Push.{Push};
+    ghost use Rattle.session_core.specs.Naming.{OutletName};
+    ghost use Rattle.session_core.specs.Pushing.{MatchPush};
+
+    /// A suffix of the items that were put to it.
+    ghost kept: { Self → List (List ℕ) };
+
+    /// How many items it may hold.
+    ghost cap: { Self → ℕ };
+
+    /// What ties it to its far end, where it has one.
+    ghost name: { Self → OutletName };
+
+    /// It holds exactly what it keeps, so that it is full exactly where it keeps as many items as it may hold.
+    ghost exact: { Bool };
+
+    /// Takes no memory.
+    fn push(&mut self, item: Item) -> Push
+        ensures kept { MatchPush result (kept self.new ≡ kept self.old ++ item ∷ []) (kept self.new ≡ kept self.old) }
+        ensures full { result ≡ Push.Full → cap self.old ≤ length (kept self.old) }
+        ensures exact { exact ≡ true → (result ≡ Push.Full) ↔ (cap self.old ≤ length (kept self.old)) }
+        ensures cap { cap self.new ≡ cap self.old }
+        ensures name { name self.new ≡ name self.old };
+}
+
+/// An outlet whose items are taken at another end.
+pub trait TwoEnded: Outlet {
+    ghost use Rattle.std.specs.Prelude.{◌≡◌, ℕ, List, ◌++◌, IfNone};
+    ghost use Rattle.std.specs.Option.{option_to_list};
+    ghost use Rattle.session_core.specs.Naming.{OutletName};
+
+    type Far;
+
+    /// The items that a far end has got.
+    ghost got: { Self.Far → List (List ℕ) };
+
+    ghost far_name: { Self.Far → OutletName };
+
+    /// The far end of this name belongs to the outlet of that name.
+    ghost belongs: { OutletName → OutletName → Type 0 };
+
+    /// Takes one item at the far end and hands it on. Takes no memory.
+    fn settle(&mut self, far: &mut Self::Far) -> Option<Item>
+        requires { belongs (far_name far.old) (Self.name self.old) }
+        ensures item { got far.new ≡ got far.old ++ option_to_list result }
+        ensures prefix { (rest : List (List ℕ)) × (Self.kept self.new ≡ got far.new ++ rest) }
+        ensures all { IfNone result (got far.new ≡ Self.kept self.new) }
+        ensures kept { Self.kept self.new ≡ Self.kept self.old }
+        ensures cap { Self.cap self.new ≡ Self.cap self.old }
+        ensures name { Self.name self.new ≡ Self.name self.old }
+        ensures far_name { far_name far.new ≡ far_name far.old };
+}

@@ -1,0 +1,289 @@
+ghost use Rattle.std.specs.Prelude.{◌≡◌, ◌↔◌, ◌≤◌, ◌<◌, [], ◌∷◌, ◌++◌, ◌-◌, ◌^◌, ◌||◌, if◌then◌else◌, ℕ, true, length, drop, max, slice_get, List, IfOk, IfErr, IfNone, OnOk, OnErr, Option};
+ghost use Rattle.std.specs.Option.{option_to_list};
+ghost use Rattle.session_core.specs.declared.outlet.Push.{Push};
+ghost use Rattle.session_core.specs.declared.mark.Close.{Close};
+ghost use Rattle.gps_report.specs.declared.report.Report.{Report};
+ghost use Rattle.session_core.specs.Stretches.{Stretch, answer_stretch};
+ghost use Rattle.session_core.specs.Holding.{Selection, Agrees, Holding, Gains, stretches_left};
+ghost use Rattle.session_core.specs.Pushing.{MatchPush};
+ghost use Rattle.session_core.specs.Shown.{fresh, given, marked, replied, closed_at, turned, last_place, one_more};
+
+use crate::marks::{add_mark, leave_last, leave_none};
+use crate::{Close, Item, Mark, Outlet, PlainOutlet, Push, TwoEnded};
+use gps_fixed::NoMemory;
+use gps_report::Policy;
+use std::alloc::Global;
+use std::marker::Model;
+
+/// One session: the marks of this generation, the closing, and the outlet to which its items are put.
+#[derive(Drop)]
+pub struct Session<O: Outlet> {
+    outlet: O,
+    marks: Vec<Mark>,
+    answered: bool,
+    closing: Option<(u64, Close)>,
+    /// The policy where there is no mark.
+    unmarked: Policy,
+    requests: u32,
+    items: u64,
+    /// A closed session gets no mark, and so needs no room for it.
+    spare: usize,
+}
+
+impl<O: Outlet> Model for Session<O> {
+    ghost use Rattle.std.specs.Prelude.{◌≡◌, ◌≤◌, ◌+◌, None, vec_len, vec_capacity};
+    ghost use Rattle.session_core.specs.Shown.{Shown, last_policy};
+
+    ghost Value = { Shown };
+
+    ghost view = { λ s. record {
+      name = O.name s.outlet;
+      cap = O.cap s.outlet;
+      kept = O.kept s.outlet;
+      marks = s.marks.items;
+      answered = s.answered;
+      closing = s.closing;
+      policy = last_policy s.unmarked s.marks.items;
+      requests = s.requests;
+      items = s.items;
+      spare = s.spare;
+    } };
+
+    ghost invariant = { λ s. s.closing ≡ None → vec_len s.marks + s.spare ≤ vec_capacity s.marks };
+}
+
+/// The opening is no request.
+fn counted(requests: u32, opening: bool) -> u32
+    ensures { result ≡ (if opening then requests else one_more (2 ^ 32 - 1) requests) }
+{
+    if opening {
+        requests
+    } else {
+        requests.saturating_add(1)
+    }
+}
+
+impl<O: Outlet> Session<O> {
+    /// A session without marks that watches nothing, with room for its opening. Where memory is refused, the outlet
+    /// comes back.
+    pub fn new(alloc: Global, outlet: O) -> Result<Session<O>, O>
+        ensures fresh { IfOk result (λ s. s ≡ fresh (O.name outlet) (O.cap outlet) (O.kept outlet)) }
+        ensures outlet { IfErr result (λ back. back ≡ outlet) }
+        ensures agrees { (lines : Selection) (history : List Report) → IfOk result (λ s. Agrees lines history s []) }
+    {
+        match Vec::with_capacity(alloc, 1) {
+            Ok(marks) => Ok(Session {
+                outlet,
+                marks,
+                answered: false,
+                closing: None,
+                unmarked: Policy {
+                    enable: false,
+                    json: false,
+                    nmea: false,
+                    raw: 0,
+                    pps: false,
+                    device: None,
+                },
+                requests: 0,
+                items: 0,
+                spare: 1,
+            }),
+            Err(_) => Err(outlet),
+        }
+    }
+
+    /// Takes room for so many further marks.
+    #[tactic(auto, using(crate::proofs::Gaining::roomier))]
+    pub fn reserve(&mut self, marks: u32) -> Result<(), NoMemory>
+        ensures ok { OnOk result (self.new ≡ record self.old { spare = max self.old.spare marks }) }
+        ensures err { OnErr result (self.new ≡ self.old) }
+        ensures holding { (lines : Selection) (history : List Report) (stretches : List Stretch) → Holding lines history self.old stretches
+            → Holding lines history self.new stretches }
+    {
+        let marks = marks as usize;
+        if self.spare >= marks {
+            return Ok(());
+        }
+        if self.closing.is_none() {
+            self.marks.reserve(marks)?;
+        }
+        self.spare = marks;
+        Ok(())
+    }
+
+    fn put(&mut self, item: Item) -> Push
+        ensures given { MatchPush result (self.new ≡ given item self.old) (self.new ≡ self.old) }
+        ensures full { result ≡ Push.Full → self.old.cap ≤ length self.old.kept }
+        ensures exact { O.exact ≡ true → (result ≡ Push.Full) ↔ (self.old.cap ≤ length self.old.kept) }
+    {
+        match self.outlet.push(item) {
+            Push::Done => {
+                self.items = self.items.saturating_add(1);
+                Push::Done
+            }
+            Push::Full => Push::Full,
+        }
+    }
+
+    fn mark(&mut self, place: u64, policy: Policy)
+        requires open { self.old.closing ≡ None }
+        requires room { 1 ≤ self.old.spare }
+        ensures { self.new ≡ marked place policy self.old }
+    {
+        let opening = add_mark(&mut self.marks, place, policy);
+        self.answered = opening || self.answered;
+        self.requests = counted(self.requests, opening);
+        self.spare -= 1;
+    }
+
+    fn overrun(&mut self, place: u64)
+        ensures { self.new ≡ closed_at place Close.Overrun self.old }
+    {
+        self.closing = Some((place, Close::Overrun));
+    }
+
+    /// Puts the reply to the opening or to a request, and marks where from the policy after it holds. Where the outlet is
+    /// full, there is no mark, and the session is closed.
+    #[tactic(auto, using(crate::proofs::Gaining::reply_gains, crate::proofs::Policies::last_place_push))]
+    pub fn reply(&mut self, place: u64, policy: Policy, item: Item) -> Push
+        requires open { self.old.closing ≡ None }
+        requires room { 1 ≤ self.old.spare }
+        requires after { last_place 0 self.old.marks ≤ place }
+        ensures now { MatchPush result (self.new ≡ replied place policy item self.old) (self.new ≡ closed_at place Close.Overrun self.old) }
+        ensures full { result ≡ Push.Full → self.old.cap ≤ length self.old.kept }
+        ensures exact { O.exact ≡ true → (result ≡ Push.Full) ↔ (self.old.cap ≤ length self.old.kept) }
+        ensures placed { last_place 0 self.new.marks ≤ place }
+        ensures items { (lines : Selection) (history : List Report) (stretches : List Stretch) → length history ≡ place → Agrees lines history self.old stretches
+            → MatchPush result (Gains lines history history self.old self.new stretches (stretches ++ answer_stretch place policy item ∷ []) (item ∷ []))
+            (Gains lines history history self.old self.new stretches stretches []) }
+    {
+        match self.put(item) {
+            Push::Done => {
+                self.mark(place, policy);
+                Push::Done
+            }
+            Push::Full => {
+                self.overrun(place);
+                Push::Full
+            }
+        }
+    }
+
+    /// Puts the line of a selected report that stands at this place. Where the outlet is full, the session is closed.
+    pub fn report(&mut self, place: u64, item: Item) -> Push
+        requires open { self.old.closing ≡ None }
+        requires after { last_place 0 self.old.marks ≤ place }
+        ensures now { MatchPush result (self.new ≡ given item self.old) (self.new ≡ closed_at place Close.Overrun self.old) }
+        ensures full { result ≡ Push.Full → self.old.cap ≤ length self.old.kept }
+        ensures exact { O.exact ≡ true → (result ≡ Push.Full) ↔ (self.old.cap ≤ length self.old.kept) }
+        ensures placed { last_place 0 self.new.marks ≤ place }
+        ensures items { (lines : Selection) (history : List Report) (last : Report) (stretches : List Stretch) → length history ≡ place
+            → lines self.old.policy last ≡ item ∷ [] → Holding lines history self.old stretches
+            → MatchPush result (Gains lines history (history ++ last ∷ []) self.old self.new stretches stretches (item ∷ []))
+            (Gains lines history (history ++ last ∷ []) self.old self.new stretches stretches []) }
+    {
+        match self.put(item) {
+            Push::Done => Push::Done,
+            Push::Full => {
+                self.overrun(place);
+                Push::Full
+            }
+        }
+    }
+
+    /// From this place on nothing is put any more. Takes no memory.
+    #[tactic(auto, using(crate::proofs::Gaining::close_gains))]
+    pub fn close(&mut self, place: u64, why: Close)
+        requires open { self.old.closing ≡ None }
+        requires after { last_place 0 self.old.marks ≤ place }
+        ensures now { self.new ≡ closed_at place why self.old }
+        ensures items { (lines : Selection) (history : List Report) (stretches : List Stretch) → length history ≡ place → Agrees lines history self.old stretches
+            → Gains lines history history self.old self.new stretches stretches [] }
+    {
+        self.closing = Some((place, why));
+    }
+
+    /// The place from which on nothing is put any more, and why; none exactly where the session is open.
+    pub fn closing(&self) -> Option<(u64, Close)>
+        ensures { result ≡ self.now.closing }
+    {
+        self.closing
+    }
+
+    /// The policy of the last reply, or before the first one that of the opening.
+    #[tactic(auto, using(crate::proofs::Policies::last_policy_got))]
+    pub fn policy(&self) -> &Policy
+        ensures { result.now ≡ self.now.policy }
+    {
+        match self.marks.last() {
+            Some(mark) => &mark.policy,
+            None => &self.unmarked,
+        }
+    }
+
+    /// How many requests were answered.
+    pub fn requests(&self) -> u32
+        ensures { result ≡ self.now.requests }
+    {
+        self.requests
+    }
+
+    /// How many items were put.
+    pub fn items(&self) -> u64
+        ensures { result ≡ self.now.items }
+    {
+        self.items
+    }
+
+    pub fn into_outlet(self) -> O
+        ensures kept { O.kept result ≡ self.kept }
+        ensures cap { O.cap result ≡ self.cap }
+        ensures name { O.name result ≡ self.name }
+    {
+        let Session { outlet, .. } = self;
+        outlet
+    }
+
+    /// A new generation begins: an open session keeps its policy alone, from place 0 on, and a closed one ends there.
+    pub fn turn(&mut self)
+        requires { self.old.closing ≡ None → 0 < length self.old.marks }
+        ensures now { self.new ≡ turned self.old }
+        ensures holding { (lines : Selection) → Holding lines [] self.new (stretches_left self.old.closing self.old.policy) }
+    {
+        match self.closing {
+            None => leave_last(&mut self.marks),
+            Some((_, why)) => {
+                leave_none(&mut self.marks, &mut self.unmarked);
+                self.closing = Some((0, why));
+            }
+        }
+        self.answered = false;
+    }
+}
+
+impl Session<PlainOutlet> {
+    /// The item that was put first of those that the outlet holds; none exactly where it holds nothing.
+    pub fn take(&mut self) -> Option<Item>
+        ensures item { result ≡ slice_get self.old.kept 0 }
+        ensures now { self.new ≡ record self.old { kept = drop 1 self.old.kept } }
+        ensures holding { (lines : Selection) (history : List Report) (stretches : List Stretch) → Holding lines history self.old stretches
+            → Holding lines history self.new stretches }
+    {
+        self.outlet.take()
+    }
+}
+
+impl<O: TwoEnded> Session<O> {
+    /// Takes one item at the far end and hands it on.
+    pub fn settle(&mut self, far: &mut O::Far) -> Option<Item>
+        requires { O.belongs (O.far_name far.old) self.old.name }
+        ensures same { self.new ≡ self.old }
+        ensures item { O.got far.new ≡ O.got far.old ++ option_to_list result }
+        ensures prefix { (rest : List (List ℕ)) × (self.new.kept ≡ O.got far.new ++ rest) }
+        ensures all { IfNone result (O.got far.new ≡ self.new.kept) }
+        ensures far_name { O.far_name far.new ≡ O.far_name far.old }
+    {
+        self.outlet.settle(far)
+    }
+}

@@ -1,0 +1,21 @@
+-- The two ends of a lane, as contracts see them. This project's own.
+use Rattle.std.specs.Prelude.{ℕ, List}
+use Rattle.atomic_table.specs.Seated.{TableId}
+use Rattle.gps_lane.specs.declared.ends.Pushed.{Pushed}
+use Rattle.gps_lane.specs.declared.ends.Pushed.TheVariants.{Done, Full}
+
+-- the end that puts: its lane, how many items the lane may hold, and all that was put
+pub record Putting (T : Type 0) : Type 0 where
+  pub lane : TableId
+  pub cap : ℕ
+  pub put : List T
+
+-- the end that gets: its lane, and all that was got
+pub record Taking (T : Type 0) : Type 0 where
+  pub lane : TableId
+  pub got : List T
+
+-- a fact for each answer of a push
+abbrev pub MatchPushed : {T : Type 0} → Pushed T → Type 0 → (T → Type 0) → Type 0
+MatchPushed Done done full = done
+MatchPushed (Full item) done full = full item

@@ -1,0 +1,29 @@
+-- A lane between two ends: what was put into it is what was got of it, and then what it holds. One end at most puts, and it has the list of
+-- what was put; the same for getting. This project's own.
+use Rattle.std.specs.Prelude.{◌≡◌, ℕ, Bool, true, List, ◌++◌, length}
+use mathlib.Core.Option.{some}
+use lib.ListN.{get_elem?}
+use Rattle.gps_lane.specs.declared.order.Log.{Log}
+
+abbrev pub log : {T : Type 0} → Bool → Bool → List T → List T → Log T
+log puts gets put got = record { puts = puts; gets = gets; put = put; got = got }
+
+-- what an end knows is so, where `writer` is the number of the end that puts, and `reader` that of the end that gets
+abbrev pub Fits : {T : Type 0} → ℕ → ℕ → List T → List T → ℕ → Log T → Type 0
+Fits writer reader put got end v = (v.puts ≡ true → (end ≡ writer) × (v.put ≡ put)) × (v.gets ≡ true → (end ≡ reader) × (v.got ≡ got))
+
+abbrev pub IsInOrder : {T : Type 0} → List T → List (Log T) → Type 0
+IsInOrder {T} items views = (writer : ℕ) × (reader : ℕ) × (put : List T) × (got : List T) × (put ≡ got ++ items)
+    × ((end : ℕ) (v : Log T) → get_elem? views end ≡ some v → Fits writer reader put got end v)
+
+-- these are the last of all
+abbrev pub EndsWith : {T : Type 0} → List T → List T → Type 0
+EndsWith {T} last all = (front : List T) × (all ≡ front ++ last)
+
+-- these are the first of all
+abbrev pub BeginsWith : {T : Type 0} → List T → List T → Type 0
+BeginsWith {T} first all = (rest : List T) × (all ≡ first ++ rest)
+
+-- so many items, the last of those that were put, stood in the lane at once
+abbrev pub HeldAtOnce : {T : Type 0} → ℕ → List T → Type 0
+HeldAtOnce {T} n put = (held : List T) × (length held ≡ n) × EndsWith held put

@@ -1,0 +1,13 @@
+//! The lanes of the running daemon: bounded queues between two threads, each with one end that puts and one that gets,
+//! and the bells by which a thread that sleeps is woken. This project's own, over the queue of `crossbeam_queue`.
+#![tactic(auto)]
+
+mod bell;
+mod ends;
+mod order;
+mod outlet;
+#[cfg(test)]
+mod tests;
+
+pub use bell::Bell;
+pub use ends::{Pushed, Rx, Tx, lane, settle};

@@ -1,0 +1,40 @@
+use crate::{Pushed, Rx, Tx, settle};
+use session_core::{Item, Outlet, Push, TwoEnded};
+use std::sync::Wait;
+
+impl<R: Wait + Copy> Outlet for Tx<Item, R> {
+    ghost use Rattle.std.specs.Prelude.{false};
+    ghost use Rattle.session_core.specs.Naming.{OutletName, of_table};
+
+    ghost kept = { λ s. s.put };
+
+    ghost cap = { λ s. s.cap };
+
+    ghost name = { λ s. OutletName.of_table s.lane };
+
+    ghost exact = { false };
+
+    fn push(&mut self, item: Item) -> Push {
+        match Tx::push(self, item) {
+            Pushed::Done => Push::Done,
+            Pushed::Full(_) => Push::Full,
+        }
+    }
+}
+
+impl<R: Wait + Copy> TwoEnded for Tx<Item, R> {
+    ghost use Rattle.std.specs.Prelude.{◌≡◌};
+    ghost use Rattle.session_core.specs.Naming.{OutletName, of_table};
+
+    type Far = Rx<Item, R>;
+
+    ghost got = { λ far. far.got };
+
+    ghost far_name = { λ far. OutletName.of_table far.lane };
+
+    ghost belongs = { λ far near. far ≡ near };
+
+    fn settle(&mut self, far: &mut Rx<Item, R>) -> Option<Item> {
+        settle(self, far)
+    }
+}

@@ -1,0 +1,113 @@
+use crate::{Bell, Pushed, Rx, Tx, lane, settle};
+use gps_fixed::Bytes;
+use session_core::{Item, Push, TwoEnded};
+use std::sync::Wait;
+use std::test::Fail;
+use std::thread;
+
+/// The item that a push gave back.
+fn back_of(pushed: Pushed<u32>) -> Option<u32> {
+    match pushed {
+        Pushed::Done => None,
+        Pushed::Full(back) => Some(back),
+    }
+}
+
+#[test]
+fn a_lane_of_two_is_full_after_two(rt: HostRuntime) -> Result<(), Fail> {
+    let (mut tx, mut rx) = lane(rt, rt.alloc(), 2)?;
+    for (item, back) in [(1, None), (2, None), (3, Some(3))] {
+        assert_eq!(rt; back_of(tx.push(item)), back);
+    }
+    assert_eq!(rt; rx.pop(), Some(1));
+    assert_eq!(rt; back_of(tx.push(4)), None);
+    for got in [Some(2), Some(4), None] {
+        assert_eq!(rt; rx.pop(), got);
+    }
+    assert_eq!(rt; settle(&mut tx, &mut rx), None);
+    Ok(())
+}
+
+/// By these one thread says that an item came, and the other that there is room.
+#[derive(Drop)]
+struct Bells {
+    items: Bell,
+    room: Bell,
+}
+
+const NUMBERS: u32 = 10_000;
+
+fn put_numbers<R: Wait + Copy>(rt: &R, tx: &mut Tx<u32, R>, bells: &Bells) {
+    for number in 0..NUMBERS {
+        let mut next = number;
+        for _ in rt.forever() {
+            match tx.push(next) {
+                Pushed::Done => break,
+                Pushed::Full(back) => next = back,
+            }
+            bells.room.wait(rt);
+        }
+        bells.items.ring();
+    }
+}
+
+/// Whether the numbers came in order.
+fn get_numbers<R: Wait + Copy>(rt: &R, rx: &mut Rx<u32, R>, bells: &Bells) -> bool {
+    for wanted in 0..NUMBERS {
+        for _ in rt.forever() {
+            match rx.pop() {
+                Some(number) => {
+                    if number != wanted {
+                        return false;
+                    }
+                    break;
+                }
+                None => bells.items.wait(rt),
+            }
+        }
+        bells.room.ring();
+    }
+    true
+}
+
+#[test]
+fn items_come_in_order_between_threads(rt: HostRuntime) -> Result<(), Fail> {
+    let (mut tx, mut rx) = lane(rt, rt.alloc(), 16)?;
+    let bells = Bells {
+        items: Bell::new(),
+        room: Bell::new(),
+    };
+    let shared = &bells;
+    let (_, in_order) = thread::join(
+        &rt,
+        move || put_numbers(&rt, &mut tx, shared),
+        move || get_numbers(&rt, &mut rx, shared),
+    );
+    assert!(rt; in_order);
+    bells.items.close();
+    assert_eq!(rt;
+        (bells.items.is_closed(), bells.room.is_closed()),
+        (true, false)
+    );
+    Ok(())
+}
+
+/// Puts an item and gets it at the far end.
+fn there_and_back<O: TwoEnded>(outlet: &mut O, far: &mut O::Far, item: Item) -> Option<Item>
+    requires { O.belongs (O.far_name far.old) (O.name outlet.old) }
+{
+    match outlet.push(item) {
+        Push::Done => outlet.settle(far),
+        Push::Full => None,
+    }
+}
+
+#[test]
+fn a_lane_of_items_is_an_outlet(rt: HostRuntime) -> Result<(), Fail> {
+    let (mut tx, mut rx) = lane(rt, rt.alloc(), 1)?;
+    let mut bytes = Bytes::new(rt.alloc());
+    bytes.push(7)?;
+    let got = there_and_back(&mut tx, &mut rx, Item::of(rt.alloc(), bytes)?);
+    assert!(rt; got.is_some_and(|item| item.bytes() == b"\x07".as_slice()));
+    Ok(())
+}

@@ -1,0 +1,15 @@
+pub mod Alone
+pub mod Back
+pub mod Counted
+pub mod Digits
+pub mod Frames
+pub mod Modes
+pub mod Notes
+pub mod Numbers
+pub mod Places
+pub mod OneEpoch
+pub mod Plain
+pub mod Ranges
+pub mod Rows
+pub mod Spoken
+pub mod Times

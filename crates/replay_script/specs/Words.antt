@@ -1,0 +1,77 @@
+-- The words of a script's line: numbers, stamps, hexadecimal bytes and texts. This project's own.
+use Rattle.std.specs.Prelude.{◌≡◌, ℕ, pos, ◌+◌, Bool, true, not, ◌&&◌, ◌==◌, List, [], ◌∷◌, ◌++◌, length, take, drop, nat_lt, nat_le, position, Option, Some, None, option_and_then, Result, Ok, Err, if◌then◌else◌}
+use Rattle.std.specs.Option.{option_map}
+use Rattle.std.specs.List.{list_all}
+use Rattle.std.specs.Str.Parse.{digits_value}
+use Rattle.hex.specs.Hex.{decode_of}
+use Rattle.hex.specs.declared.error.FromHexError.{FromHexError}
+use Rattle.gps_fixed.specs.Moment.{Moment}
+use Rattle.pps_edges.specs.EdgeLine.{is_digit}
+use Rattle.replay_script.specs.declared.payload.Payload.{Payload}
+use Rattle.replay_script.specs.declared.payload.Payload.TheVariants.{Hex, Sentence, Part, Request}
+
+-- what stands before the first such byte, and what stands behind it
+unfoldable pub halves : ℕ → List ℕ → Option (List ℕ × List ℕ)
+halves mark text = option_map (λ k. (take k text, drop (k + 1) text)) (position (λ c. c == mark) text)
+
+-- no such byte stands in the text
+abbrev pub HasNone : ℕ → List ℕ → Type 0
+HasNone mark text = list_all (λ c. not (c == mark)) text ≡ true
+
+-- the number that 1 to 10 digits write
+unfoldable pub number_in : List ℕ → Option ℕ
+number_in text = if nat_lt 0 (length text) && nat_le (length text) 10 && list_all is_digit text then Some (digits_value 10 text) else None
+
+-- the number that nine digits write
+unfoldable pub nine_in : List ℕ → Option ℕ
+nine_in text = if (length text == 9) && list_all is_digit text then Some (digits_value 10 text) else None
+
+abbrev pub between : ℕ → ℕ → ℕ → Option ℕ
+between least most n = if nat_le least n && nat_le n most then Some n else None
+
+-- a number that is not below the one and not above the other
+unfoldable pub number_between : ℕ → ℕ → List ℕ → Option ℕ
+number_between least most text = option_and_then (between least most) (number_in text)
+
+abbrev pub stamp_of : ℕ → ℕ → Moment
+stamp_of sec nsec = record { sec = pos sec; nsec = nsec }
+
+-- seconds, a point, and nine digits of nanoseconds
+unfoldable pub stamp_in : List ℕ → Option Moment
+stamp_in text =
+    option_and_then (λ p. option_and_then (λ sec. option_map (λ nsec. stamp_of sec nsec) (nine_in p.1)) (number_in p.0)) (halves 46 text)
+
+-- a number, and what stands behind the space after it
+unfoldable pub numbered : List ℕ → Option (ℕ × List ℕ)
+numbered text = option_and_then (λ p. option_map (λ n. (n, p.1)) (number_in p.0)) (halves 32 text)
+
+-- a stamp, and what stands behind the space after it
+unfoldable pub stamped : List ℕ → Option (Moment × List ℕ)
+stamped text = option_and_then (λ p. option_map (λ at. (at, p.1)) (stamp_in p.0)) (halves 32 text)
+
+-- a number, a space, and a number in a range
+unfoldable pub number_and_count : ℕ → ℕ → List ℕ → Option (ℕ × ℕ)
+number_and_count least most text = option_and_then (λ p. option_map (λ n. (p.0, n)) (number_between least most p.1)) (numbered text)
+
+-- not empty, and at most so long
+abbrev pub is_sized : ℕ → List ℕ → Bool
+is_sized most text = nat_lt 0 (length text) && nat_le (length text) most
+
+-- a text that is not empty and at most so long, with this end behind it
+unfoldable pub text_in : ℕ → List ℕ → List ℕ → Option (List ℕ)
+text_in most ending text = if is_sized most text then Some (text ++ ending) else None
+
+abbrev pub decoded : Result (List ℕ) FromHexError → Option (List ℕ)
+decoded (Ok bytes) = if is_sized 512 bytes then Some bytes else None
+decoded (Err fault) = None
+
+-- 1 to 512 bytes, each as two hexadecimal digits of either case
+unfoldable pub hex_in : List ℕ → Option (List ℕ)
+hex_in text = decoded (decode_of text)
+
+-- the bytes that are meant: with CR LF behind a sentence, LF behind a request and nothing behind a part of one
+abbrev pub bytes_in : Payload → List ℕ → Option (List ℕ)
+bytes_in Hex text = hex_in text
+bytes_in Sentence text = text_in 510 (13 ∷ 10 ∷ []) text
+bytes_in Part text = text_in 511 [] text
+bytes_in Request text = text_in 511 (10 ∷ []) text

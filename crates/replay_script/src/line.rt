@@ -1,0 +1,171 @@
+ghost use Rattle.std.specs.Prelude.{◌≡◌, IfOk, Some, unwrap_or};
+ghost use Rattle.pps_edges.specs.Scan.{edge_in};
+ghost use Rattle.replay_script.specs.Events.{bytes_event, device_in, edge_at, event_in, feed_in, input_in, monitor_in, number_event, open_in, word_event};
+
+use crate::event::Event;
+use crate::payload::{Payload, payload_bytes};
+use crate::words::{halves, number, number_and_count, numbered, stamped};
+use gps_fixed::NoMemory;
+use gps_report::{Edge, Name, NameFault};
+use pps_edges::edge_of_line;
+use std::alloc::Global;
+
+#[tactic(auto, unfolding(crate::specs::Events::device_in))]
+fn device(alloc: Global, text: &[u8]) -> Result<Option<Event>, NoMemory>
+    ensures { IfOk result (λ event. event ≡ device_in text.now) }
+{
+    match Name::of(alloc, text) {
+        Ok(name) => Ok(Some(Event::Device(name))),
+        Err(NameFault::BadName) => Ok(None),
+        Err(NameFault::NoMemory) => Err(NoMemory),
+    }
+}
+
+#[tactic(auto, unfolding(crate::specs::Events::feed_in))]
+fn feed(alloc: Global, payload: Payload, text: &[u8]) -> Result<Option<Event>, NoMemory>
+    ensures { IfOk result (λ event. event ≡ feed_in payload text.now) }
+{
+    let Some((device, rest)) = numbered(text) else {
+        return Ok(None);
+    };
+    let Some((at, rest)) = stamped(rest) else {
+        return Ok(None);
+    };
+    match payload_bytes(alloc, payload, rest)? {
+        Some(bytes) => Ok(Some(Event::Feed { device, at, bytes })),
+        None => Ok(None),
+    }
+}
+
+#[tactic(auto, unfolding(crate::specs::Events::input_in))]
+fn input(alloc: Global, payload: Payload, text: &[u8]) -> Result<Option<Event>, NoMemory>
+    ensures { IfOk result (λ event. event ≡ input_in payload text.now) }
+{
+    let Some((session, rest)) = numbered(text) else {
+        return Ok(None);
+    };
+    match payload_bytes(alloc, payload, rest)? {
+        Some(bytes) => Ok(Some(Event::Input { session, bytes })),
+        None => Ok(None),
+    }
+}
+
+fn edge_in_line(text: &[u8]) -> Option<Edge>
+    ensures { result ≡ edge_in text.now }
+{
+    edge_of_line(text)
+}
+
+#[tactic(auto, unfolding(crate::specs::Events::edge_at))]
+fn edge(text: &[u8]) -> Option<Event>
+    ensures { result ≡ edge_at text.now }
+{
+    let (device, line) = numbered(text)?;
+    let edge = edge_in_line(line)?;
+    Some(Event::Edge { device, edge })
+}
+
+#[tactic(auto, unfolding(crate::specs::Events::open_in))]
+fn open(text: &[u8]) -> Option<Event>
+    ensures { result ≡ open_in text.now }
+{
+    if let Some(session) = number(text) {
+        return Some(Event::Open { session, cap: None });
+    }
+    let (session, cap) = number_and_count(text, 1, 65_536)?;
+    Some(Event::Open {
+        session,
+        cap: Some(cap),
+    })
+}
+
+#[tactic(auto, unfolding(crate::specs::Events::monitor_in))]
+fn monitor(text: &[u8]) -> Option<Event>
+    ensures { result ≡ monitor_in text.now }
+{
+    let (monitor, rest) = numbered(text)?;
+    let unit = number(rest)?;
+    Some(Event::Monitor { monitor, unit })
+}
+
+/// The event of a word that brings a name or bytes; none where it is another word.
+#[tactic(auto, unfolding(crate::specs::Events::bytes_event))]
+fn bytes_event(alloc: Global, word: &[u8], rest: &[u8]) -> Result<Option<Option<Event>>, NoMemory>
+    ensures { IfOk result (λ event. event ≡ bytes_event word.now rest.now) }
+{
+    let event = if word == b"device".as_slice() {
+        device(alloc, rest)?
+    } else if word == b"bytes".as_slice() {
+        feed(alloc, Payload::Hex, rest)?
+    } else if word == b"text".as_slice() {
+        feed(alloc, Payload::Sentence, rest)?
+    } else if word == b"part".as_slice() {
+        input(alloc, Payload::Part, rest)?
+    } else if word == b"say".as_slice() {
+        input(alloc, Payload::Request, rest)?
+    } else if word == b"input".as_slice() {
+        input(alloc, Payload::Hex, rest)?
+    } else {
+        return Ok(None);
+    };
+    Ok(Some(event))
+}
+
+/// The event of a word that brings numbers or an edge.
+#[tactic(auto, unfolding(crate::specs::Events::number_event))]
+fn number_event(word: &[u8], rest: &[u8]) -> Option<Event>
+    ensures { result ≡ number_event word.now rest.now }
+{
+    if word == b"segment".as_slice() {
+        let (unit, first) = number_and_count(rest, 0, 1_073_741_823)?;
+        Some(Event::Segment { unit, first })
+    } else if word == b"edge".as_slice() {
+        edge(rest)
+    } else if word == b"end".as_slice() {
+        Some(Event::End(number(rest)?))
+    } else if word == b"lose".as_slice() {
+        Some(Event::Lose(number(rest)?))
+    } else if word == b"open".as_slice() {
+        open(rest)
+    } else if word == b"hang".as_slice() {
+        Some(Event::Hang(number(rest)?))
+    } else if word == b"take".as_slice() {
+        let (session, most) = number_and_count(rest, 1, 65_536)?;
+        Some(Event::Take { session, most })
+    } else if word == b"monitor".as_slice() {
+        monitor(rest)
+    } else if word == b"store".as_slice() {
+        let (unit, steps) = number_and_count(rest, 1, 1_000)?;
+        Some(Event::Store { unit, steps })
+    } else if word == b"load".as_slice() {
+        let (monitor, steps) = number_and_count(rest, 1, 1_000)?;
+        Some(Event::Load { monitor, steps })
+    } else {
+        None
+    }
+}
+
+fn word_event(alloc: Global, word: &[u8], rest: &[u8]) -> Result<Option<Event>, NoMemory>
+    ensures { IfOk result (λ event. event ≡ word_event word.now rest.now) }
+{
+    match bytes_event(alloc, word, rest)? {
+        Some(event) => Ok(event),
+        None => Ok(number_event(word, rest)),
+    }
+}
+
+/// The event of a line, without its line end. None exactly where the line is none that a script may have: an empty line or
+/// one that begins with `#`, or a word, one space and what the word brings, by the table of [`Event`]. Memory is taken for
+/// a name and for bytes alone.
+#[tactic(auto, unfolding(crate::specs::Events::event_in))]
+pub fn event_of(alloc: Global, line: &[u8]) -> Result<Option<Event>, NoMemory>
+    ensures exact { IfOk result (λ event. event ≡ event_in line.now) }
+{
+    match line {
+        [] | [b'#', ..] => Ok(Some(Event::Nothing)),
+        [_, ..] => match halves(line, b' ') {
+            Some((word, rest)) => word_event(alloc, word, rest),
+            None => Ok(None),
+        },
+    }
+}

@@ -1,0 +1,127 @@
+// Numbers and stamps, and the parts of a line between spaces.
+ghost use Rattle.std.specs.Prelude.{◌≡◌, ◌≤◌, ◌<◌, ◌^◌, ◌==◌, IfSome, length, true, position, option_map};
+ghost use Rattle.std.specs.List.{list_all};
+ghost use Rattle.std.specs.Str.Parse.{digits_value};
+ghost use Rattle.pps_edges.specs.EdgeLine.{is_digit};
+ghost use Rattle.replay_script.specs.Words.{halves, number_and_count, number_in, nine_in, number_between, numbered, stamp_in, stamped};
+
+use gps_fixed::Stamp;
+
+fn are_digits(text: &[u8]) -> bool
+    ensures { result ≡ list_all is_digit text.now }
+{
+    text.iter().all(|byte| (48..=57).contains(byte))
+}
+
+fn value(digits: &[u8]) -> u64
+    requires few { length digits.now ≤ 10 }
+    requires all { list_all is_digit digits.now ≡ true }
+    ensures { result ≡ digits_value 10 digits.now }
+{
+    let mut number = 0u64;
+    for digit in digits {
+        number = 10 * number + u64::from(*digit - b'0');
+    }
+    number
+}
+
+/// The number that 1 to 10 digits write.
+#[tactic(auto, using(crate::proofs::Digits::value_below), unfolding(crate::specs::Words::number_in))]
+pub(crate) fn number(text: &[u8]) -> Option<u64>
+    ensures is { result ≡ number_in text.now }
+    ensures small { IfSome result (λ n. n < 10 ^ 10) }
+{
+    if !text.is_empty() && text.len() <= 10 && are_digits(text) {
+        Some(value(text))
+    } else {
+        None
+    }
+}
+
+/// The number that nine digits write.
+#[tactic(auto, using(crate::proofs::Digits::value_below), unfolding(crate::specs::Words::nine_in))]
+fn nine(text: &[u8]) -> Option<u32>
+    ensures is { result ≡ nine_in text.now }
+    ensures small { IfSome result (λ n. n < 10 ^ 9) }
+{
+    if text.len() == 9 && are_digits(text) {
+        Some(value(text) as u32)
+    } else {
+        None
+    }
+}
+
+/// A number of 1 to 10 digits in this range.
+#[tactic(auto, unfolding(crate::specs::Words::number_between))]
+fn number_between(text: &[u8], least: u32, most: u32) -> Option<u32>
+    ensures { result ≡ number_between least most text.now }
+{
+    let number = number(text)?;
+    if u64::from(least) <= number && number <= u64::from(most) {
+        Some(number as u32)
+    } else {
+        None
+    }
+}
+
+fn place_of(text: &[u8], mark: u8) -> Option<usize>
+    ensures is { result ≡ position (λ c. c == mark) text.now }
+    ensures within { IfSome result (λ place. place < length text.now) }
+{
+    text.iter().position(|byte| *byte == mark)
+}
+
+/// What stands before the first such byte, and what stands behind it.
+#[tactic(auto, unfolding(crate::specs::Words::halves))]
+pub(crate) fn halves(text: &[u8], mark: u8) -> Option<(&[u8], &[u8])>
+    ensures { option_map (λ p. (p.0.now, p.1.now)) result ≡ halves mark text.entry.now }
+{
+    match place_of(text, mark) {
+        Some(place) => Some((&text[..place], &text[place + 1..])),
+        None => None,
+    }
+}
+
+/// Seconds, a point, and nine digits of nanoseconds.
+#[tactic(auto, unfolding(crate::specs::Words::stamp_in))]
+fn stamp(text: &[u8]) -> Option<Stamp>
+    ensures { result ≡ stamp_in text.now }
+{
+    let (seconds, nanoseconds) = halves(text, b'.')?;
+    let seconds = number(seconds)?;
+    let nsec = nine(nanoseconds)?;
+    Some(Stamp {
+        sec: seconds as i64,
+        nsec,
+    })
+}
+
+/// A number, and what stands behind the space after it.
+#[tactic(auto, unfolding(crate::specs::Words::numbered))]
+pub(crate) fn numbered(text: &[u8]) -> Option<(u64, &[u8])>
+    ensures { option_map (λ p. (p.0, p.1.now)) result ≡ numbered text.entry.now }
+{
+    let (word, rest) = halves(text, b' ')?;
+    let number = number(word)?;
+    Some((number, rest))
+}
+
+/// A stamp, and what stands behind the space after it.
+#[tactic(auto, unfolding(crate::specs::Words::stamped))]
+pub(crate) fn stamped(text: &[u8]) -> Option<(Stamp, &[u8])>
+    ensures { option_map (λ p. (p.0, p.1.now)) result ≡ stamped text.entry.now }
+{
+    let (word, rest) = halves(text, b' ')?;
+    let at = stamp(word)?;
+    Some((at, rest))
+}
+
+/// A number, a space, and a number in this range.
+#[tactic(auto, unfolding(crate::specs::Words::number_and_count))]
+pub(crate) fn number_and_count(text: &[u8], least: u32, most: u32) -> Option<(u64, u32)>
+    ensures { result ≡ number_and_count least most text.now }
+{
+    let (first, rest) = numbered(text)?;
+    let second = number_between(rest, least, most)?;
+    Some((first, second))
+}

@@ -19,7 +19,7 @@ use Rattle.device_core.specs.Stream.{bytes_in, edges_in, piece, packets_in, note
 use Rattle.device_core.specs.Reports.{last_toff, pulse_of, reports_from, Gains, device_reports}
 use Rattle.device_core.specs.Standing.{Held, Kept, StandsFor}
 use Rattle.device_core.specs.declared.draft.Draft.{Draft}
-use Rattle.device_core.specs.Drafts.{IsSound, back_of, now_of}
+use Rattle.device_core.specs.Drafts.{FitsDraft, IsSound, back_of, bytes_now, edge_now, now_of, toff_now}
 use Rattle.device_core.specs.Going.{TookAll}
 use Rattle.device_core.proofs.Streams.{gains_piece, packets_after, stream_after, edges_after, bytes_join, edges_join, reports-append}
 
@@ -96,11 +96,12 @@ settled_is (Some draft) bytes epochs (Some back) edge toff held before sound is 
     absurd (let h : Some (record { bytes = bytes; epochs = back; edge = edge; toff = toff }) ≡ None = ap (λ h. h.back) (is ∙ settled) in cc)
 
 -- a device without an open draft, made of copies of its fields
-pub copied : (draft : Option Draft) (bytes : List Stamped) (epochs : KeptEpochs) (back : Option KeptEpochs) (edge : Option Edge) (toff : Option Pair) (held : Held)
-    → IsSound draft bytes back toff
-    → record { now = now_of draft bytes epochs edge toff; back = back_of draft bytes back edge toff } ≡ held → held.back ≡ None
-    → record { now = record { bytes = bytes; epochs = epochs; edge = edge; toff = toff }; back = None } ≡ held
-copied None bytes epochs back edge toff held sound is none = is
-copied (Some draft) bytes epochs None edge toff held sound is none = absurd (let h : false ≡ true = sound.0.0 in cc)
-copied (Some draft) bytes epochs (Some back) edge toff held sound is none =
-    absurd (let h : Some (record { bytes = bytes; epochs = back; edge = edge; toff = toff }) ≡ None = ap (λ h. h.back) is ∙ none in cc)
+
+pub copied : (draft : Option Draft) (bytes : List Stamped) (epochs : KeptEpochs) (edge : Option Edge) (toff : Option Pair)
+    → record { bytes = bytes_now draft bytes; epochs = epochs; edge = edge_now draft edge; toff = toff_now draft toff } ≡ now_of draft bytes epochs edge toff
+copied None bytes epochs edge toff = refl
+copied (Some draft) bytes epochs edge toff = refl
+
+pub fits : (draft : Option Draft) (bytes : List Stamped) (back : Option KeptEpochs) (toff : Option Pair) → IsSound draft bytes back toff → FitsDraft draft bytes
+fits None bytes back toff sound = tt
+fits (Some draft) bytes back toff sound = sound.0.1

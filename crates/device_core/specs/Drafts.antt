@@ -42,3 +42,20 @@ IsSound draft bytes back toff = IsDraft draft bytes back × (is_low toff ≡ tru
 -- what is kept where an open draft is taken back
 abbrev pub back_or : Held → Kept
 back_or held = unwrap_or held.back held.now
+
+-- what an open draft makes of each of these, and that it fits the bytes
+abbrev pub bytes_now : Option Draft → List Stamped → List Stamped
+bytes_now None bytes = bytes
+bytes_now (Some draft) bytes = changed draft.change bytes
+
+abbrev pub edge_now : Option Draft → Option Edge → Option Edge
+edge_now None edge = edge
+edge_now (Some draft) edge = draft.pulses
+
+abbrev pub toff_now : Option Draft → Option Pair → Option Pair
+toff_now None toff = toff
+toff_now (Some draft) toff = draft.toff
+
+abbrev pub FitsDraft : Option Draft → List Stamped → Type 0
+FitsDraft None bytes = Unit {0}
+FitsDraft (Some draft) bytes = FitsBytes draft.change bytes

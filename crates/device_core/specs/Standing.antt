@@ -7,6 +7,7 @@ use Rattle.packet_cut.specs.Packets.{Stamped}
 use Rattle.packet_cut.specs.Standing.{StandsFor as BytesStand}
 use Rattle.epoch_core.specs.Kept.{Kept as KeptEpochs, StandsFor as NotesStand}
 use Rattle.epoch_core.specs.Epochs.{reports}
+use Rattle.epoch_core.specs.Steps.{nothing_ran}
 use Rattle.pps_edges.specs.Pulse.{StandsFor as EdgesStand}
 use Rattle.device_core.specs.Stream.{bytes_in, edges_in, notes_in}
 use Rattle.device_core.specs.Reports.{last_toff}
@@ -22,6 +23,10 @@ pub record Kept : Type 0 where
 pub record Held : Type 0 where
   pub now : Kept
   pub back : Option Kept
+
+-- the same, but that no epoch is running
+abbrev pub with_nothing_running : Kept → Kept
+with_nothing_running kept = record kept { epochs = record kept.epochs { ran = nothing_ran } }
 
 pub record StandsFor (kept : Kept) (stream : List Symbol) : Type 0 where
   pub bytes : BytesStand kept.bytes (bytes_in stream)

@@ -2,15 +2,15 @@ ghost use Rattle.std.specs.Prelude.{◌≡◌, ◌∷◌, ◌++◌, [], Some, No
 ghost use Rattle.gps_report.specs.declared.edge.Symbol.{Symbol as SymbolValue};
 ghost use Rattle.device_core.specs.Stream.{piece};
 ghost use Rattle.device_core.specs.Reports.{Gains, device_close};
-ghost use Rattle.device_core.specs.Standing.{StandsFor};
-ghost use Rattle.device_core.specs.Drafts.{back_or};
+ghost use Rattle.device_core.specs.Standing.{StandsFor, with_nothing_running};
+ghost use Rattle.device_core.specs.Drafts.{FitsBytes, FitsDraft, back_or, bytes_now, changed, edge_now, toff_now};
 
 use crate::draft::Draft;
 use crate::packets::take_packets;
 use epoch_core::Epochs;
 use gps_fixed::{NoMemory, Stamp};
 use gps_report::{Body, Edge, Pair, Symbol};
-use packet_cut::{Cut, Cutter};
+use packet_cut::{Change, Cut, Cutter};
 use pps_edges::Pulses;
 use std::alloc::Global;
 use std::marker::Model;
@@ -142,6 +142,7 @@ impl Device {
     /// Ends the device, as a draft: the fix and the sky of the epoch that is not closed, so at most two reports. What the device stands
     /// for after it is left open.
     pub fn draft_finish(&mut self) -> Result<Vec<Body>, NoMemory>
+        ensures closed { OnOk result (self.new.now ≡ with_nothing_running self.old.now) }
         ensures gains { IfOk result (λ out. (stream : List SymbolValue) → StandsFor self.old.now stream → out.items ≡ device_close stream) }
         ensures few { IfOk result (λ out. length out.items ≤ 2) }
         ensures back { OnOk result (self.new.back ≡ Some self.old.now) }
@@ -192,9 +193,10 @@ impl Device {
         Ok(out)
     }
 
-    /// Ends the device: the fix and the sky of the epoch that is not closed, so at most two reports. What the device stands for after
-    /// it is left open. A refusal leaves what the device keeps as it was.
+    /// Ends the device: the fix and the sky of the epoch that is not closed, so at most two reports. After it no epoch is running; what
+    /// the device stands for then is left open. A refusal leaves what the device keeps as it was.
     pub fn finish(&mut self) -> Result<Vec<Body>, NoMemory>
+        ensures closed { OnOk result (self.new.now ≡ with_nothing_running self.old.now) }
         ensures gains { IfOk result (λ out. (stream : List SymbolValue) → StandsFor self.old.now stream → out.items ≡ device_close stream) }
         ensures few { IfOk result (λ out. length out.items ≤ 2) }
         ensures settled { self.new.back ≡ None }
@@ -205,22 +207,65 @@ impl Device {
         Ok(out)
     }
 
-    /// Another device that stands for the same streams. No draft may be open.
-    #[tactic(auto, using(crate::proofs::Devices::copied))]
+    /// Another device that keeps what this one keeps now, and so stands for the same streams. It has no draft.
+    #[tactic(auto, using(crate::proofs::Devices::copied, crate::proofs::Devices::fits))]
     pub fn copy(&self) -> Result<Device, NoMemory>
-        requires { self.now.back ≡ None }
-        ensures { IfOk result (λ device. device ≡ self.now) }
+        ensures { IfOk result (λ device. device ≡ record { now = self.now.now; back = None }) }
     {
-        let cutter = self.cutter.copy()?;
+        let cutter = cutter_now(self.alloc, &self.cutter, &self.draft)?;
         let epochs = self.epochs.copy()?;
         Ok(Device {
             alloc: self.alloc,
             cutter,
             epochs,
-            pulses: self.pulses,
-            toff: self.toff,
+            pulses: pulses_now(self.pulses, &self.draft),
+            toff: toff_now(self.toff, &self.draft),
             draft: None,
         })
+    }
+}
+
+/// A copy of a cutter, with the change of an open draft made.
+fn cutter_now(alloc: Global, cutter: &Cutter, draft: &Option<Draft>) -> Result<Cutter, NoMemory>
+    requires { FitsDraft draft.now cutter.now }
+    ensures { IfOk result (λ copy. copy ≡ bytes_now draft.now cutter.now) }
+{
+    match draft {
+        None => cutter.copy(),
+        Some(draft) => changed(alloc, cutter, &draft.change),
+    }
+}
+
+fn changed(alloc: Global, cutter: &Cutter, change: &Option<Change>) -> Result<Cutter, NoMemory>
+    requires { FitsBytes change.now cutter.now }
+    ensures { IfOk result (λ copy. copy ≡ changed change.now cutter.now) }
+{
+    match change {
+        None => cutter.copy(),
+        Some(change) => {
+            let change = change.copy(alloc)?;
+            let mut copy = cutter.copy()?;
+            copy.put(change);
+            Ok(copy)
+        }
+    }
+}
+
+fn pulses_now(pulses: Pulses, draft: &Option<Draft>) -> Pulses
+    ensures { result ≡ edge_now draft.now pulses }
+{
+    match draft {
+        None => pulses,
+        Some(draft) => draft.pulses,
+    }
+}
+
+fn toff_now(toff: Option<Pair>, draft: &Option<Draft>) -> Option<Pair>
+    ensures { result ≡ toff_now draft.now toff }
+{
+    match draft {
+        None => toff,
+        Some(draft) => draft.toff,
     }
 }
 

@@ -117,7 +117,7 @@ same_date d n c e at =
     let counted : Date = record { year = pos c.year; month = c.month; day = c.day; year_in = (omega (arith, signed_arith), omega (arith, signed_arith, within, d.year_in)); month_in = (at.from_month, at.to_month); day_in = (at.from_day, at.to_day) } in
     epoch_day_injective counted d (at.number ∙ sym e))
 
-civil_same : (c : CivilDate) (y m d : ℕ) → c.year ≡ y → c.month ≡ m → c.day ≡ d → c ≡ civil y m d
+pub civil_same : (c : CivilDate) (y m d : ℕ) → c.year ≡ y → c.month ≡ m → c.day ≡ d → c ≡ civil y m d
 civil_same c y m d year month day = ap (λ k. civil k c.month c.day) year ∙ ap (λ k. civil y k c.day) month ∙ ap (civil y m) day
 
 pub date_counted : (d : Date) (n : ℕ) → epoch_day d ≡ pos n → (civil_of n ≡ civil (unsigned_abs d.year) d.month d.day) × (pos 0 ≤ℤ d.year)

@@ -1,4 +1,5 @@
 pub mod CivilLaws
+pub mod IsoLaws
 pub mod NumeralLaws
 pub mod NumeralTheorem
 pub mod RatioLaws

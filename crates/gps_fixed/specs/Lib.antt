@@ -1,5 +1,6 @@
 pub mod Civil
 pub mod Fields
+pub mod Iso
 pub mod Moment
 pub mod Numeral
 pub mod Ratio

@@ -26,7 +26,7 @@ pub fn iso_text(alloc: Global, at: Stamp) -> Result<Bytes, NoMemory>
 }
 
 #[tactic(auto, unfolding(crate::specs::Text::iso_of))]
-fn iso_bytes(at: Stamp) -> [u8; 24]
+pub(crate) fn iso_bytes(at: Stamp) -> [u8; 24]
     ensures { result ≡ iso_of at }
 {
     let second = at.sec as u64;

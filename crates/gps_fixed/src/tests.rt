@@ -137,6 +137,31 @@ fn writes_stamps(rt: HostRuntime) -> Result<(), Fail> {
 }
 
 #[test]
+fn reads_stamps(rt: HostRuntime) {
+    let texts: [(&[u8], Option<(i64, u32)>); 12] = [
+        (b"1970-01-01T00:00:00.000Z", Some((0, 0))),
+        (b"1994-03-23T12:35:19.007Z", Some((764_426_119, 7_000_000))),
+        (
+            b"2000-02-29T23:59:59.999Z",
+            Some((951_868_799, 999_000_000)),
+        ),
+        (b"2286-11-20T17:46:39.000Z", Some((9_999_999_999, 0))),
+        (b"2286-11-20T17:46:40.000Z", None),
+        (b"1969-12-31T23:59:59.000Z", None),
+        (b"2023-02-29T00:00:00.000Z", None),
+        (b"1994-03-23T12:35:60.000Z", None),
+        (b"1994-03-23T24:00:00.000Z", None),
+        (b"1994-03-23T12:35:19.00Z", None),
+        (b"1994-03-23 12:35:19.000Z", None),
+        (b"1994-03-23T12:35:1:.000Z", None),
+    ];
+    for (text, stamp) in texts {
+        let read = stamp_of_iso(text).map(|at| (at.sec, at.nsec));
+        assert_eq!(rt; read, stamp);
+    }
+}
+
+#[test]
 fn rounds_to_the_nearest_with_halves_upwards(rt: HostRuntime) {
     let ratios = [
         (22_400, 463, 900, 11_524),

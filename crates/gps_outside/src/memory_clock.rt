@@ -38,6 +38,13 @@ impl MemoryClock {
             last,
         }
     }
+
+    /// The stamp that it gives after all others.
+    pub fn last(&self) -> Stamp
+        ensures { result ≡ self.now.last }
+    {
+        self.last
+    }
 }
 
 impl Clock for MemoryClock {

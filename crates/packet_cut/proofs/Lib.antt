@@ -4,3 +4,4 @@ pub mod StreamLaws
 mod Stamps
 mod Steps
 mod CutLaws
+mod Rule

@@ -122,7 +122,7 @@ junk_to bytes place start before =
     junk_parts head_of bytes count place (λ k low high. before.junk k low (omega (arith, whole)))
     ∙ ap (λ p. parts_from head_of p 0 (drop p bytes)) whole
 
-packet_to : (bytes : List ℕ) (start len : ℕ) (kind : PacketKind) → head_of (drop start bytes) ≡ Packet kind len → 0 < len → start + len ≤ length bytes →
+pub packet_to : (bytes : List ℕ) (start len : ℕ) (kind : PacketKind) → head_of (drop start bytes) ≡ Packet kind len → 0 < len → start + len ≤ length bytes →
     map found (parts_from head_of start 0 (drop start bytes))
     ≡ record { kind = kind; start = start; len = len } ∷ map found (parts_from head_of (start + len) 0 (drop (start + len) bytes))
 packet_to bytes start len kind is some inside = go (drop start bytes) refl

@@ -58,6 +58,28 @@ impl Change {
             more,
         })
     }
+
+    /// The same change once more.
+    pub fn copy(&self, alloc: Global) -> Result<Change, NoMemory>
+        ensures { IfOk result (λ change. change ≡ self.now) }
+    {
+        let more = copy_of(alloc, &self.more)?;
+        Ok(Change {
+            anew: self.anew,
+            gone: self.gone,
+            more,
+        })
+    }
+}
+
+/// The same bytes once more, in a vector with at least as much room.
+fn copy_of(alloc: Global, bytes: &Vec<(Stamp, u8)>) -> Result<Vec<(Stamp, u8)>, NoMemory>
+    ensures items { IfOk result (λ all. all.items ≡ bytes.now.items) }
+    ensures room { IfOk result (λ all. vec_capacity bytes.now ≤ vec_capacity all) }
+{
+    let mut all = Vec::with_capacity(alloc, bytes.capacity())?;
+    all.extend_from_slice(bytes.as_slice())?;
+    Ok(all)
 }
 
 /// The bytes with their stamp, in a vector with at least so much room.

@@ -1,10 +1,11 @@
 //! The laws of packets, as contracts of functions that do nothing.
 
-ghost use Rattle.std.specs.Prelude.{◌≡◌, ◌≤◌, ◌↔◌, ◌⊎◌, ◌-◌, ◌*◌, ℕ, true, List, ◌++◌, length, take, map};
+ghost use Rattle.std.specs.Prelude.{◌≡◌, ◌≤◌, ◌↔◌, ◌⊎◌, ◌-◌, ◌*◌, ℕ, true, List, [], ◌∷◌, ◌++◌, length, take, drop, map};
 ghost use Rattle.std.specs.List.{list_all};
 ghost use Rattle.nmea_frame.specs.Sentence.{IsSentence, IsProperPrefix as BeginsSentence};
 ghost use Rattle.ubx_frame.specs.Frame.{IsFrame, is_byte, IsProperPrefix as BeginsFrame};
 ghost use Rattle.gps_report.specs.declared.packet.Packet.{Packet};
+ghost use Rattle.gps_report.specs.declared.packet.PacketKind.{PacketKind};
 ghost use Rattle.packet_cut.specs.declared.found.Found.{Found};
 ghost use Rattle.packet_cut.specs.Heads.{head_of};
 ghost use Rattle.packet_cut.specs.Packets.{Stamped, bytes_of, packets_of, rest_of, found_of, moved, rest_of_bytes, found_packet};
@@ -17,6 +18,17 @@ pub fn heads_go_by_the_sets()
     ensures sentence { (bytes : List ℕ) (n : ℕ) → (head_of bytes ≡ Head.Packet PacketKind.Nmea n) ↔ ((n ≤ length bytes) × IsSentence (take n bytes)) }
     ensures frame { (bytes : List ℕ) → list_all is_byte bytes ≡ true → (n : ℕ) → (head_of bytes ≡ Head.Packet PacketKind.Ubx n) ↔ ((n ≤ length bytes) × IsFrame (take n bytes)) }
     ensures pending { (bytes : List ℕ) → list_all is_byte bytes ≡ true → (head_of bytes ≡ Head.Pending) ↔ (BeginsSentence bytes ⊎ BeginsFrame bytes) }
+{}
+
+/// The rule by what a list begins with: a packet is found, and then those of what follows it; the beginning of a packet is the rest, and
+/// there is no packet; else the first byte is junk, and the packets are those of what follows it.
+pub fn packets_go_by_the_head()
+    ensures packet { (bytes : List ℕ) (kind : PacketKind) (n : ℕ) → head_of bytes ≡ Head.Packet kind n
+        → found_of bytes ≡ record { kind = kind; start = 0; len = n } ∷ map (moved n) (found_of (drop n bytes)) }
+    ensures behind { (bytes : List ℕ) (kind : PacketKind) (n : ℕ) → head_of bytes ≡ Head.Packet kind n → rest_of_bytes bytes ≡ rest_of_bytes (drop n bytes) }
+    ensures pending { (bytes : List ℕ) → head_of bytes ≡ Head.Pending → (found_of bytes ≡ []) × (rest_of_bytes bytes ≡ bytes) }
+    ensures junk { (byte : ℕ) (bytes : List ℕ) → head_of (byte ∷ bytes) ≡ Head.Junk
+        → (found_of (byte ∷ bytes) ≡ map (moved 1) (found_of bytes)) × (rest_of_bytes (byte ∷ bytes) ≡ rest_of_bytes bytes) }
 {}
 
 /// More bytes take no packet away and change none.

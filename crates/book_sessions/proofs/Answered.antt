@@ -192,7 +192,7 @@ module _ (exact : Bool) (place : ℕ) where
             room = room_by answer rest old mid new ends.count few may puts ends.room;
             cutter = ends.cutter;
           }
-      by_push Full may now = ends_closed Overrun answer rest old new is_open (may.full refl) now
+      by_push Full may now = ends_closed Overrun answer rest old new is_open (leb-false most_requests old.session.requests is, may.full refl) now
 
   pub answers_end : (answers : List Answer) (old new : Attendance) → old.session.closing ≡ None → 0 < length old.session.marks → Answers exact place old answers new → Ends old answers new
   answers_end [] old new is_open marked same = ends_none old new is_open same

@@ -65,7 +65,7 @@ enables answer = answer.policy.enable
 -- why so much was not put
 abbrev pub Causes : Shown → Close → Type 0
 Causes s TooManyRequests = most_requests ≤ s.requests
-Causes s Overrun = s.cap ≤ length s.kept
+Causes s Overrun = (s.requests < most_requests) × (s.cap ≤ length s.kept)
 Causes s _ = ⊥
 
 -- where the session is closed now, some answers were not put, else all were

@@ -15,7 +15,7 @@ ghost use Rattle.book_sessions.specs.Spreading.{Spreads};
 ghost use Rattle.book_units.specs.Changes.{EachUnit, Gains as UnitGains, Turns as UnitTurns, turned as turned_unit};
 ghost use Rattle.book_units.specs.Samples.{samples_of};
 ghost use Rattle.book_units.specs.Steps.{BearsOut, state_of};
-ghost use Rattle.book_units.specs.Units.{UnitView, HasRoom, segment_of};
+ghost use Rattle.book_units.specs.Units.{UnitView, HasRoom, IsInOrder, IsUnit, segment_of};
 ghost use Rattle.report_book.specs.BookView.{renewed_if, turned_if, units_turned_if};
 ghost use Rattle.report_book.specs.Moves.{AddsQuietly, Admits, Earns, HangsUp, Hears, IsNewBook, Moves, PublishesAt, ShutsAll, TakesFirst};
 ghost use Rattle.report_book.specs.Refusals.{RefusesAs, RefusesOnly, RefusesWith, crowd_fault, device_fault, missing_session, missing_unit, session_fault};
@@ -394,11 +394,14 @@ impl<O: Outlet> Book<O> {
         }
     }
 
-    /// What always holds of a book.
+    /// What always holds of a book. Of each unit the samples since the last turn are the published ones, and then those that are
+    /// left, in order.
     pub fn show(&self)
-        ensures { Holds self.now }
+        ensures holds { Holds self.now }
+        ensures order { All IsInOrder self.now.units }
+        ensures units { All IsUnit self.now.units }
     {
-        let _log = &self.log;
+        let _count = self.units.count();
     }
 }
 
@@ -427,6 +430,7 @@ impl<O: TwoEnded> Book<O> {
         ensures far_name { O.far_name far.new ≡ O.far_name far.old }
         ensures refusal { RefusesOnly (missing_session self.old s) result }
         ensures unchanged { self.new ≡ self.old }
+        ensures far_stays { OnErr result (far.new ≡ far.old) }
     {
         self.check_exists(s)?;
         let item = self.roster.settle(s, far);

@@ -1,0 +1,11 @@
+//! A made script for `replay`: two receivers, three sessions, four units and a monitor, for so many seconds. The same
+//! seed gives the same script. This project's own; the sentences are of NMEA 0183.
+#![tactic(auto)]
+
+mod numbers;
+mod script;
+mod sentences;
+#[cfg(test)]
+mod tests;
+
+pub use script::workload;

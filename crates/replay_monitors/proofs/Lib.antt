@@ -1,0 +1,4 @@
+pub mod Readings
+pub mod Known
+pub mod Stored
+pub mod Books

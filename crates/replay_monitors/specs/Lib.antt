@@ -1,0 +1,4 @@
+pub mod Loads
+pub mod Watched
+pub mod Stored
+pub mod Books

@@ -1,0 +1,11 @@
+pub mod Joined
+pub mod Whole
+pub mod Going
+pub mod Overruns
+pub mod Zipping
+pub mod Books
+pub mod Quiet
+pub mod Answering
+pub mod Sending
+pub mod Accounting
+pub mod Ordered

@@ -35,7 +35,7 @@ struct Bells {
     room: Bell,
 }
 
-const NUMBERS: u32 = 10_000;
+const NUMBERS: u32 = 1_000_000;
 
 fn put_numbers<R: Wait + Copy>(rt: &R, tx: &mut Tx<u32, R>, bells: &Bells) {
     for number in 0..NUMBERS {

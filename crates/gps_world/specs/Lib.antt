@@ -1,0 +1,5 @@
+pub mod Places
+pub mod Asking
+pub mod Opening
+pub mod MemoryWorlds
+pub mod RealWorlds

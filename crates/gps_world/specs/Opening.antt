@@ -1,0 +1,20 @@
+-- What a world gives, and what it told of it before. This project's own.
+use Rattle.std.specs.Prelude.{◌≡◌, ℕ, List, [], Option, Some, None}
+use Rattle.gps_outside.specs.Told.{Stream}
+use Rattle.gps_world.specs.declared.world.Opened.{Opened}
+use Rattle.gps_world.specs.declared.world.Opened.TheVariants.{Ready, Failed}
+
+-- what holds of the object that an opening gave
+abbrev pub IfReady : {T : Type 0} → Opened T → (T → Type 0) → Type 0
+IfReady (Ready object) P = P object
+IfReady Failed P = Unit {0}
+
+-- where something was told, the object tells the same
+abbrev pub Tells : {X : Type 0} → Option X → Option X → Type 0
+Tells None shown = Unit {0}
+Tells (Some x) shown = shown ≡ Some x
+
+-- where the bytes behind a place were told, they are all left in the source
+abbrev pub Holds : Option (List ℕ) → Option Stream → Type 0
+Holds None content = Unit {0}
+Holds (Some bytes) content = content ≡ Some (record { taken = []; left = bytes })

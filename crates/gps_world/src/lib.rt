@@ -1,0 +1,18 @@
+//! A world: what gives the running daemon its sources, its door and its clock. This project's own.
+//!
+//! One in memory holds what it gives and tells its content; the real one opens files, connections and a listener.
+#![tactic(auto)]
+
+mod asked;
+mod memory_world;
+mod place;
+mod real_world;
+#[cfg(test)]
+mod tests;
+mod world;
+
+pub use asked::Asked;
+pub use memory_world::MemoryWorld;
+pub use place::Place;
+pub use real_world::RealWorld;
+pub use world::{Opened, World};

@@ -1,0 +1,147 @@
+ghost use Rattle.std.specs.Prelude.{◌≡◌, IfOk};
+ghost use Rattle.gps_world.specs.Asking.{asked_nothing};
+
+use crate::{Asked, Opened, Place, World};
+use gps_fixed::Bytes;
+use gps_outside::{RealClock, RealDoor, RealSink, RealSource};
+use std::alloc::Global;
+use std::fs::{self, File};
+use std::io::{self, ErrorKind};
+use std::marker::Model;
+use std::net::{Net, TcpListener, TcpStream};
+use std::rt::Files;
+use std::{str, time};
+
+/// The real world: files, TCP connections, a TCP listener and the machine's clock. It tells no content.
+///
+/// What cannot be opened is a fault, for whatever reason; so is want of memory for the buffer of a file.
+#[derive(Drop)]
+pub struct RealWorld<R> {
+    machine: R,
+    alloc: Global,
+    asked: Asked,
+    input_faults: u64,
+    listen_faults: u64,
+}
+
+impl<R> Model for RealWorld<R> {
+    ghost use Rattle.gps_world.specs.RealWorlds.{Opener};
+
+    ghost Value = { Opener };
+
+    ghost view = { λ s. record { asked = s.asked; input_faults = s.input_faults; listen_faults = s.listen_faults } };
+}
+
+fn text_of(bytes: &Bytes) -> io::Result<&str> {
+    match str::from_utf8(bytes.as_slice()) {
+        Ok(text) => Ok(text),
+        Err(_) => Err(io::Error::from(ErrorKind::InvalidInput)),
+    }
+}
+
+impl<R> RealWorld<R> {
+    /// The world of this machine. Takes no memory.
+    pub fn new(alloc: Global, machine: R) -> RealWorld<R>
+        ensures { result ≡ record { asked = asked_nothing; input_faults = 0; listen_faults = 0 } }
+    {
+        RealWorld {
+            machine,
+            alloc,
+            asked: Asked::nothing(alloc),
+            input_faults: 0,
+            listen_faults: 0,
+        }
+    }
+}
+
+impl<R: Files<File = File>> RealWorld<R> {
+    fn open_file(&self, path: &Bytes) -> io::Result<RealSource>
+        ensures { IfOk result (λ source. source ≡ record { faults = 0; quiets = 0 }) }
+    {
+        let file = fs::open(&self.machine, text_of(path)?)?;
+        match RealSource::of_file(self.alloc, file) {
+            Ok(source) => Ok(source),
+            Err(_) => Err(io::Error::from(ErrorKind::OutOfMemory)),
+        }
+    }
+}
+
+impl<R: Net<Listener = TcpListener, Stream = TcpStream>> RealWorld<R> {
+    fn connect(&self, address: &Bytes) -> io::Result<RealSource>
+        ensures { IfOk result (λ source. source ≡ record { faults = 0; quiets = 0 }) }
+    {
+        let stream = TcpStream::connect(&self.machine, text_of(address)?)?;
+        Ok(RealSource::of_stream(stream))
+    }
+
+    fn bind(&self, address: &Bytes) -> io::Result<RealDoor>
+        ensures { IfOk result (λ door. door ≡ record { faults = 0; quiets = 0 }) }
+    {
+        let listener = TcpListener::bind(&self.machine, text_of(address)?)?;
+        RealDoor::of_listener(listener)
+    }
+}
+
+impl<R> World for RealWorld<R>
+where
+    R: Files<File = File>
+        + Net<Listener = TcpListener, Stream = TcpStream>
+        + time::Clock
+        + Copy
+        + Send,
+{
+    ghost use Rattle.std.specs.Prelude.{None};
+
+    type In = RealSource;
+
+    type Out = RealSink;
+
+    type Now = RealClock<R>;
+
+    type Gate = RealDoor;
+
+    ghost input_faults = { λ s. s.input_faults };
+
+    ghost listen_faults = { λ s. s.listen_faults };
+
+    ghost asked = { λ s. s.asked };
+
+    ghost behind = { λ _ _. None };
+
+    ghost links = { λ _. None };
+
+    ghost stamps = { λ _. None };
+
+    fn input(&mut self, place: Place) -> Opened<RealSource> {
+        let source = match &place {
+            Place::File(path) => self.open_file(path),
+            Place::Tcp(address) => self.connect(address),
+            // Another daemon cannot be asked yet.
+            Place::Gpsd(_) => Err(io::Error::from(ErrorKind::Unsupported)),
+        };
+        self.asked.add(place);
+        match source {
+            Ok(source) => Opened::Ready(source),
+            Err(_) => {
+                self.input_faults = self.input_faults.saturating_add(1);
+                Opened::Failed
+            }
+        }
+    }
+
+    fn listen(&mut self, address: Bytes) -> Opened<RealDoor> {
+        let door = self.bind(&address);
+        self.asked.set_address(address);
+        match door {
+            Ok(door) => Opened::Ready(door),
+            Err(_) => {
+                self.listen_faults = self.listen_faults.saturating_add(1);
+                Opened::Failed
+            }
+        }
+    }
+
+    fn clock(&mut self) -> RealClock<R> {
+        RealClock::new(self.machine)
+    }
+}

@@ -19,6 +19,7 @@ run() {
     status=$?
 }
 
+usage='usage: gpsrelay decode|pseudo'
 sentence='$GPRMC,123519,A,4807.038,N,01131.000,E,022.4,084.4,230394,003.1,W*6A'
 line='{"class":"TPV","device":"stdin","mode":2,"time":"1994-03-23T12:35:19.000Z","lat":48.117300000,"lon":11.516666667,"track":84.4000,"speed":11.524}'
 later='$GPGGA,123520,4807.038,N,01131.000,E,1,08,0.9,545.4,M,46.9,M,,*4D'
@@ -51,19 +52,57 @@ check 'one byte more than the history: no line' '' "$(cat "$place/out")"
 run decode --history 70
 check 'as many bytes as the history: status' 0 "$status"
 
-for words in '' 'frob' 'decode --history 0' 'decode --history x' 'decode --help' 'decode more'; do
+for words in '' 'frob' 'decode --history 0' 'decode --history x' 'decode --help' 'decode more' 'pseudo more' 'serve'; do
     run $words
     check "refused words '$words': status" 2 "$status"
     check "refused words '$words': nothing on standard output" '' "$(cat "$place/out")"
-    check "refused words '$words': the usage line" 'usage: gpsrelay decode' "$(cat "$place/err")"
+    check "refused words '$words': the usage line" "$usage" "$(cat "$place/err")"
 done
 
 for words in $'dec\xffode' $'decode --history \xff' $'decode \xff'; do
     run $words
     check "words that are no text: status" 2 "$status"
     check "words that are no text: nothing on standard output" '' "$(cat "$place/out")"
-    check "words that are no text: the usage line" 'usage: gpsrelay decode' "$(cat "$place/err")"
+    check "words that are no text: the usage line" "$usage" "$(cat "$place/err")"
 done
+
+# bytes NUMBER..: these bytes; word WIDTH NUMBER: a number of so many bytes, the lowest first, as numbers
+bytes() { local octal; printf -v octal '\\%03o' "$@"; printf "$octal"; }
+word() { local at; for ((at = 0; at < $1; at++)); do echo $((($2 >> (8 * at)) & 255)); done; }
+
+# frame CLASS ID NUMBER..: the frame of this payload
+frame() {
+    local inner=("$1" "$2" $(word 2 $(($# - 2))) "${@:3}") a=0 b=0 byte
+    for byte in "${inner[@]}"; do a=$(((a + byte) & 255)) b=$(((b + a) & 255)); done
+    bytes 181 98 "${inner[@]}" $a $b
+}
+
+# pvt SECOND LONGITUDE LATITUDE HEIGHT SPEED TRACK FIX: a NAV-PVT of 2024-06-01, 12 h, its NAV-EOE behind it
+pvt() {
+    frame 1 7 $(word 4 $((1000 * $1))) $(word 2 2024) 6 1 12 $(($1 / 60)) $(($1 % 60)) 3 $(word 4 0) $(word 4 0) "$7" $(($7 > 1)) 0 8 \
+        $(word 4 "$2") $(word 4 "$3") $(word 4 $(($4 + 47000))) $(word 4 "$4") $(word 8 0) $(word 4 0) $(word 4 0) $(word 4 -300) \
+        $(word 4 "$5") $(word 4 "$6") $(word 8 0) $(word 2 150) $(word 2 0) $(word 4 0) $(word 4 0) $(word 4 0)
+    frame 1 97 $(word 4 $((1000 * $1)))
+}
+
+# What a u-blox receiver sends comes back from its sentences, but for the height above the ellipsoid and the climb.
+pvt 0 0 0 0 0 0 0 >"$place/in"
+for ((second = 1; second < 90; second++)); do
+    pvt "$second" $((115166667 - 3000000 * second)) $((-481173000 + 7654321 * second)) $((545400 - 9000 * second)) $((13 * second)) $((400000 * second)) 3
+done >>"$place/in"
+run decode
+check 'u-blox bytes: status' 0 "$status"
+check 'u-blox bytes: fixes' 90 "$(wc -l <"$place/out")"
+sed -E 's/"altHAE":[^,]*,//; s/,"climb":[^}]*//' "$place/out" >"$place/wanted"
+run pseudo
+check 'u-blox bytes as sentences: status' 0 "$status"
+check 'u-blox bytes as sentences: two for each fix' '90 90' "$(grep -c '^[$]GPRMC,' "$place/out") $(grep -c '^[$]GPGGA,' "$place/out")"
+cp "$place/out" "$place/in"
+run decode
+check 'the sentences are read: status' 0 "$status"
+check 'the sentences are read: the same fixes' "$(cksum <"$place/wanted")" "$(cksum <"$place/out")"
+run pseudo
+check 'sentences as sentences: the same' "$(cksum <"$place/in")" "$(cksum <"$place/out")"
 
 "$program" frob 2>&-
 check 'refused words, standard error closed: status' 2 $?

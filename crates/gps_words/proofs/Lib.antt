@@ -2,3 +2,5 @@ pub mod Given
 pub mod NumberTexts
 pub mod Readings
 pub mod Rows
+pub mod DeviceWords
+pub mod Colons

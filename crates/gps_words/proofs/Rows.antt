@@ -1,12 +1,22 @@
 -- Words written out, and what they ask for.
-use Rattle.std.proofs.Common.{◌≡◌, List, [], ◌∷◌, Option, Some, None, codes, refl}
+use Rattle.std.specs.Prelude.{⊤}
+use Rattle.std.proofs.Common.{◌≡◌, true, false, List, [], ◌∷◌, Option, Some, None, codes, refl}
 use Rattle.clap.specs.Walk.{Text}
 use Rattle.clap.proofs.OnLiterals.{clap_on_literals}
 use Rattle.gps_words.specs.Asked.{asked_of}
 use Rattle.gps_words.specs.Numbers.{digits_after}
-use Rattle.gps_words.specs.Options.{read_by}
+use Rattle.gps_fixed.specs.Scaled.{whole_of}
+use Rattle.gps_fixed.specs.Numeral.{numeral}
+use Rattle.gps_words.specs.Devices.{devices_in, devices_of, edges_end_names, edges_for, halves, is_address, is_port, last_colon, target_in, target_of, word_in, words_in}
+use Rattle.gps_words.specs.Generate.{generate_in, generate_of}
+use Rattle.gps_words.specs.Lines.{lines_app}
+use Rattle.gps_words.specs.Options.{are_taken, read_by}
+use Rattle.gps_words.specs.Replay.{replay_of}
+use Rattle.gps_words.specs.Serve.{Serve, numbers_in, serve_asked_of, serve_in}
 use Rattle.gps_words.specs.declared.command.Command.{Command}
 use Rattle.gps_words.specs.declared.command.Command.TheVariants.{Decode}
+use Rattle.gps_words.specs.declared.device.Input.TheVariants.{File, Tcp}
+use Rattle.gps_words.specs.declared.serve.ServeNumbers.{ServeNumbers}
 
 abbrev decode_with : List Text → Option Command
 decode_with words = asked_of (codes "decode" ∷ words)
@@ -87,3 +97,86 @@ short_help = refl
 stray_word : decode_with (codes "stdin" ∷ []) ≡ None
 unfolding clap_on_literals read_by digits_after
 stray_word = refl
+
+generated : generate_of (codes "generate" ∷ codes "--seed" ∷ codes "0" ∷ codes "--size=10000" ∷ []) ≡ Some (record { seed = 0; size = 10_000 })
+unfolding clap_on_literals read_by digits_after generate_in
+generated = refl
+
+no_size : generate_of (codes "generate" ∷ codes "--seed" ∷ codes "1" ∷ []) ≡ None
+unfolding clap_on_literals read_by digits_after generate_in
+no_size = refl
+
+replayed : replay_of (codes "replay" ∷ codes "--queue" ∷ codes "65536" ∷ []) ≡ Some (record { history = 16_777_216; queue = 65_536 })
+unfolding clap_on_literals read_by digits_after
+replayed = refl
+
+option_of_lines : are_taken lines_app (codes "lines" ∷ codes "--history=5" ∷ []) ≡ false
+unfolding clap_on_literals
+option_of_lines = refl
+
+lines_alone : are_taken lines_app (codes "lines" ∷ []) ≡ true
+unfolding clap_on_literals
+lines_alone = refl
+
+-- what computes the devices and the numbers of words that are written out
+unfoldable serve_on_literals : ⊤
+unfolding read_by digits_after serve_in numbers_in devices_in devices_of words_in word_in target_in target_of halves edges_end_names edges_for is_address last_colon is_port whole_of numeral
+serve_on_literals = tt
+
+abbrev served : List Text → Option Serve
+served words = serve_asked_of (codes "serve" ∷ words)
+
+abbrev defaults : ServeNumbers
+defaults = record { queue = 4_096; history = 16_777_216; wait = 0; monitor = 0 }
+
+one_device : served (codes "g=file:x" ∷ []) ≡ Some (record {
+  devices = record { names = codes "g" ∷ []; inputs = File (codes "x") ∷ []; edges = None ∷ [] };
+  listen = codes "127.0.0.1:2947";
+  numbers = defaults;
+})
+unfolding clap_on_literals serve_on_literals
+one_device = refl
+
+words_among_options : served (codes "b=tcp:[::1]:80" ∷ codes "--wait" ∷ codes "3" ∷ codes "a=file:=:" ∷ codes "b=edges:y" ∷ codes "--listen=h:65535" ∷ []) ≡ Some (record {
+  devices = record { names = codes "b" ∷ codes "a" ∷ []; inputs = Tcp (codes "[::1]:80") ∷ File (codes "=:") ∷ []; edges = Some (codes "y") ∷ None ∷ [] };
+  listen = codes "h:65535";
+  numbers = record defaults { wait = 3 };
+})
+unfolding clap_on_literals serve_on_literals
+words_among_options = refl
+
+no_device_word : served [] ≡ None
+unfolding clap_on_literals serve_on_literals
+no_device_word = refl
+
+bad_listen : served (codes "g=file:x" ∷ codes "--listen" ∷ codes "h:65536" ∷ []) ≡ None
+unfolding clap_on_literals serve_on_literals
+bad_listen = refl
+
+edges_before_device : devices_in (codes "a=edges:y" ∷ codes "a=file:x" ∷ []) ≡ None
+unfolding serve_on_literals
+edges_before_device = refl
+
+edges_twice : devices_in (codes "a=file:x" ∷ codes "a=edges:y" ∷ codes "a=edges:z" ∷ []) ≡ None
+unfolding serve_on_literals
+edges_twice = refl
+
+edges_alone : devices_in (codes "a=file:x" ∷ codes "b=edges:y" ∷ []) ≡ None
+unfolding serve_on_literals
+edges_alone = refl
+
+device_twice : devices_in (codes "a=file:x" ∷ codes "a=tcp:h:1" ∷ []) ≡ None
+unfolding serve_on_literals
+device_twice = refl
+
+another_daemon : devices_in (codes "a=gpsd:h:1" ∷ []) ≡ None
+unfolding serve_on_literals
+another_daemon = refl
+
+no_host : devices_in (codes "a=tcp::1" ∷ []) ≡ None
+unfolding serve_on_literals
+no_host = refl
+
+no_path : devices_in (codes "a=file:" ∷ []) ≡ None
+unfolding serve_on_literals
+no_path = refl

@@ -5,8 +5,12 @@ use Rattle.std.specs.Prelude.{List, [], ◌∷◌, Option, None, codes, if◌the
 use Rattle.std.specs.Str.{bytes_eq}
 use Rattle.clap.specs.Walk.{Text}
 use Rattle.gps_words.specs.Decode.{decode_of}
+use Rattle.gps_words.specs.Pseudo.{pseudo_of}
 use Rattle.gps_words.specs.declared.command.Command.{Command}
 
 abbrev pub asked_of : List Text → Option Command
 asked_of [] = None
-asked_of (word ∷ words) = if bytes_eq word (codes "decode") then decode_of (word ∷ words) else None
+asked_of (word ∷ words) =
+    if bytes_eq word (codes "decode") then decode_of (word ∷ words)
+    else (if bytes_eq word (codes "pseudo") then pseudo_of (word ∷ words)
+    else None)

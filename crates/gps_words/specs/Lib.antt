@@ -1,4 +1,10 @@
 pub mod Asked
 pub mod Decode
+pub mod Devices
+pub mod Generate
+pub mod Lines
 pub mod Numbers
 pub mod Options
+pub mod Pseudo
+pub mod Replay
+pub mod Serve

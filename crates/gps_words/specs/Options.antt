@@ -5,7 +5,7 @@ use Rattle.clap.specs.Kinds.{Kinds}
 use Rattle.clap.specs.Faults.{fault_of}
 use Rattle.clap.specs.Simple.{App, matches_of, new_app, new_rule, on_top}
 use Rattle.clap.specs.Walk.{Row, Rule, Text}
-use Rattle.clap.specs.declared.builder.action.ArgAction.TheVariants.{Set}
+use Rattle.clap.specs.declared.builder.action.ArgAction.TheVariants.{Append, Set}
 
 -- no help option
 abbrev pub bare_app : Text → App
@@ -17,6 +17,10 @@ option_rule name = record (new_rule name) {
   long = Some name;
   action = Some Set;
 }
+
+-- words that stand for themselves, any number of them among the options
+abbrev pub list_rule : Text → Rule
+list_rule name = record (new_rule name) { action = Some Append }
 
 abbrev pub is_no_kind : Kinds → Bool
 is_no_kind [] = true

@@ -5,6 +5,8 @@ use std::alloc::AllocError;
 pub enum Command {
     /// Reads device bytes and writes JSON lines; `history` is how many bytes are read at most.
     Decode { history: u32 },
+    /// Reads device bytes and writes the sentences of their fixes; `history` is how many bytes are read at most.
+    Pseudo { history: u32 },
 }
 
 /// Why words ask for no command.

@@ -5,8 +5,22 @@
 mod choice;
 mod command;
 mod decode;
+mod device;
+mod devices;
+mod generate;
+mod lines;
 mod numbers;
 mod options;
+mod pseudo;
+mod replay;
+mod serve;
+#[cfg(test)]
+mod tests;
 
 pub use choice::asked;
 pub use command::{Command, WordsFault};
+pub use device::Input;
+pub use generate::{GenerateOptions, generate_options};
+pub use lines::lines_taken;
+pub use replay::{ReplayOptions, replay_options};
+pub use serve::{ServeNumbers, ServeOptions, serve_asked};

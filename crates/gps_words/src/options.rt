@@ -2,7 +2,7 @@ ghost use Rattle.std.specs.Prelude.{◌≡◌, true, false, IfOk, map, string_by
 ghost use Rattle.clap.specs.Faults.{is_simple_and_free};
 ghost use Rattle.clap.specs.Simple.{app_of, matches_of, with_rule};
 ghost use Rattle.clap.specs.Words.{found_of, rows_of};
-ghost use Rattle.gps_words.specs.Options.{are_taken, bare_app, option_rule};
+ghost use Rattle.gps_words.specs.Options.{are_taken, bare_app, list_rule, option_rule};
 
 use crate::WordsFault;
 use clap::error::ErrorKind;
@@ -26,6 +26,18 @@ pub(crate) fn with_option<'a>(
 {
     let option = Arg::new(alloc, name).long(name).action(ArgAction::Set);
     command.arg(option)
+}
+
+/// The command with words that stand for themselves.
+pub(crate) fn with_list<'a>(
+    command: Command<'a>,
+    alloc: Global,
+    name: &'a str,
+) -> Result<Command<'a>, AllocError>
+    ensures { IfOk result (λ r. app_of r ≡ with_rule (app_of command.entry) (list_rule name.entry.now)) }
+{
+    let list = Arg::new(alloc, name).action(ArgAction::Append);
+    command.arg(list)
 }
 
 /// What clap reads from a command's words, of which the first is the command's name.

@@ -25,7 +25,7 @@ use Rattle.gpsrelay.specs.declared.outcome.Fault.{Fault}
 use Rattle.gpsrelay.specs.declared.outcome.Fault.TheVariants.{Sink, NoMemory as NoMemoryFault}
 use Rattle.gpsrelay.specs.Outcomes.{outcome_of}
 use Rattle.gpsrelay.specs.Readings.{ArePieces, IsPiece, PassHistory, Reading, bytes_of, stamps_of, stream_of}
-use Rattle.gpsrelay.specs.Lines.{line_of, lines_of, lines_so_far}
+use Rattle.gpsrelay.specs.Texts.{Texts, texts_of, texts_so_far}
 use Rattle.gpsrelay.specs.Decode.{BrokeOff, Decoded, HandsOn, HasReadSoFar, Written}
 
 -- one reading more
@@ -43,12 +43,6 @@ stream_next : (readings : List Reading) (at : Moment) (bytes : List ℕ) → str
 stream_next readings at bytes =
     flat_map-append (λ reading. piece reading.at reading.bytes) readings (record { at = at; bytes = bytes } ∷ [])
     ∙ ap (λ l. stream_of readings ++ l) (append-nil (piece at bytes))
-
-lines_join : (a b : List Body) → lines_of (a ++ b) ≡ lines_of a ++ lines_of b
-lines_join a b = flat_map-append line_of a b
-
-lines_next : (stream more : List Symbol) (out : List Body) → Gains stream more out → lines_so_far (stream ++ more) ≡ lines_so_far stream ++ lines_of out
-lines_next stream more out gains = ap lines_of gains ∙ lines_join (device_reports stream) out
 
 pieces_next : (readings : List Reading) (reading : Reading) → ArePieces readings → IsPiece reading → ArePieces (readings ++ reading ∷ [])
 pieces_next [] reading all last = (last, tt)
@@ -69,34 +63,9 @@ passes_history n readings at buf pieces fits long = record {
   part = grind (arith, common_steps);
 }
 
--- So far these readings were handed on, the device stands for their stream, and its lines were written.
-pub record UnderWay (history : ℕ) (budget : Budget) (kept : Kept) (source source' : Option Stream) (quiets quiets' : ℕ) (clock clock' : Option Dial) (sink sink' : Option (List ℕ)) : Type 0 where
-  pub readings : List Reading
-  pub pieces : ArePieces readings
-  pub taken : HasTaken history (bytes_of readings) budget source source' quiets quiets'
-  pub stamps : Goes (GivesAll (stamps_of readings)) clock clock'
-  pub stands : StandsFor kept (stream_of readings)
-  pub wrote : Goes (Appends (lines_so_far (stream_of readings))) sink sink'
-
 no_stamps : (clock : Option Dial) → Goes (GivesAll []) clock clock
 no_stamps None = tt
 no_stamps (Some dial) = refl
-
-no_lines : lines_so_far [] ≡ []
-unfolding reports_from
-no_lines = refl
-
-pub begun : (history : ℕ) (budget : Budget) (kept : Kept) (source : Option Stream) (quiets : ℕ) (clock : Option Dial) (sink : Option (List ℕ))
-    → budget ≡ record { room = history; quiets = 0 } → StandsFor kept []
-    → UnderWay history budget kept source source quiets quiets clock clock sink sink
-begun history budget kept source quiets clock sink new stands = record {
-  readings = [];
-  pieces = tt;
-  taken = taken_none history budget source quiets new;
-  stamps = no_stamps clock;
-  stands = stands;
-  wrote = subst (λ l. Goes (Appends l) sink sink) (sym no_lines) (appends_none sink);
-}
 
 -- the stamps of one reading more
 stamps_on : (readings : List Reading) (at : Moment) (bytes : List ℕ) (clock clock' clock'' : Option Dial)
@@ -107,256 +76,289 @@ stamps_on readings at bytes clock clock' clock'' all given =
     (goes_on (GivesAll (stamps_of readings)) (Gives at) (GivesAll (stamps_of readings ++ at ∷ [])) clock clock' clock''
     (gives_more (stamps_of readings) at) all given)
 
-pub after_piece : (n history : ℕ) (buf : List ℕ) (budget budget' : Budget) (kept kept' : Kept) (at : Moment) (text : List ℕ)
-    (source now after : Option Stream) (quiets quiets' quiets'' : ℕ) (clock clock' clock'' : Option Dial) (sink sink' sink'' : Option (List ℕ))
-    → UnderWay history budget kept source now quiets quiets' clock clock' sink sink'
-    → length buf ≡ 512 → FitsRoom (Piece n) (length buf) → Spends (Piece n) budget budget' → Hands (Piece n) buf now after → quiets' ≤ quiets''
-    → Goes (Gives at) clock' clock''
-    → ((stream : List Symbol) → StandsFor kept stream → HandsOn {X = List ℕ} (Ok text) stream (piece at (take n buf)) kept' sink' sink'')
-    → UnderWay history budget' kept' source after quiets quiets'' clock clock'' sink sink''
-after_piece n history buf budget budget' kept kept' at text source now after quiets quiets' quiets'' clock clock' clock'' sink sink' sink'' u long fits spent handed more given lines =
-    let s : List Symbol = stream_of u.readings in
-    let h : HandsOn {X = List ℕ} (Ok text) s (piece at (take n buf)) kept' sink' sink'' = lines s u.stands in
-    record {
-      readings = with_next u.readings at (take n buf);
-      pieces = pieces_next u.readings (record { at = at; bytes = take n buf }) u.pieces (is_piece n buf at fits long);
-      taken = subst (λ b. HasTaken history b budget' source after quiets quiets'') (sym (bytes_next u.readings at (take n buf)))
-          (taken_piece n history (bytes_of u.readings) buf budget budget' source now after quiets quiets' quiets'' u.taken fits spent handed more);
-      stamps = stamps_on u.readings at (take n buf) clock clock' clock'' u.stamps given;
-      stands = subst (λ t. StandsFor kept' t) (sym (stream_next u.readings at (take n buf))) h.0;
-      wrote = subst (λ t. Goes (Appends (lines_so_far t)) sink sink'') (sym (stream_next u.readings at (take n buf)))
-          (subst (λ l. Goes (Appends l) sink sink'') (sym (lines_next s (piece at (take n buf)) h.1.0 h.1.1.0))
-          (appends_on (lines_so_far s) (lines_of h.1.0) sink sink' sink'' u.wrote h.1.1.1));
-    }
-
-pub after_quiet : (history : ℕ) (buf : List ℕ) (budget budget' : Budget) (kept : Kept)
-    (source now after : Option Stream) (quiets quiets' quiets'' : ℕ) (clock clock' : Option Dial) (sink sink' : Option (List ℕ))
-    → UnderWay history budget kept source now quiets quiets' clock clock' sink sink'
-    → Spends Quiet budget budget' → Hands Quiet buf now after → Rose quiets' quiets''
-    → UnderWay history budget' kept source after quiets quiets'' clock clock' sink sink'
-after_quiet history buf budget budget' kept source now after quiets quiets' quiets'' clock clock' sink sink' u spent handed rose = record {
-  readings = u.readings;
-  pieces = u.pieces;
-  taken = taken_quiet history (bytes_of u.readings) buf budget budget' source now after quiets quiets' quiets'' u.taken spent handed rose;
-  stamps = u.stamps;
-  stands = u.stands;
-  wrote = u.wrote;
-}
-
--- where a fault ends the writing: the lines that were due have the written part at their beginning
-broken_lines : (fault : Fault) (s more : List Symbol) (kept : Kept) (sink sink' sink'' : Option (List ℕ))
-    → Goes (Appends (lines_so_far s)) sink sink' → HandsOn {X = List ℕ} (Err fault) s more kept sink' sink''
-    → Goes (AppendsPart (lines_so_far (s ++ more))) sink sink''
-broken_lines Sink s more kept sink sink' sink'' wrote h =
-    subst (λ l. Goes (AppendsPart l) sink sink'') (sym (lines_next s more h.0 h.1.0))
-    (part_on (lines_so_far s) (lines_of h.0) sink sink' sink'' wrote h.1.1)
-broken_lines NoMemoryFault s more kept sink sink' sink'' wrote h =
-    subst (λ l. Goes (AppendsPart l) sink sink'') (sym (lines_next s more (reports_from s more) (reports-append [] s more)))
-    (part_of (lines_so_far s) (lines_of (reports_from s more)) sink sink'' (subst (λ k. Goes (Appends (lines_so_far s)) sink k) h wrote))
-
-broken_so_far : (fault : Fault) (history : ℕ) (readings : List Reading) (at : Moment) (bytes : List ℕ) (kept : Kept)
-    (source after : Option Stream) (sink sink' sink'' : Option (List ℕ))
-    → HasReadSoFar history (bytes_of readings ++ bytes) source after
-    → Goes (Appends (lines_so_far (stream_of readings))) sink sink'
-    → HandsOn {X = List ℕ} (Err fault) (stream_of readings) (piece at bytes) kept sink' sink''
-    → BrokeOff history (with_next readings at bytes) source after sink sink''
-broken_so_far fault history readings at bytes kept source after sink sink' sink'' read wrote h =
-    inl (
-      subst (λ b. HasReadSoFar history b source after) (sym (bytes_next readings at bytes)) read,
-      subst (λ t. Goes (AppendsPart (lines_so_far t)) sink sink'') (sym (stream_next readings at bytes))
-          (broken_lines fault (stream_of readings) (piece at bytes) kept sink sink' sink'' wrote h),
-    )
-
--- a command that was broken off by a fault, with the readings up to it
-broken_off : (fault : Fault) (history : ℕ) (readings : List Reading) (at : Moment) (bytes : List ℕ) (kept : Kept)
-    (source after : Option Stream) (clock clock' clock'' : Option Dial) (sink sink' sink'' : Option (List ℕ))
-    → ArePieces (with_next readings at bytes) ⊎ PassHistory (with_next readings at bytes)
-    → HasReadSoFar history (bytes_of readings ++ bytes) source after
-    → Goes (GivesAll (stamps_of readings)) clock clock' → Goes (Gives at) clock' clock''
-    → Goes (Appends (lines_so_far (stream_of readings))) sink sink'
-    → HandsOn {X = List ℕ} (Err fault) (stream_of readings) (piece at bytes) kept sink' sink''
-    → Decoded (outcome_of fault) history source after clock clock'' sink sink''
-broken_off Sink history readings at bytes kept source after clock clock' clock'' sink sink' sink'' reads read all given wrote h = record {
-  readings = with_next readings at bytes;
-  reads = reads;
-  stamps = stamps_on readings at bytes clock clock' clock'' all given;
-  ends = broken_so_far Sink history readings at bytes kept source after sink sink' sink'' read wrote h;
-}
-broken_off NoMemoryFault history readings at bytes kept source after clock clock' clock'' sink sink' sink'' reads read all given wrote h = record {
-  readings = with_next readings at bytes;
-  reads = reads;
-  stamps = stamps_on readings at bytes clock clock' clock'' all given;
-  ends = broken_so_far NoMemoryFault history readings at bytes kept source after sink sink' sink'' read wrote h;
-}
-
-pub broken_in_piece : (n history : ℕ) (buf : List ℕ) (budget budget' : Budget) (kept kept' : Kept) (at : Moment) (fault : Fault)
-    (source now after : Option Stream) (quiets quiets' quiets'' : ℕ) (clock clock' clock'' : Option Dial) (sink sink' sink'' : Option (List ℕ))
-    → UnderWay history budget kept source now quiets quiets' clock clock' sink sink'
-    → length buf ≡ 512 → FitsRoom (Piece n) (length buf) → Spends (Piece n) budget budget' → Hands (Piece n) buf now after → quiets' ≤ quiets''
-    → Goes (Gives at) clock' clock''
-    → ((stream : List Symbol) → StandsFor kept stream → HandsOn {X = List ℕ} (Err fault) stream (piece at (take n buf)) kept' sink' sink'')
-    → (outcome : Outcome) → outcome ≡ outcome_of fault
-    → Decoded outcome history source after clock clock'' sink sink''
-broken_in_piece n history buf budget budget' kept kept' at fault source now after quiets quiets' quiets'' clock clock' clock'' sink sink' sink'' u long fits spent handed more given lines outcome is =
-    let all : HasTaken history (bytes_of u.readings ++ take n buf) budget' source after quiets quiets'' =
-    taken_piece n history (bytes_of u.readings) buf budget budget' source now after quiets quiets' quiets'' u.taken fits spent handed more in
-    subst (λ o. Decoded o history source after clock clock'' sink sink'') (sym is) (broken_off fault history u.readings at (take n buf) kept' source after clock clock' clock'' sink sink' sink''
-    (inl (pieces_next u.readings (record { at = at; bytes = take n buf }) u.pieces (is_piece n buf at fits long)))
-    (inl (let r = all.room in omega arith, all.passed))
-    u.stamps given u.wrote (lines (stream_of u.readings) u.stands))
-
-pub broken_in_last : (n history : ℕ) (buf : List ℕ) (budget budget' : Budget) (kept kept' : Kept) (at : Moment) (fault : Fault)
-    (source now after : Option Stream) (quiets quiets' : ℕ) (clock clock' clock'' : Option Dial) (sink sink' sink'' : Option (List ℕ))
-    → UnderWay history budget kept source now quiets quiets' clock clock' sink sink'
-    → length buf ≡ 512 → FitsRoom (Last n) (length buf) → Spends (Last n) budget budget' → Hands (Last n) buf now after
-    → Goes (Gives at) clock' clock''
-    → ((stream : List Symbol) → StandsFor kept stream → HandsOn {X = List ℕ} (Err fault) stream (piece at (take n buf)) kept' sink' sink'')
-    → (outcome : Outcome) → outcome ≡ outcome_of fault
-    → Decoded outcome history source after clock clock'' sink sink''
-broken_in_last n history buf budget budget' kept kept' at fault source now after quiets quiets' clock clock' clock'' sink sink' sink'' u long fits spent handed given lines outcome is =
-    let all : (length (bytes_of u.readings ++ take n buf) ≡ history) × Goes (PassesMore (bytes_of u.readings ++ take n buf)) source after =
-    ends_full n history (bytes_of u.readings) buf budget budget' source now after quiets quiets' u.taken fits spent handed in
-    subst (λ o. Decoded o history source after clock clock'' sink sink'') (sym is) (broken_off fault history u.readings at (take n buf) kept' source after clock clock' clock'' sink sink' sink''
-    (inr (passes_history n u.readings at buf u.pieces fits long))
-    (inr all)
-    u.stamps given u.wrote (lines (stream_of u.readings) u.stands))
-
-pub filled : (n history : ℕ) (buf : List ℕ) (budget budget' : Budget) (kept kept' : Kept) (at : Moment) (text : List ℕ)
-    (source now after : Option Stream) (quiets quiets' : ℕ) (clock clock' clock'' : Option Dial) (sink sink' sink'' : Option (List ℕ))
-    → UnderWay history budget kept source now quiets quiets' clock clock' sink sink'
-    → length buf ≡ 512 → FitsRoom (Last n) (length buf) → Spends (Last n) budget budget' → Hands (Last n) buf now after
-    → Goes (Gives at) clock' clock''
-    → ((stream : List Symbol) → StandsFor kept stream → HandsOn {X = List ℕ} (Ok text) stream (piece at (take n buf)) kept' sink' sink'')
-    → Decoded Full history source after clock clock'' sink sink''
-filled n history buf budget budget' kept kept' at text source now after quiets quiets' clock clock' clock'' sink sink' sink'' u long fits spent handed given lines =
-    let s : List Symbol = stream_of u.readings in
-    let h : HandsOn {X = List ℕ} (Ok text) s (piece at (take n buf)) kept' sink' sink'' = lines s u.stands in
-    let next : List Reading = with_next u.readings at (take n buf) in
-    let read : (length (bytes_of next) ≡ history) × Goes (PassesMore (bytes_of next)) source after =
-    subst (λ b. (length b ≡ history) × Goes (PassesMore b) source after) (sym (bytes_next u.readings at (take n buf)))
-    (ends_full n history (bytes_of u.readings) buf budget budget' source now after quiets quiets' u.taken fits spent handed) in
-    record {
-      readings = next;
-      reads = passes_history n u.readings at buf u.pieces fits long;
-      stamps = stamps_on u.readings at (take n buf) clock clock' clock'' u.stamps given;
-      ends = (
-        read.0,
-        read.1,
-        subst (λ t. Goes (Appends (lines_so_far t)) sink sink'') (sym (stream_next u.readings at (take n buf)))
-            (subst (λ l. Goes (Appends l) sink sink'') (sym (lines_next s (piece at (take n buf)) h.1.0 h.1.1.0))
-            (appends_on (lines_so_far s) (lines_of h.1.0) sink sink' sink'' u.wrote h.1.1.1)),
-      );
-    }
-
-pub ended : (history : ℕ) (buf : List ℕ) (budget : Budget) (kept : Kept) (text : List ℕ)
-    (source now after : Option Stream) (quiets quiets' : ℕ) (clock clock' : Option Dial) (sink sink' sink'' : Option (List ℕ))
-    → UnderWay history budget kept source now quiets quiets' clock clock' sink sink'
-    → Hands End buf now after
-    → ((stream : List Symbol) → StandsFor kept stream → Written {X = List ℕ} (Ok text) (lines_of (device_close stream)) sink' sink'')
-    → Decoded Done history source after clock clock' sink sink''
-ended history buf budget kept text source now after quiets quiets' clock clock' sink sink' sink'' u handed lines =
-    let read : (length (bytes_of u.readings) ≤ history) × Goes (TakesAll (bytes_of u.readings)) source after =
-    ends_at_end history (bytes_of u.readings) buf budget source now after quiets quiets' u.taken handed in
-    record {
-      readings = u.readings;
-      reads = u.pieces;
-      stamps = u.stamps;
-      ends = (
-        read.0,
-        read.1,
-        appends_on (lines_so_far (stream_of u.readings)) (lines_of (device_close (stream_of u.readings))) sink sink' sink'' u.wrote
-            (lines (stream_of u.readings) u.stands),
-      );
-    }
-
-at_end_broken : (history : ℕ) (buf : List ℕ) (budget : Budget) (kept : Kept) (fault : Fault)
-    (source now after : Option Stream) (quiets quiets' : ℕ) (clock clock' : Option Dial) (sink sink' sink'' : Option (List ℕ))
-    → UnderWay history budget kept source now quiets quiets' clock clock' sink sink'
-    → Hands End buf now after
-    → ((stream : List Symbol) → StandsFor kept stream → Written {X = List ℕ} (Err fault) (lines_of (device_close stream)) sink' sink'')
-    → Decoded (outcome_of fault) history source after clock clock' sink sink''
-at_end_broken history buf budget kept Sink source now after quiets quiets' clock clock' sink sink' sink'' u handed lines =
-    let read : (length (bytes_of u.readings) ≤ history) × Goes (TakesAll (bytes_of u.readings)) source after =
-    ends_at_end history (bytes_of u.readings) buf budget source now after quiets quiets' u.taken handed in
-    record {
-      readings = u.readings;
-      reads = inl u.pieces;
-      stamps = u.stamps;
-      ends = inr (
-        read.0,
-        read.1,
-        part_on (lines_so_far (stream_of u.readings)) (lines_of (device_close (stream_of u.readings))) sink sink' sink'' u.wrote
-            (lines (stream_of u.readings) u.stands),
-      );
-    }
-at_end_broken history buf budget kept NoMemoryFault source now after quiets quiets' clock clock' sink sink' sink'' u handed lines =
-    let read : (length (bytes_of u.readings) ≤ history) × Goes (TakesAll (bytes_of u.readings)) source after =
-    ends_at_end history (bytes_of u.readings) buf budget source now after quiets quiets' u.taken handed in
-    record {
-      readings = u.readings;
-      reads = inl u.pieces;
-      stamps = u.stamps;
-      ends = inr (
-        read.0,
-        read.1,
-        part_of (lines_so_far (stream_of u.readings)) (lines_of (device_close (stream_of u.readings))) sink sink''
-            (subst (λ k. Goes (Appends (lines_so_far (stream_of u.readings))) sink k) (lines (stream_of u.readings) u.stands) u.wrote),
-      );
-    }
-
-pub broken_at_end : (history : ℕ) (buf : List ℕ) (budget : Budget) (kept : Kept) (fault : Fault)
-    (source now after : Option Stream) (quiets quiets' : ℕ) (clock clock' : Option Dial) (sink sink' sink'' : Option (List ℕ))
-    → UnderWay history budget kept source now quiets quiets' clock clock' sink sink'
-    → Hands End buf now after
-    → ((stream : List Symbol) → StandsFor kept stream → Written {X = List ℕ} (Err fault) (lines_of (device_close stream)) sink' sink'')
-    → (outcome : Outcome) → outcome ≡ outcome_of fault
-    → Decoded outcome history source after clock clock' sink sink''
-broken_at_end history buf budget kept fault source now after quiets quiets' clock clock' sink sink' sink'' u handed lines outcome is =
-    subst (λ o. Decoded o history source after clock clock' sink sink'') (sym is)
-    (at_end_broken history buf budget kept fault source now after quiets quiets' clock clock' sink sink' sink'' u handed lines)
-
-pub failed : (history : ℕ) (buf : List ℕ) (budget : Budget) (kept : Kept)
-    (source now after : Option Stream) (quiets quiets' : ℕ) (clock clock' : Option Dial) (sink sink' : Option (List ℕ))
-    → UnderWay history budget kept source now quiets quiets' clock clock' sink sink'
-    → Hands Failed buf now after
-    → Decoded ReadFault history source after clock clock' sink sink'
-failed history buf budget kept source now after quiets quiets' clock clock' sink sink' u handed =
-    let read : (length (bytes_of u.readings) ≤ history) × Goes (TakesSome (bytes_of u.readings)) source after =
-    ends_failed history (bytes_of u.readings) buf budget source now after quiets quiets' u.taken handed in
-    record { readings = u.readings; reads = u.pieces; stamps = u.stamps; ends = (read.0, read.1, u.wrote) }
-
-pub too_quiet : (history : ℕ) (buf : List ℕ) (budget : Budget) (kept : Kept)
-    (source now after : Option Stream) (quiets quiets' : ℕ) (clock clock' : Option Dial) (sink sink' : Option (List ℕ))
-    → UnderWay history budget kept source now quiets quiets' clock clock' sink sink'
-    → Hands TooQuiet buf now after
-    → Decoded QuietOutcome history source after clock clock' sink sink'
-too_quiet history buf budget kept source now after quiets quiets' clock clock' sink sink' u handed =
-    let all : (length (bytes_of u.readings) ≤ history) × Goes (Passes (bytes_of u.readings)) source after =
-    ends_too_quiet history (bytes_of u.readings) buf budget source now after quiets quiets' u.taken handed in
-    record { readings = u.readings; reads = u.pieces; stamps = u.stamps; ends = (all.0, all.1, u.wrote) }
-
 passes_none : (source : Option Stream) → Goes (Passes []) source source
 passes_none None = tt
 passes_none (Some stream) = record { next = refl; joins = sym (append-nil stream.taken) }
 
--- want of memory before the first read
-pub nothing_done : (history : ℕ) (source : Option Stream) (clock : Option Dial) (sink : Option (List ℕ))
-    → Decoded NoMemory history source source clock clock sink sink
-nothing_done history source clock sink = record {
-  readings = [];
-  reads = inl tt;
-  stamps = no_stamps clock;
-  ends = inl (
-    inl (omega arith, passes_none source),
-    subst (λ l. Goes (AppendsPart l) sink sink) (append-nil (lines_so_far []))
-        (part_of (lines_so_far []) [] sink sink (subst (λ l. Goes (Appends l) sink sink) (sym no_lines) (appends_none sink))),
-  );
-}
+-- over what is written of a report
+module _ (says : Texts) where
+  texts_join : (a b : List Body) → texts_of says (a ++ b) ≡ texts_of says a ++ texts_of says b
+  texts_join a b = flat_map-append says a b
 
--- what the device gained was written
-pub handed_on : (result : Result (List ℕ) Fault) (gained : List Body) (stream more : List Symbol) (kept : Kept) (before after : Option (List ℕ))
-    → StandsFor kept (stream ++ more) → Gains stream more gained → Written result (lines_of gained) before after
-    → HandsOn result stream more kept before after
-handed_on (Ok text) gained stream more kept before after stands gains wrote = (stands, (gained, (gains, wrote)))
-handed_on (Err Sink) gained stream more kept before after stands gains wrote = (gained, (gains, wrote))
-handed_on (Err NoMemoryFault) gained stream more kept before after stands gains wrote = wrote
+  texts_next : (stream more : List Symbol) (out : List Body) → Gains stream more out → texts_so_far says (stream ++ more) ≡ texts_so_far says stream ++ texts_of says out
+  texts_next stream more out gains = ap (texts_of says) gains ∙ texts_join (device_reports stream) out
+
+  -- So far these readings were handed on, the device stands for their stream, and its lines were written.
+  pub record UnderWay (history : ℕ) (budget : Budget) (kept : Kept) (source source' : Option Stream) (quiets quiets' : ℕ) (clock clock' : Option Dial) (sink sink' : Option (List ℕ)) : Type 0 where
+    pub readings : List Reading
+    pub pieces : ArePieces readings
+    pub taken : HasTaken history (bytes_of readings) budget source source' quiets quiets'
+    pub stamps : Goes (GivesAll (stamps_of readings)) clock clock'
+    pub stands : StandsFor kept (stream_of readings)
+    pub wrote : Goes (Appends (texts_so_far says (stream_of readings))) sink sink'
+
+  no_texts : texts_so_far says [] ≡ []
+  unfolding reports_from
+  no_texts = refl
+
+  pub begun : (history : ℕ) (budget : Budget) (kept : Kept) (source : Option Stream) (quiets : ℕ) (clock : Option Dial) (sink : Option (List ℕ))
+      → budget ≡ record { room = history; quiets = 0 } → StandsFor kept []
+      → UnderWay history budget kept source source quiets quiets clock clock sink sink
+  begun history budget kept source quiets clock sink new stands = record {
+    readings = [];
+    pieces = tt;
+    taken = taken_none history budget source quiets new;
+    stamps = no_stamps clock;
+    stands = stands;
+    wrote = subst (λ l. Goes (Appends l) sink sink) (sym no_texts) (appends_none sink);
+  }
+
+  pub after_piece : (n history : ℕ) (buf : List ℕ) (budget budget' : Budget) (kept kept' : Kept) (at : Moment) (text : List ℕ)
+      (source now after : Option Stream) (quiets quiets' quiets'' : ℕ) (clock clock' clock'' : Option Dial) (sink sink' sink'' : Option (List ℕ))
+      → UnderWay history budget kept source now quiets quiets' clock clock' sink sink'
+      → length buf ≡ 512 → FitsRoom (Piece n) (length buf) → Spends (Piece n) budget budget' → Hands (Piece n) buf now after → quiets' ≤ quiets''
+      → Goes (Gives at) clock' clock''
+      → ((stream : List Symbol) → StandsFor kept stream → HandsOn {X = List ℕ} says (Ok text) stream (piece at (take n buf)) kept' sink' sink'')
+      → UnderWay history budget' kept' source after quiets quiets'' clock clock'' sink sink''
+  after_piece n history buf budget budget' kept kept' at text source now after quiets quiets' quiets'' clock clock' clock'' sink sink' sink'' u long fits spent handed more given lines =
+      let s : List Symbol = stream_of u.readings in
+      let h : HandsOn {X = List ℕ} says (Ok text) s (piece at (take n buf)) kept' sink' sink'' = lines s u.stands in
+      record {
+        readings = with_next u.readings at (take n buf);
+        pieces = pieces_next u.readings (record { at = at; bytes = take n buf }) u.pieces (is_piece n buf at fits long);
+        taken = subst (λ b. HasTaken history b budget' source after quiets quiets'') (sym (bytes_next u.readings at (take n buf)))
+            (taken_piece n history (bytes_of u.readings) buf budget budget' source now after quiets quiets' quiets'' u.taken fits spent handed more);
+        stamps = stamps_on u.readings at (take n buf) clock clock' clock'' u.stamps given;
+        stands = subst (λ t. StandsFor kept' t) (sym (stream_next u.readings at (take n buf))) h.0;
+        wrote = subst (λ t. Goes (Appends (texts_so_far says t)) sink sink'') (sym (stream_next u.readings at (take n buf)))
+            (subst (λ l. Goes (Appends l) sink sink'') (sym (texts_next s (piece at (take n buf)) h.1.0 h.1.1.0))
+            (appends_on (texts_so_far says s) (texts_of says h.1.0) sink sink' sink'' u.wrote h.1.1.1));
+      }
+
+  pub after_quiet : (history : ℕ) (buf : List ℕ) (budget budget' : Budget) (kept : Kept)
+      (source now after : Option Stream) (quiets quiets' quiets'' : ℕ) (clock clock' : Option Dial) (sink sink' : Option (List ℕ))
+      → UnderWay history budget kept source now quiets quiets' clock clock' sink sink'
+      → Spends Quiet budget budget' → Hands Quiet buf now after → Rose quiets' quiets''
+      → UnderWay history budget' kept source after quiets quiets'' clock clock' sink sink'
+  after_quiet history buf budget budget' kept source now after quiets quiets' quiets'' clock clock' sink sink' u spent handed rose = record {
+    readings = u.readings;
+    pieces = u.pieces;
+    taken = taken_quiet history (bytes_of u.readings) buf budget budget' source now after quiets quiets' quiets'' u.taken spent handed rose;
+    stamps = u.stamps;
+    stands = u.stands;
+    wrote = u.wrote;
+  }
+
+  -- where a fault ends the writing: the lines that were due have the written part at their beginning
+  broken_texts : (fault : Fault) (s more : List Symbol) (kept : Kept) (sink sink' sink'' : Option (List ℕ))
+      → Goes (Appends (texts_so_far says s)) sink sink' → HandsOn {X = List ℕ} says (Err fault) s more kept sink' sink''
+      → Goes (AppendsPart (texts_so_far says (s ++ more))) sink sink''
+  broken_texts Sink s more kept sink sink' sink'' wrote h =
+      subst (λ l. Goes (AppendsPart l) sink sink'') (sym (texts_next s more h.0 h.1.0))
+      (part_on (texts_so_far says s) (texts_of says h.0) sink sink' sink'' wrote h.1.1)
+  broken_texts NoMemoryFault s more kept sink sink' sink'' wrote h =
+      subst (λ l. Goes (AppendsPart l) sink sink'') (sym (texts_next s more (reports_from s more) (reports-append [] s more)))
+      (part_of (texts_so_far says s) (texts_of says (reports_from s more)) sink sink'' (subst (λ k. Goes (Appends (texts_so_far says s)) sink k) h wrote))
+
+  broken_so_far : (fault : Fault) (history : ℕ) (readings : List Reading) (at : Moment) (bytes : List ℕ) (kept : Kept)
+      (source after : Option Stream) (sink sink' sink'' : Option (List ℕ))
+      → HasReadSoFar history (bytes_of readings ++ bytes) source after
+      → Goes (Appends (texts_so_far says (stream_of readings))) sink sink'
+      → HandsOn {X = List ℕ} says (Err fault) (stream_of readings) (piece at bytes) kept sink' sink''
+      → BrokeOff says history (with_next readings at bytes) source after sink sink''
+  broken_so_far fault history readings at bytes kept source after sink sink' sink'' read wrote h =
+      inl (
+        subst (λ b. HasReadSoFar history b source after) (sym (bytes_next readings at bytes)) read,
+        subst (λ t. Goes (AppendsPart (texts_so_far says t)) sink sink'') (sym (stream_next readings at bytes))
+            (broken_texts fault (stream_of readings) (piece at bytes) kept sink sink' sink'' wrote h),
+      )
+
+  -- a command that was broken off by a fault, with the readings up to it
+  broken_off : (fault : Fault) (history : ℕ) (readings : List Reading) (at : Moment) (bytes : List ℕ) (kept : Kept)
+      (source after : Option Stream) (clock clock' clock'' : Option Dial) (sink sink' sink'' : Option (List ℕ))
+      → ArePieces (with_next readings at bytes) ⊎ PassHistory (with_next readings at bytes)
+      → HasReadSoFar history (bytes_of readings ++ bytes) source after
+      → Goes (GivesAll (stamps_of readings)) clock clock' → Goes (Gives at) clock' clock''
+      → Goes (Appends (texts_so_far says (stream_of readings))) sink sink'
+      → HandsOn {X = List ℕ} says (Err fault) (stream_of readings) (piece at bytes) kept sink' sink''
+      → Decoded says (outcome_of fault) history source after clock clock'' sink sink''
+  broken_off Sink history readings at bytes kept source after clock clock' clock'' sink sink' sink'' reads read all given wrote h = record {
+    readings = with_next readings at bytes;
+    reads = reads;
+    stamps = stamps_on readings at bytes clock clock' clock'' all given;
+    ends = broken_so_far Sink history readings at bytes kept source after sink sink' sink'' read wrote h;
+  }
+  broken_off NoMemoryFault history readings at bytes kept source after clock clock' clock'' sink sink' sink'' reads read all given wrote h = record {
+    readings = with_next readings at bytes;
+    reads = reads;
+    stamps = stamps_on readings at bytes clock clock' clock'' all given;
+    ends = broken_so_far NoMemoryFault history readings at bytes kept source after sink sink' sink'' read wrote h;
+  }
+
+  pub broken_in_piece : (n history : ℕ) (buf : List ℕ) (budget budget' : Budget) (kept kept' : Kept) (at : Moment) (fault : Fault)
+      (source now after : Option Stream) (quiets quiets' quiets'' : ℕ) (clock clock' clock'' : Option Dial) (sink sink' sink'' : Option (List ℕ))
+      → UnderWay history budget kept source now quiets quiets' clock clock' sink sink'
+      → length buf ≡ 512 → FitsRoom (Piece n) (length buf) → Spends (Piece n) budget budget' → Hands (Piece n) buf now after → quiets' ≤ quiets''
+      → Goes (Gives at) clock' clock''
+      → ((stream : List Symbol) → StandsFor kept stream → HandsOn {X = List ℕ} says (Err fault) stream (piece at (take n buf)) kept' sink' sink'')
+      → (outcome : Outcome) → outcome ≡ outcome_of fault
+      → Decoded says outcome history source after clock clock'' sink sink''
+  broken_in_piece n history buf budget budget' kept kept' at fault source now after quiets quiets' quiets'' clock clock' clock'' sink sink' sink'' u long fits spent handed more given lines outcome is =
+      let all : HasTaken history (bytes_of u.readings ++ take n buf) budget' source after quiets quiets'' =
+      taken_piece n history (bytes_of u.readings) buf budget budget' source now after quiets quiets' quiets'' u.taken fits spent handed more in
+      subst (λ o. Decoded says o history source after clock clock'' sink sink'') (sym is) (broken_off fault history u.readings at (take n buf) kept' source after clock clock' clock'' sink sink' sink''
+      (inl (pieces_next u.readings (record { at = at; bytes = take n buf }) u.pieces (is_piece n buf at fits long)))
+      (inl (let r = all.room in omega arith, all.passed))
+      u.stamps given u.wrote (lines (stream_of u.readings) u.stands))
+
+  pub broken_in_last : (n history : ℕ) (buf : List ℕ) (budget budget' : Budget) (kept kept' : Kept) (at : Moment) (fault : Fault)
+      (source now after : Option Stream) (quiets quiets' : ℕ) (clock clock' clock'' : Option Dial) (sink sink' sink'' : Option (List ℕ))
+      → UnderWay history budget kept source now quiets quiets' clock clock' sink sink'
+      → length buf ≡ 512 → FitsRoom (Last n) (length buf) → Spends (Last n) budget budget' → Hands (Last n) buf now after
+      → Goes (Gives at) clock' clock''
+      → ((stream : List Symbol) → StandsFor kept stream → HandsOn {X = List ℕ} says (Err fault) stream (piece at (take n buf)) kept' sink' sink'')
+      → (outcome : Outcome) → outcome ≡ outcome_of fault
+      → Decoded says outcome history source after clock clock'' sink sink''
+  broken_in_last n history buf budget budget' kept kept' at fault source now after quiets quiets' clock clock' clock'' sink sink' sink'' u long fits spent handed given lines outcome is =
+      let all : (length (bytes_of u.readings ++ take n buf) ≡ history) × Goes (PassesMore (bytes_of u.readings ++ take n buf)) source after =
+      ends_full n history (bytes_of u.readings) buf budget budget' source now after quiets quiets' u.taken fits spent handed in
+      subst (λ o. Decoded says o history source after clock clock'' sink sink'') (sym is) (broken_off fault history u.readings at (take n buf) kept' source after clock clock' clock'' sink sink' sink''
+      (inr (passes_history n u.readings at buf u.pieces fits long))
+      (inr all)
+      u.stamps given u.wrote (lines (stream_of u.readings) u.stands))
+
+  pub filled : (n history : ℕ) (buf : List ℕ) (budget budget' : Budget) (kept kept' : Kept) (at : Moment) (text : List ℕ)
+      (source now after : Option Stream) (quiets quiets' : ℕ) (clock clock' clock'' : Option Dial) (sink sink' sink'' : Option (List ℕ))
+      → UnderWay history budget kept source now quiets quiets' clock clock' sink sink'
+      → length buf ≡ 512 → FitsRoom (Last n) (length buf) → Spends (Last n) budget budget' → Hands (Last n) buf now after
+      → Goes (Gives at) clock' clock''
+      → ((stream : List Symbol) → StandsFor kept stream → HandsOn {X = List ℕ} says (Ok text) stream (piece at (take n buf)) kept' sink' sink'')
+      → Decoded says Full history source after clock clock'' sink sink''
+  filled n history buf budget budget' kept kept' at text source now after quiets quiets' clock clock' clock'' sink sink' sink'' u long fits spent handed given lines =
+      let s : List Symbol = stream_of u.readings in
+      let h : HandsOn {X = List ℕ} says (Ok text) s (piece at (take n buf)) kept' sink' sink'' = lines s u.stands in
+      let next : List Reading = with_next u.readings at (take n buf) in
+      let read : (length (bytes_of next) ≡ history) × Goes (PassesMore (bytes_of next)) source after =
+      subst (λ b. (length b ≡ history) × Goes (PassesMore b) source after) (sym (bytes_next u.readings at (take n buf)))
+      (ends_full n history (bytes_of u.readings) buf budget budget' source now after quiets quiets' u.taken fits spent handed) in
+      record {
+        readings = next;
+        reads = passes_history n u.readings at buf u.pieces fits long;
+        stamps = stamps_on u.readings at (take n buf) clock clock' clock'' u.stamps given;
+        ends = (
+          read.0,
+          read.1,
+          subst (λ t. Goes (Appends (texts_so_far says t)) sink sink'') (sym (stream_next u.readings at (take n buf)))
+              (subst (λ l. Goes (Appends l) sink sink'') (sym (texts_next s (piece at (take n buf)) h.1.0 h.1.1.0))
+              (appends_on (texts_so_far says s) (texts_of says h.1.0) sink sink' sink'' u.wrote h.1.1.1)),
+        );
+      }
+
+  pub ended : (history : ℕ) (buf : List ℕ) (budget : Budget) (kept : Kept) (text : List ℕ)
+      (source now after : Option Stream) (quiets quiets' : ℕ) (clock clock' : Option Dial) (sink sink' sink'' : Option (List ℕ))
+      → UnderWay history budget kept source now quiets quiets' clock clock' sink sink'
+      → Hands End buf now after
+      → ((stream : List Symbol) → StandsFor kept stream → Written {X = List ℕ} (Ok text) (texts_of says (device_close stream)) sink' sink'')
+      → Decoded says Done history source after clock clock' sink sink''
+  ended history buf budget kept text source now after quiets quiets' clock clock' sink sink' sink'' u handed lines =
+      let read : (length (bytes_of u.readings) ≤ history) × Goes (TakesAll (bytes_of u.readings)) source after =
+      ends_at_end history (bytes_of u.readings) buf budget source now after quiets quiets' u.taken handed in
+      record {
+        readings = u.readings;
+        reads = u.pieces;
+        stamps = u.stamps;
+        ends = (
+          read.0,
+          read.1,
+          appends_on (texts_so_far says (stream_of u.readings)) (texts_of says (device_close (stream_of u.readings))) sink sink' sink'' u.wrote
+              (lines (stream_of u.readings) u.stands),
+        );
+      }
+
+  at_end_broken : (history : ℕ) (buf : List ℕ) (budget : Budget) (kept : Kept) (fault : Fault)
+      (source now after : Option Stream) (quiets quiets' : ℕ) (clock clock' : Option Dial) (sink sink' sink'' : Option (List ℕ))
+      → UnderWay history budget kept source now quiets quiets' clock clock' sink sink'
+      → Hands End buf now after
+      → ((stream : List Symbol) → StandsFor kept stream → Written {X = List ℕ} (Err fault) (texts_of says (device_close stream)) sink' sink'')
+      → Decoded says (outcome_of fault) history source after clock clock' sink sink''
+  at_end_broken history buf budget kept Sink source now after quiets quiets' clock clock' sink sink' sink'' u handed lines =
+      let read : (length (bytes_of u.readings) ≤ history) × Goes (TakesAll (bytes_of u.readings)) source after =
+      ends_at_end history (bytes_of u.readings) buf budget source now after quiets quiets' u.taken handed in
+      record {
+        readings = u.readings;
+        reads = inl u.pieces;
+        stamps = u.stamps;
+        ends = inr (
+          read.0,
+          read.1,
+          part_on (texts_so_far says (stream_of u.readings)) (texts_of says (device_close (stream_of u.readings))) sink sink' sink'' u.wrote
+              (lines (stream_of u.readings) u.stands),
+        );
+      }
+  at_end_broken history buf budget kept NoMemoryFault source now after quiets quiets' clock clock' sink sink' sink'' u handed lines =
+      let read : (length (bytes_of u.readings) ≤ history) × Goes (TakesAll (bytes_of u.readings)) source after =
+      ends_at_end history (bytes_of u.readings) buf budget source now after quiets quiets' u.taken handed in
+      record {
+        readings = u.readings;
+        reads = inl u.pieces;
+        stamps = u.stamps;
+        ends = inr (
+          read.0,
+          read.1,
+          part_of (texts_so_far says (stream_of u.readings)) (texts_of says (device_close (stream_of u.readings))) sink sink''
+              (subst (λ k. Goes (Appends (texts_so_far says (stream_of u.readings))) sink k) (lines (stream_of u.readings) u.stands) u.wrote),
+        );
+      }
+
+  pub broken_at_end : (history : ℕ) (buf : List ℕ) (budget : Budget) (kept : Kept) (fault : Fault)
+      (source now after : Option Stream) (quiets quiets' : ℕ) (clock clock' : Option Dial) (sink sink' sink'' : Option (List ℕ))
+      → UnderWay history budget kept source now quiets quiets' clock clock' sink sink'
+      → Hands End buf now after
+      → ((stream : List Symbol) → StandsFor kept stream → Written {X = List ℕ} (Err fault) (texts_of says (device_close stream)) sink' sink'')
+      → (outcome : Outcome) → outcome ≡ outcome_of fault
+      → Decoded says outcome history source after clock clock' sink sink''
+  broken_at_end history buf budget kept fault source now after quiets quiets' clock clock' sink sink' sink'' u handed lines outcome is =
+      subst (λ o. Decoded says o history source after clock clock' sink sink'') (sym is)
+      (at_end_broken history buf budget kept fault source now after quiets quiets' clock clock' sink sink' sink'' u handed lines)
+
+  pub failed : (history : ℕ) (buf : List ℕ) (budget : Budget) (kept : Kept)
+      (source now after : Option Stream) (quiets quiets' : ℕ) (clock clock' : Option Dial) (sink sink' : Option (List ℕ))
+      → UnderWay history budget kept source now quiets quiets' clock clock' sink sink'
+      → Hands Failed buf now after
+      → Decoded says ReadFault history source after clock clock' sink sink'
+  failed history buf budget kept source now after quiets quiets' clock clock' sink sink' u handed =
+      let read : (length (bytes_of u.readings) ≤ history) × Goes (TakesSome (bytes_of u.readings)) source after =
+      ends_failed history (bytes_of u.readings) buf budget source now after quiets quiets' u.taken handed in
+      record { readings = u.readings; reads = u.pieces; stamps = u.stamps; ends = (read.0, read.1, u.wrote) }
+
+  pub too_quiet : (history : ℕ) (buf : List ℕ) (budget : Budget) (kept : Kept)
+      (source now after : Option Stream) (quiets quiets' : ℕ) (clock clock' : Option Dial) (sink sink' : Option (List ℕ))
+      → UnderWay history budget kept source now quiets quiets' clock clock' sink sink'
+      → Hands TooQuiet buf now after
+      → Decoded says QuietOutcome history source after clock clock' sink sink'
+  too_quiet history buf budget kept source now after quiets quiets' clock clock' sink sink' u handed =
+      let all : (length (bytes_of u.readings) ≤ history) × Goes (Passes (bytes_of u.readings)) source after =
+      ends_too_quiet history (bytes_of u.readings) buf budget source now after quiets quiets' u.taken handed in
+      record { readings = u.readings; reads = u.pieces; stamps = u.stamps; ends = (all.0, all.1, u.wrote) }
+
+  -- want of memory before the first read
+  pub nothing_done : (history : ℕ) (source : Option Stream) (clock : Option Dial) (sink : Option (List ℕ))
+      → Decoded says NoMemory history source source clock clock sink sink
+  nothing_done history source clock sink = record {
+    readings = [];
+    reads = inl tt;
+    stamps = no_stamps clock;
+    ends = inl (
+      inl (omega arith, passes_none source),
+      subst (λ l. Goes (AppendsPart l) sink sink) (append-nil (texts_so_far says []))
+          (part_of (texts_so_far says []) [] sink sink (subst (λ l. Goes (Appends l) sink sink) (sym no_texts) (appends_none sink))),
+    );
+  }
+
+  -- what the device gained was written
+  pub handed_on : (result : Result (List ℕ) Fault) (gained : List Body) (stream more : List Symbol) (kept : Kept) (before after : Option (List ℕ))
+      → StandsFor kept (stream ++ more) → Gains stream more gained → Written result (texts_of says gained) before after
+      → HandsOn says result stream more kept before after
+  handed_on (Ok text) gained stream more kept before after stands gains wrote = (stands, (gained, (gains, wrote)))
+  handed_on (Err Sink) gained stream more kept before after stands gains wrote = (gained, (gains, wrote))
+  handed_on (Err NoMemoryFault) gained stream more kept before after stands gains wrote = wrote

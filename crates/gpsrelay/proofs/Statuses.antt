@@ -9,6 +9,7 @@ use Rattle.gpsrelay.specs.declared.outcome.Outcome.TheVariants.{Done, ReadFault,
 use Rattle.gpsrelay.specs.Outcomes.{status_of, HasCause, HasReadCause}
 use Rattle.gpsrelay.specs.Decode.{Decoded, IsWithin}
 use Rattle.gpsrelay.specs.Readings.{bytes_of}
+use Rattle.gpsrelay.specs.Texts.{Texts}
 
 pub read_cause : (outcome : Outcome) (faults faults' quiets quiets' sunk sunk' : ℕ)
     → HasCause outcome faults faults' quiets quiets' sunk sunk' → status_of outcome ≡ 3 → HasReadCause faults faults' quiets quiets'
@@ -60,15 +61,15 @@ ends_by_itself WriteFault faults faults' quiets quiets' sunk sunk' cause sound l
 ends_by_itself Full faults faults' quiets quiets' sunk sunk' cause sound lively unbroken = inr (inl refl)
 ends_by_itself NoMemory faults faults' quiets quiets' sunk sunk' cause sound lively unbroken = inr (inr refl)
 
-pub completes : (outcome : Outcome) (history : ℕ) (source source' : Option Stream) (clock clock' : Option Dial) (sink sink' : Option (List ℕ))
+pub completes : (says : Texts) (outcome : Outcome) (history : ℕ) (source source' : Option Stream) (clock clock' : Option Dial) (sink sink' : Option (List ℕ))
     (faults faults' quiets quiets' sunk sunk' : ℕ)
-    → Decoded outcome history source source' clock clock' sink sink' → HasCause outcome faults faults' quiets quiets' sunk sunk'
+    → Decoded says outcome history source source' clock clock' sink sink' → HasCause outcome faults faults' quiets quiets' sunk sunk'
     → IsWithin history source → (Rose faults faults' → ⊥) → (RoseBy 1000 quiets quiets' → ⊥) → (Rose sunk sunk' → ⊥)
     → (status_of outcome ≡ 0) ⊎ (status_of outcome ≡ 7)
-completes Done history source source' clock clock' sink sink' faults faults' quiets quiets' sunk sunk' done cause within sound lively unbroken = inl refl
-completes ReadFault history source source' clock clock' sink sink' faults faults' quiets quiets' sunk sunk' done cause within sound lively unbroken = absurd (sound cause)
-completes TooQuiet history source source' clock clock' sink sink' faults faults' quiets quiets' sunk sunk' done cause within sound lively unbroken = absurd (lively cause)
-completes WriteFault history source source' clock clock' sink sink' faults faults' quiets quiets' sunk sunk' done cause within sound lively unbroken = absurd (unbroken cause)
-completes Full history source source' clock clock' sink sink' faults faults' quiets quiets' sunk sunk' done cause within sound lively unbroken =
+completes says Done history source source' clock clock' sink sink' faults faults' quiets quiets' sunk sunk' done cause within sound lively unbroken = inl refl
+completes says ReadFault history source source' clock clock' sink sink' faults faults' quiets quiets' sunk sunk' done cause within sound lively unbroken = absurd (sound cause)
+completes says TooQuiet history source source' clock clock' sink sink' faults faults' quiets quiets' sunk sunk' done cause within sound lively unbroken = absurd (lively cause)
+completes says WriteFault history source source' clock clock' sink sink' faults faults' quiets quiets' sunk sunk' done cause within sound lively unbroken = absurd (unbroken cause)
+completes says Full history source source' clock clock' sink sink' faults faults' quiets quiets' sunk sunk' done cause within sound lively unbroken =
     absurd (no_more history (bytes_of done.readings) source source' within done.ends.0 done.ends.1)
-completes NoMemory history source source' clock clock' sink sink' faults faults' quiets quiets' sunk sunk' done cause within sound lively unbroken = inr refl
+completes says NoMemory history source source' clock clock' sink sink' faults faults' quiets quiets' sunk sunk' done cause within sound lively unbroken = inr refl

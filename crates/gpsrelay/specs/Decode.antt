@@ -1,4 +1,5 @@
--- What `decode` promises of the bytes that it reads, of the stamps that it asks for, and of the bytes that it writes. This project's own.
+-- What `decode` and `pseudo` promise of the bytes that they read, of the stamps that they ask for, and of the bytes that they write: for each report
+-- what is said of it. This project's own.
 use Rattle.std.specs.Prelude.{◌≡◌, ℕ, ◌≤◌, ◌⊎◌, List, ◌++◌, length, Option, Some, None, Result, Ok, Err}
 use Rattle.gps_report.specs.declared.edge.Symbol.{Symbol}
 use Rattle.gps_report.specs.declared.report.Body.{Body}
@@ -8,12 +9,14 @@ use Rattle.gps_outside.specs.Ticks.{Dial, GivesAll}
 use Rattle.gps_outside.specs.Turns.{PassesMore, TakesAll, TakesSome}
 use Rattle.device_core.specs.Reports.{Gains}
 use Rattle.device_core.specs.Standing.{Kept, StandsFor}
+use Rattle.gps_words.specs.declared.command.Command.{Command}
+use Rattle.gps_words.specs.declared.command.Command.TheVariants as command
 use Rattle.gpsrelay.specs.declared.outcome.Outcome.{Outcome}
 use Rattle.gpsrelay.specs.declared.outcome.Outcome.TheVariants.{Done, ReadFault, TooQuiet, WriteFault, Full, NoMemory}
 use Rattle.gpsrelay.specs.declared.outcome.Fault.{Fault}
 use Rattle.gpsrelay.specs.declared.outcome.Fault.TheVariants.{Sink, NoMemory as NoMemoryFault}
 use Rattle.gpsrelay.specs.Readings.{ArePieces, PassHistory, Reading, bytes_of, stamps_of, stream_of}
-use Rattle.gpsrelay.specs.Lines.{lines_of, lines_so_far, lines_to_end}
+use Rattle.gpsrelay.specs.Texts.{Texts, texts_of, texts_so_far, texts_to_end}
 
 -- Where a command breaks off in mid-source, all bytes that it took were read: none more than the history allows, or as many as it allows where
 -- more came.
@@ -22,26 +25,26 @@ HasReadSoFar history bytes before after =
     ((length bytes ≤ history) × Goes (Passes bytes) before after) ⊎ ((length bytes ≡ history) × Goes (PassesMore bytes) before after)
 
 -- Of the lines that were due a part was written, from their beginning: of the lines so far in mid-source, and of all lines at the source's end.
-abbrev pub BrokeOff : ℕ → List Reading → Option Stream → Option Stream → Option (List ℕ) → Option (List ℕ) → Type 0
-BrokeOff history readings source source' sink sink' =
-    (HasReadSoFar history (bytes_of readings) source source' × Goes (AppendsPart (lines_so_far (stream_of readings))) sink sink')
+abbrev pub BrokeOff : Texts → ℕ → List Reading → Option Stream → Option Stream → Option (List ℕ) → Option (List ℕ) → Type 0
+BrokeOff says history readings source source' sink sink' =
+    (HasReadSoFar history (bytes_of readings) source source' × Goes (AppendsPart (texts_so_far says (stream_of readings))) sink sink')
     ⊎ ((length (bytes_of readings) ≤ history) × Goes (TakesAll (bytes_of readings)) source source'
-    × Goes (AppendsPart (lines_to_end (stream_of readings))) sink sink')
+    × Goes (AppendsPart (texts_to_end says (stream_of readings))) sink sink')
 
 -- Which bytes were read, and what was written for their stream: all that was left, and all its lines; those before a fault, after which the
 -- rest may be lost, those before a thousand quiets, or those before one more than the history allows, and the lines so far; or those before the
 -- command broke off, and a part of the lines due.
-abbrev pub Ends : Outcome → ℕ → List Reading → Option Stream → Option Stream → Option (List ℕ) → Option (List ℕ) → Type 0
-Ends Done history readings source source' sink sink' =
-    (length (bytes_of readings) ≤ history) × Goes (TakesAll (bytes_of readings)) source source' × Goes (Appends (lines_to_end (stream_of readings))) sink sink'
-Ends ReadFault history readings source source' sink sink' =
-    (length (bytes_of readings) ≤ history) × Goes (TakesSome (bytes_of readings)) source source' × Goes (Appends (lines_so_far (stream_of readings))) sink sink'
-Ends TooQuiet history readings source source' sink sink' =
-    (length (bytes_of readings) ≤ history) × Goes (Passes (bytes_of readings)) source source' × Goes (Appends (lines_so_far (stream_of readings))) sink sink'
-Ends WriteFault history readings source source' sink sink' = BrokeOff history readings source source' sink sink'
-Ends Full history readings source source' sink sink' =
-    (length (bytes_of readings) ≡ history) × Goes (PassesMore (bytes_of readings)) source source' × Goes (Appends (lines_so_far (stream_of readings))) sink sink'
-Ends NoMemory history readings source source' sink sink' = BrokeOff history readings source source' sink sink'
+abbrev pub Ends : Texts → Outcome → ℕ → List Reading → Option Stream → Option Stream → Option (List ℕ) → Option (List ℕ) → Type 0
+Ends says Done history readings source source' sink sink' =
+    (length (bytes_of readings) ≤ history) × Goes (TakesAll (bytes_of readings)) source source' × Goes (Appends (texts_to_end says (stream_of readings))) sink sink'
+Ends says ReadFault history readings source source' sink sink' =
+    (length (bytes_of readings) ≤ history) × Goes (TakesSome (bytes_of readings)) source source' × Goes (Appends (texts_so_far says (stream_of readings))) sink sink'
+Ends says TooQuiet history readings source source' sink sink' =
+    (length (bytes_of readings) ≤ history) × Goes (Passes (bytes_of readings)) source source' × Goes (Appends (texts_so_far says (stream_of readings))) sink sink'
+Ends says WriteFault history readings source source' sink sink' = BrokeOff says history readings source source' sink sink'
+Ends says Full history readings source source' sink sink' =
+    (length (bytes_of readings) ≡ history) × Goes (PassesMore (bytes_of readings)) source source' × Goes (Appends (texts_so_far says (stream_of readings))) sink sink'
+Ends says NoMemory history readings source source' sink sink' = BrokeOff says history readings source source' sink sink'
 
 -- which bytes one reading has: those of one read, and where the history was passed the last has what lay within it
 abbrev pub AreReads : Outcome → List Reading → Type 0
@@ -52,13 +55,13 @@ AreReads WriteFault readings = ArePieces readings ⊎ PassHistory readings
 AreReads Full readings = PassHistory readings
 AreReads NoMemory readings = ArePieces readings ⊎ PassHistory readings
 
--- There are readings such that their bytes were read, the clock gave one stamp for each of them, in order, and the lines of their stream were
+-- There are readings such that their bytes were read, the clock gave one stamp for each of them, in order, and what is said of their stream's reports was
 -- written. Of an object of the outside that does not tell its content nothing is said here: then the readings may be any.
-pub record Decoded (outcome : Outcome) (history : ℕ) (source source' : Option Stream) (clock clock' : Option Dial) (sink sink' : Option (List ℕ)) : Type 0 where
+pub record Decoded (says : Texts) (outcome : Outcome) (history : ℕ) (source source' : Option Stream) (clock clock' : Option Dial) (sink sink' : Option (List ℕ)) : Type 0 where
   pub readings : List Reading
   pub reads : AreReads outcome readings
   pub stamps : Goes (GivesAll (stamps_of readings)) clock clock'
-  pub ends : Ends outcome history readings source source' sink sink'
+  pub ends : Ends says outcome history readings source source' sink sink'
 
 -- the source tells that no more is left than the history allows
 abbrev pub IsWithin : ℕ → Option Stream → Type 0
@@ -78,7 +81,11 @@ WriteCause (Err NoMemoryFault) before after = Unit {0}
 
 -- the lines of what a stream gains by more of it were written, and what is kept then stands for the longer stream; or a part of them where the
 -- sink failed; or nothing for want of memory
-abbrev pub HandsOn : {X : Type 0} → Result X Fault → List Symbol → List Symbol → Kept → Option (List ℕ) → Option (List ℕ) → Type 0
-HandsOn (Ok _) stream more kept before after = StandsFor kept (stream ++ more) × ((out : List Body) × (Gains stream more out × Goes (Appends (lines_of out)) before after))
-HandsOn (Err Sink) stream more kept before after = (out : List Body) × (Gains stream more out × Goes (AppendsPart (lines_of out)) before after)
-HandsOn (Err NoMemoryFault) stream more kept before after = before ≡ after
+abbrev pub HandsOn : {X : Type 0} → Texts → Result X Fault → List Symbol → List Symbol → Kept → Option (List ℕ) → Option (List ℕ) → Type 0
+HandsOn says (Ok _) stream more kept before after = StandsFor kept (stream ++ more) × ((out : List Body) × (Gains stream more out × Goes (Appends (texts_of says out)) before after))
+HandsOn says (Err Sink) stream more kept before after = (out : List Body) × (Gains stream more out × Goes (AppendsPart (texts_of says out)) before after)
+HandsOn says (Err NoMemoryFault) stream more kept before after = before ≡ after
+
+-- what is asked for is a command that reads a device, with so long a history
+abbrev pub ReadsDevice : Option Command → ℕ → Type 0
+ReadsDevice asked history = (asked ≡ Some (command.Decode history)) ⊎ (asked ≡ Some (command.Pseudo history))

@@ -1,4 +1,4 @@
 pub mod Readings
-pub mod Lines
+pub mod Texts
 pub mod Outcomes
 pub mod Decode

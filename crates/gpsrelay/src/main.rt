@@ -3,11 +3,11 @@
 #![tactic(auto)]
 
 mod decode;
-mod lines;
 mod outcome;
 mod run;
 #[cfg(test)]
 mod tests;
+mod texts;
 
 use gps_fixed::NoMemory;
 use gps_outside::{RealClock, RealSink, RealSource};
@@ -64,7 +64,7 @@ fn main(rt: HostRuntime) -> ExitCode {
     let status = status_of_call(rt);
     if status == run::REFUSED {
         // A standard error that is closed or full changes no status.
-        let _ = eprintln!(rt; "usage: gpsrelay decode");
+        let _ = eprintln!(rt; "usage: gpsrelay decode|pseudo");
     }
     ExitCode::from(status)
 }

@@ -4,9 +4,10 @@ ghost use Rattle.gps_words.specs.declared.command.Command.{Command};
 ghost use Rattle.gps_outside.specs.Counts.{Rose, RoseBy};
 ghost use Rattle.gpsrelay.specs.declared.outcome.Outcome.{Outcome};
 ghost use Rattle.gpsrelay.specs.Outcomes.{status_of, HasCause, HasReadCause};
-ghost use Rattle.gpsrelay.specs.Decode.{Decoded, IsWithin};
+ghost use Rattle.gpsrelay.specs.Decode.{Decoded, IsWithin, ReadsDevice};
+ghost use Rattle.gpsrelay.specs.Texts.{line_of, sentences_of};
 
-use crate::decode::decode;
+use crate::decode::{decode, pseudo};
 use crate::outcome::Outcome;
 use gps_outside::{Clock, Sink, Source};
 use gps_words::{Command, WordsFault, asked};
@@ -17,7 +18,8 @@ pub const REFUSED: u8 = 2;
 
 /// Does what the words ask for, which stand without the program's name, and gives the exit status.
 ///
-/// `decode [--history N]` reads what a receiver sends and writes its fixes and skies as JSON lines, as epochs close. The
+/// `decode [--history N]` reads what a receiver sends and writes its fixes and skies as JSON lines, as epochs close.
+/// `pseudo [--history N]` reads the same, and writes two sentences for each fix, for programs that read sentences alone. The
 /// status is 0 where the input was read to its end and all was written; 2 where the words ask for nothing, and then
 /// nothing was read or written; 3 where the source failed or nothing came a thousand times; 4 where the sink failed; 5
 /// where more bytes came than the history allows; 7 for want of memory.
@@ -40,16 +42,21 @@ pub fn run<S: Source, K: Sink, C: Clock>(
     ensures decode { (history : ℕ) → asked_of (map string_bytes words.now) ≡ Some (Command.Decode history)
         → (outcome : Outcome) × (result ≡ status_of outcome)
         × HasCause outcome (S.faults source.old) (S.faults source.new) (S.quiets source.old) (S.quiets source.new) (K.faults sink.old) (K.faults sink.new)
-        × Decoded outcome history (S.content source.old) (S.content source.new)
+        × Decoded line_of outcome history (S.content source.old) (S.content source.new)
+        (C.stamps clock.old) (C.stamps clock.new) (K.written sink.old) (K.written sink.new) }
+    ensures pseudo { (history : ℕ) → asked_of (map string_bytes words.now) ≡ Some (Command.Pseudo history)
+        → (outcome : Outcome) × (result ≡ status_of outcome)
+        × HasCause outcome (S.faults source.old) (S.faults source.new) (S.quiets source.old) (S.quiets source.new) (K.faults sink.old) (K.faults sink.new)
+        × Decoded sentences_of outcome history (S.content source.old) (S.content source.new)
         (C.stamps clock.old) (C.stamps clock.new) (K.written sink.old) (K.written sink.new) }
     ensures read_fault { result ≡ 3 → HasReadCause (S.faults source.old) (S.faults source.new) (S.quiets source.old) (S.quiets source.new) }
     ensures write_fault { result ≡ 4 → Rose (K.faults sink.old) (K.faults sink.new) }
-    ensures ends { (history : ℕ) → asked_of (map string_bytes words.now) ≡ Some (Command.Decode history)
+    ensures ends { (history : ℕ) → ReadsDevice (asked_of (map string_bytes words.now)) history
         → (Rose (S.faults source.old) (S.faults source.new) → ⊥)
         → (RoseBy 1000 (S.quiets source.old) (S.quiets source.new) → ⊥)
         → (Rose (K.faults sink.old) (K.faults sink.new) → ⊥)
         → (result ≡ 0) ⊎ ((result ≡ 5) ⊎ (result ≡ 7)) }
-    ensures complete { (history : ℕ) → asked_of (map string_bytes words.now) ≡ Some (Command.Decode history)
+    ensures complete { (history : ℕ) → ReadsDevice (asked_of (map string_bytes words.now)) history
         → IsWithin history (S.content source.old)
         → (Rose (S.faults source.old) (S.faults source.new) → ⊥)
         → (RoseBy 1000 (S.quiets source.old) (S.quiets source.new) → ⊥)
@@ -61,6 +68,7 @@ pub fn run<S: Source, K: Sink, C: Clock>(
 {
     match asked(alloc, words) {
         Ok(Command::Decode { history }) => decode(alloc, history, source, sink, clock).status(),
+        Ok(Command::Pseudo { history }) => pseudo(alloc, history, source, sink, clock).status(),
         Err(WordsFault::Refused) => REFUSED,
         Err(WordsFault::NoMemory) => Outcome::NoMemory.status(),
     }

@@ -1,4 +1,4 @@
-//! `decode` over a source, a sink and a clock in memory.
+//! `decode` and `pseudo` over a source, a sink and a clock in memory.
 
 use crate::run::run;
 use gps_fixed::{NoMemory, Stamp};
@@ -356,11 +356,37 @@ fn the_thousandth_quiet_ends_the_run(rt: HostRuntime) -> Result<(), Fail> {
 }
 
 #[test]
+fn a_fix_is_written_as_two_sentences(rt: HostRuntime) -> Result<(), Fail> {
+    let rows: &[(Parts<'_>, &[u8])] = &[
+        (
+            &[PVT],
+            b"$GPRMC,120000.000000000,A,4800.0000000,N,01000.0000000,E,2.916,90.0000,010624,,,A*64\r\n$GPGGA,120000.000000000,4800.0000000,N,01000.0000000,E,1,,,453.000,M,47.000,M,,*7D\r\n",
+        ),
+        (
+            &[b"$GPRMC,123519,A,4860.000,N,,E,022.4,084.4,230394,003.1,W*4C\r\n"],
+            b"$GPRMC,123519.000000000,V,,,,,,,230394,,,N*4F\r\n$GPGGA,123519.000000000,,,,,0,,,,M,,M,,*75\r\n",
+        ),
+    ];
+    for (input, sentences) in rows {
+        let outside = Outside {
+            input: *input,
+            reads: &[],
+            at_end: AtEnd::End,
+            writes: &[],
+        };
+        let (ended, written) = ran(rt.alloc(), &["pseudo"], &outside)?;
+        assert_eq!(rt; (ended, written.as_slice()), (0, *sentences));
+    }
+    Ok(())
+}
+
+#[test]
 fn words_choose_the_history_or_are_refused(rt: HostRuntime) -> Result<(), Fail> {
     let rows: &[(&[&str], u8, &[u8])] = &[
         (&["decode", "--history", "69"], 5, b""),
         (&["decode", "--history", "70"], 0, RMC_LINE),
         (&["decode", "--history", "0"], 2, b""),
+        (&["pseudo", "--history", "69"], 5, b""),
         (&["frob"], 2, b""),
         (&[], 2, b""),
     ];

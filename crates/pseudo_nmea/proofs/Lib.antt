@@ -1,3 +1,4 @@
+pub mod Endings
 pub mod Alone
 pub mod Back
 pub mod Counted
@@ -13,3 +14,5 @@ pub mod Ranges
 pub mod Rows
 pub mod Spoken
 pub mod Times
+pub mod Sizes
+pub mod Whole

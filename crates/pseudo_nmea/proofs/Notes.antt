@@ -15,29 +15,29 @@ use Rattle.pseudo_nmea.specs.Sentences.{by_fix, sentence, rmc_body, gga_body, up
 use Rattle.pseudo_nmea.proofs.Rows.{rows, rows_behind, all_plain, row_is}
 use Rattle.pseudo_nmea.proofs.Plain.{clock_plain, by_fix_plain, latitude_plain, north_plain, longitude_plain, east_plain, knots_plain, course_plain, metres_plain, date_plain, rows_starless, before_star}
 
-abbrev rmc_list : Fix → List (List ℕ)
+abbrev pub rmc_list : Fix → List (List ℕ)
 rmc_list fix =
     clock fix.time ∷ by_fix fix (codes "V") (codes "A") ∷ latitude (placed fix.position) ∷ north (placed fix.position) ∷ longitude (placed fix.position) ∷ east (placed fix.position)
     ∷ knots fix.speed ∷ course fix.track ∷ date fix.time ∷ [] ∷ [] ∷ by_fix fix (codes "N") (codes "A") ∷ []
 
-abbrev gga_list : Fix → List (List ℕ)
+abbrev pub gga_list : Fix → List (List ℕ)
 gga_list fix =
     clock fix.time ∷ latitude (placed fix.position) ∷ north (placed fix.position) ∷ longitude (placed fix.position) ∷ east (placed fix.position) ∷ by_fix fix (codes "0") (codes "1")
     ∷ [] ∷ [] ∷ metres fix.alt_msl ∷ codes "M" ∷ metres fix.geoid_sep ∷ codes "M" ∷ [] ∷ [] ∷ []
 
-rmc_plain : (fix : Fix) → all_plain (rmc_list fix) ≡ true
+pub rmc_plain : (fix : Fix) → all_plain (rmc_list fix) ≡ true
 rmc_plain fix =
     λ i. (clock_plain fix.time) i && ((by_fix_plain fix (codes "V") (codes "A") refl refl) i && ((latitude_plain (placed fix.position)) i && ((north_plain (placed fix.position)) i && ((longitude_plain (placed fix.position)) i && ((east_plain (placed fix.position)) i && ((knots_plain fix.speed) i && ((course_plain fix.track) i && ((date_plain fix.time) i && (true && (true && ((by_fix_plain fix (codes "N") (codes "A") refl refl) i && (true))))))))))))
 
-gga_plain : (fix : Fix) → all_plain (gga_list fix) ≡ true
+pub gga_plain : (fix : Fix) → all_plain (gga_list fix) ≡ true
 gga_plain fix =
     λ i. (clock_plain fix.time) i && ((latitude_plain (placed fix.position)) i && ((north_plain (placed fix.position)) i && ((longitude_plain (placed fix.position)) i && ((east_plain (placed fix.position)) i && ((by_fix_plain fix (codes "0") (codes "1") refl refl) i && (true && (true && ((metres_plain fix.alt_msl) i && (true && ((metres_plain fix.geoid_sep) i && (true && (true && (true && (true))))))))))))))
 
-rmc_body_is : (fix : Fix) → rmc_body fix ≡ codes "GPRMC" ++ rows (rmc_list fix)
+pub rmc_body_is : (fix : Fix) → rmc_body fix ≡ codes "GPRMC" ++ rows (rmc_list fix)
 unfolding rmc_body
 rmc_body_is fix = rows_behind (codes "GPRMC") (rmc_list fix)
 
-gga_body_is : (fix : Fix) → gga_body fix ≡ codes "GPGGA" ++ rows (gga_list fix)
+pub gga_body_is : (fix : Fix) → gga_body fix ≡ codes "GPGGA" ++ rows (gga_list fix)
 unfolding gga_body
 gga_body_is fix = rows_behind (codes "GPGGA") (gga_list fix)
 

@@ -11,10 +11,13 @@ field text = 44 ∷ text
 abbrev pub upper_digit : ℕ → ℕ
 upper_digit n = if nat_lt n 10 then 48 + n else 55 + n
 
--- `$`, the body, `*`, the two digits of its checksum, CR and LF
+-- what stands behind a body: `*`, the two digits of its checksum, CR and LF
+abbrev pub ending : List ℕ → List ℕ
+ending body = 42 ∷ upper_digit (checksum body / 16) ∷ upper_digit (checksum body % 16) ∷ 13 ∷ 10 ∷ []
+
+-- `$`, the body, and its ending
 unfoldable pub sentence : List ℕ → List ℕ
-sentence body =
-    (36 ∷ body) ++ 42 ∷ upper_digit (checksum body / 16) ∷ upper_digit (checksum body % 16) ∷ 13 ∷ 10 ∷ []
+sentence body = (36 ∷ body) ++ ending body
 
 -- one text without a fix, the other with one
 unfoldable pub by_fix : Fix → List ℕ → List ℕ → List ℕ

@@ -12,6 +12,8 @@ ghost use Rattle.epoch_core.specs.Fixes.{fix_of};
 ghost use Rattle.epoch_core.specs.Quantities.{said};
 ghost use Rattle.ubx_decode.specs.Pvt.{pvt_note};
 ghost use Rattle.ubx_frame.specs.Frame.{is_byte};
+ghost use Rattle.nmea_frame.specs.Sentence.{IsSentence};
+ghost use Rattle.pseudo_nmea.specs.Sentences.{gga_body, rmc_body, sentence};
 ghost use Rattle.pseudo_nmea.specs.Fitting.{alone, is_coarse, is_dated, GivesBack, HasStamp, IsSayable, IsFitting};
 
 /// The fix of an epoch whose only note is that of a NAV-PVT fits the two sentences, where its day is not after 2079, its
@@ -34,4 +36,11 @@ pub fn fields_are_read_back()
 /// above the ellipsoid and the climb, which sentences cannot say.
 pub fn sentences_give_the_fix_back()
     ensures { (fix : Fix) (one two : Moment) → IsFitting fix → HasStamp fix.time → GivesBack fix one two }
+{}
+
+/// The two texts of any fix are sentences: at most 128 bytes, with a right checksum.
+#[tactic(auto, using(crate::proofs::Whole::rmc_is_sentence, crate::proofs::Whole::gga_is_sentence))]
+pub fn texts_are_sentences()
+    ensures rmc { (fix : Fix) → IsSentence (sentence (rmc_body fix)) }
+    ensures gga { (fix : Fix) → IsSentence (sentence (gga_body fix)) }
 {}

@@ -11,8 +11,10 @@ mod laws;
 mod pseudo;
 mod sentence;
 
-pub use laws::{fields_are_read_back, fixes_of_frames_fit, sentences_give_the_fix_back};
-pub use pseudo::sentences_of;
+pub use laws::{
+    fields_are_read_back, fixes_of_frames_fit, sentences_give_the_fix_back, texts_are_sentences,
+};
+pub use pseudo::{push_sentences, sentences_of};
 
 #[cfg(test)]
 mod tests;

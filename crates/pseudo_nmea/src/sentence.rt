@@ -1,6 +1,6 @@
-ghost use Rattle.std.specs.Prelude.{◌≡◌, ◌<◌, ◌++◌, OnOk};
+ghost use Rattle.std.specs.Prelude.{◌≡◌, ◌<◌, ◌≤◌, ◌++◌, OnOk, drop, length};
 ghost use Rattle.nmea_frame.specs.Sentence.{checksum as sum_of};
-ghost use Rattle.pseudo_nmea.specs.Sentences.{upper_digit, sentence};
+ghost use Rattle.pseudo_nmea.specs.Sentences.{ending, upper_digit};
 
 use gps_fixed::{Bytes, NoMemory};
 
@@ -17,14 +17,12 @@ fn upper_digit(n: u8) -> u8
     if n < 10 { b'0' + n } else { b'A' + (n - 10) }
 }
 
-/// Adds the sentence of a body: `$`, the body, `*`, its checksum in upper case, CR and LF.
-#[tactic(auto, unfolding(crate::specs::Sentences::sentence))]
-pub(crate) fn push_sentence(out: &mut Bytes, body: &[u8]) -> Result<(), NoMemory>
-    ensures { OnOk result (out.new ≡ out.old ++ sentence body.now) }
+/// Ends the sentence whose body begins at this place: `*`, its checksum in upper case, CR and LF.
+pub(crate) fn end_sentence(out: &mut Bytes, from: usize) -> Result<(), NoMemory>
+    requires { from ≤ length out.old }
+    ensures { OnOk result (out.new ≡ out.old ++ ending (drop from out.old)) }
 {
-    let sum = checksum(body);
-    out.push(b'$')?;
-    out.extend_from_slice(body)?;
+    let sum = checksum(&out.as_slice()[from..]);
     let end = [
         b'*',
         upper_digit(sum / 16),

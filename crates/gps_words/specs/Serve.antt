@@ -1,0 +1,71 @@
+-- What the words of `serve` ask for: `serve [--listen HOST:PORT] [--queue N] [--history N] [--wait N] [--monitor N] WORD ..`, with 1 to 16
+-- device words among the options. This project's own.
+use Rattle.std.specs.Prelude.{ℕ, List, [], ◌∷◌, codes, Option, Some, None, option_and_then, option_map, unwrap_or, if◌then◌else◌}
+use Rattle.std.specs.Str.{bytes_eq}
+use Rattle.clap.specs.Simple.{App, with_rule}
+use Rattle.clap.specs.Walk.{Row, Text, all_of, first_of}
+use Rattle.gps_words.specs.Decode.{history_in}
+use Rattle.gps_words.specs.Devices.{Lists, devices_in, is_address}
+use Rattle.gps_words.specs.Numbers.{number_or}
+use Rattle.gps_words.specs.Options.{bare_app, list_rule, option_rule, read_by}
+use Rattle.gps_words.specs.Replay.{queue_in}
+use Rattle.gps_words.specs.declared.serve.ServeNumbers.{ServeNumbers}
+use Rattle.gps_words.specs.declared.serve.ServeOptions.{ServeOptions}
+
+-- all that the words ask for; the devices are told by three lists of one length
+pub record Serve : Type 0 where
+  pub devices : Lists
+  pub listen : Text
+  pub numbers : ServeNumbers
+
+-- the options as they are handed on
+abbrev pub shown : ServeOptions → Serve
+shown options = record {
+  devices = record { names = options.names; inputs = options.inputs.items; edges = options.edges.items };
+  listen = options.listen;
+  numbers = options.numbers;
+}
+
+abbrev pub with_numbers : App → App
+with_numbers app = with_rule (with_rule (with_rule (with_rule app
+    (option_rule (codes "queue"))) (option_rule (codes "history"))) (option_rule (codes "wait"))) (option_rule (codes "monitor"))
+
+abbrev pub serve_app : App
+serve_app = with_rule (with_numbers (with_rule (bare_app (codes "serve")) (option_rule (codes "listen")))) (list_rule (codes "device"))
+
+-- `--wait`: how many sessions devices wait for
+abbrev pub wait_in : List Row → Option ℕ
+wait_in rows = number_or 0 0 64 (first_of (codes "wait") rows)
+
+-- `--monitor`: how many readings each monitor makes
+abbrev pub monitor_in : List Row → Option ℕ
+monitor_in rows = number_or 0 0 1_000_000 (first_of (codes "monitor") rows)
+
+unfoldable pub numbers_in : List Row → Option ServeNumbers
+numbers_in rows =
+    option_and_then (λ queue. option_and_then (λ history. option_and_then (λ wait. option_map (λ monitor.
+    record { queue = queue; history = history; wait = wait; monitor = monitor })
+    (monitor_in rows)) (wait_in rows)) (history_in rows)) (queue_in rows)
+
+-- `--listen`: where links are taken
+abbrev pub listen_in : List Row → Text
+listen_in rows = unwrap_or (first_of (codes "listen") rows) (codes "127.0.0.1:2947")
+
+abbrev pub devices_among : List Row → Option Lists
+devices_among rows = option_and_then devices_in (all_of (codes "device") rows)
+
+abbrev pub if_address : Text → ServeNumbers → Lists → Option Serve
+if_address listen numbers devices =
+    if is_address listen then Some (record { devices = devices; listen = listen; numbers = numbers }) else None
+
+unfoldable pub serve_in : List Row → Option Serve
+serve_in rows =
+    option_and_then (λ numbers. option_and_then (if_address (listen_in rows) numbers) (devices_among rows)) (numbers_in rows)
+
+abbrev pub serve_of : List Text → Option Serve
+serve_of words = read_by serve_app serve_in words
+
+-- the first word is `serve`, which reads them all
+abbrev pub serve_asked_of : List Text → Option Serve
+serve_asked_of [] = None
+serve_asked_of (word ∷ words) = if bytes_eq word (codes "serve") then serve_of (word ∷ words) else None

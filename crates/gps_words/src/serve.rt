@@ -1,0 +1,190 @@
+ghost use Rattle.std.specs.Prelude.{◌≡◌, true, false, None, Some, IfOk, map, option_map, string_bytes};
+ghost use Rattle.clap.specs.Simple.{app_of};
+ghost use Rattle.clap.specs.Words.{found_of, rows_of};
+ghost use Rattle.gps_words.specs.Devices.{shown_devices};
+ghost use Rattle.gps_words.specs.Serve.{devices_among, if_address, listen_in, monitor_in, numbers_in, serve_app, serve_asked_of, serve_in, serve_of, shown, wait_in, with_numbers};
+
+use crate::WordsFault;
+use crate::decode::history;
+use crate::device::{Input, is_address};
+use crate::devices::{Devices, read_devices};
+use crate::numbers::number_given;
+use crate::options::{bare, matches_in, with_list, with_option};
+use crate::replay::queue;
+use clap::ArgMatches;
+use gps_fixed::{Bytes, NoMemory};
+use gps_report::Names;
+use std::alloc::{AllocError, Global};
+
+/// The numbers among the options of `serve`.
+#[derive(Clone, Copy, Debug, PartialEq, Eq)]
+pub struct ServeNumbers {
+    /// How many items the outlet of a session keeps at most, 1 to 65,536.
+    pub queue: u32,
+    /// How many symbols a generation has at most, 1 to 33,554,432.
+    pub history: u32,
+    /// For how many sessions that watch the devices wait, at most 64.
+    pub wait: u32,
+    /// How many readings each monitor makes, at most 1,000,000.
+    pub monitor: u32,
+}
+
+/// The options of `serve`. The devices stand in three lists of one length, in the order of their numbers.
+#[derive(Drop)]
+pub struct ServeOptions {
+    pub names: Names,
+    pub inputs: Vec<Input>,
+    /// For each device the path of a file with its edges, if there is one.
+    pub edges: Vec<Option<Bytes>>,
+    /// Where links are taken: `HOST:PORT`.
+    pub listen: Bytes,
+    pub numbers: ServeNumbers,
+}
+
+#[tactic(auto, using(crate::proofs::Given::first_of_rows))]
+fn wait(matches: &ArgMatches) -> Option<u32>
+    ensures { result ≡ wait_in (rows_of (found_of matches.now)) }
+{
+    number_given(matches.get_str("wait"), 0, 0, 64)
+}
+
+#[tactic(auto, using(crate::proofs::Given::first_of_rows))]
+fn monitor(matches: &ArgMatches) -> Option<u32>
+    ensures { result ≡ monitor_in (rows_of (found_of matches.now)) }
+{
+    number_given(matches.get_str("monitor"), 0, 0, 1_000_000)
+}
+
+#[tactic(auto, unfolding(crate::specs::Serve::numbers_in))]
+fn numbers(matches: &ArgMatches) -> Option<ServeNumbers>
+    ensures { result ≡ numbers_in (rows_of (found_of matches.now)) }
+{
+    let queue = queue(matches)?;
+    let history = history(matches)?;
+    let wait = wait(matches)?;
+    let monitor = monitor(matches)?;
+    Some(ServeNumbers {
+        queue,
+        history,
+        wait,
+        monitor,
+    })
+}
+
+/// Where links are taken.
+#[tactic(auto, using(crate::proofs::Given::first_of_rows))]
+fn listen<'a>(matches: &ArgMatches<'a>) -> &'a str
+    ensures { result.now ≡ listen_in (rows_of (found_of matches.now)) }
+{
+    match matches.get_str("listen") {
+        Some(text) => text,
+        None => "127.0.0.1:2947",
+    }
+}
+
+fn with_numbers<'a>(
+    command: clap::Command<'a>,
+    alloc: Global,
+) -> Result<clap::Command<'a>, AllocError>
+    ensures { IfOk result (λ r. app_of r ≡ with_numbers (app_of command.entry)) }
+{
+    let command = with_option(command, alloc, "queue")?;
+    let command = with_option(command, alloc, "history")?;
+    let command = with_option(command, alloc, "wait")?;
+    let command = with_option(command, alloc, "monitor")?;
+    Ok(command)
+}
+
+fn command<'a>(alloc: Global) -> Result<clap::Command<'a>, AllocError>
+    ensures { IfOk result (λ command. app_of command ≡ serve_app) }
+{
+    let command = with_option(bare(alloc, "serve"), alloc, "listen")?;
+    let command = with_numbers(command, alloc)?;
+    let command = with_list(command, alloc, "device")?;
+    Ok(command)
+}
+
+/// The options, where the text of `--listen` is an address.
+fn listening(
+    alloc: Global,
+    listen: &str,
+    numbers: ServeNumbers,
+    devices: Devices,
+) -> Result<Option<ServeOptions>, NoMemory>
+    ensures { IfOk result (λ options. option_map shown options ≡ if_address listen.now numbers (shown_devices devices)) }
+{
+    if !is_address(listen.as_bytes()) {
+        return Ok(None);
+    }
+    let listen = Bytes::from_slice(alloc, listen.as_bytes())?;
+    let Devices {
+        names,
+        inputs,
+        edges,
+    } = devices;
+    Ok(Some(ServeOptions {
+        names,
+        inputs,
+        edges,
+        listen,
+        numbers,
+    }))
+}
+
+#[tactic(auto, using(crate::proofs::Given::all_of_rows))]
+fn devices(alloc: Global, matches: &ArgMatches) -> Result<Option<Devices>, NoMemory>
+    ensures { IfOk result (λ devices. option_map shown_devices devices ≡ devices_among (rows_of (found_of matches.now))) }
+{
+    match matches.get_strs("device") {
+        Some(texts) => read_devices(alloc, texts),
+        None => Ok(None),
+    }
+}
+
+#[tactic(auto, unfolding(crate::specs::Serve::serve_in))]
+fn serve_in(alloc: Global, matches: &ArgMatches) -> Result<Option<ServeOptions>, NoMemory>
+    ensures { IfOk result (λ options. option_map shown options ≡ serve_in (rows_of (found_of matches.now))) }
+{
+    let Some(numbers) = numbers(matches) else {
+        return Ok(None);
+    };
+    match devices(alloc, matches)? {
+        Some(devices) => listening(alloc, listen(matches), numbers, devices),
+        None => Ok(None),
+    }
+}
+
+/// The words of `serve`, its name among them.
+#[tactic(auto, using(crate::proofs::Readings::read_is, crate::proofs::Readings::read_refused))]
+fn serve(alloc: Global, words: &[String]) -> Result<ServeOptions, WordsFault>
+    ensures ok { IfOk result (λ options. serve_of (map string_bytes words.now) ≡ Some (shown options)) }
+    ensures refused { result ≡ Err WordsFault.Refused → serve_of (map string_bytes words.now) ≡ None }
+{
+    let command = command(alloc)?;
+    let matches = matches_in(command, words)?;
+    match serve_in(alloc, &matches) {
+        Ok(Some(options)) => Ok(options),
+        Ok(None) => Err(WordsFault::Refused),
+        Err(NoMemory) => Err(WordsFault::NoMemory),
+    }
+}
+
+/// The options of `serve` that the words ask for. `Refused` comes exactly where the first word is another or is missing, where
+/// `clap` finds a fault in the words or a number's text is none in its range, where the text of `--listen` is no
+/// `HOST:PORT`, or where there are not 1 to 16 device words, which name at most 8 devices: each name has one word that says
+/// where its bytes come from, and at most one with its edges, behind that.
+pub fn serve_asked(alloc: Global, words: &[String]) -> Result<ServeOptions, WordsFault>
+    ensures ok { IfOk result (λ options. serve_asked_of (map string_bytes words.now) ≡ Some (shown options)) }
+    ensures refused { result ≡ Err WordsFault.Refused → serve_asked_of (map string_bytes words.now) ≡ None }
+{
+    match words {
+        [] => Err(WordsFault::Refused),
+        [word, ..] => {
+            if word.as_str() == "serve" {
+                serve(alloc, words)
+            } else {
+                Err(WordsFault::Refused)
+            }
+        }
+    }
+}

@@ -1,0 +1,420 @@
+#!/usr/bin/env python3
+"""The daemon over real sockets: `gpsrelay serve` is started on ports of its own on the loopback, and each thing that a client or a
+device may do to it is tried. Every wait is bounded.
+
+Use: serve.py PROGRAM. Prints a line for each check, and ends with 1 if one fails.
+"""
+import json
+import os
+import re
+import resource
+import socket
+import struct
+import subprocess
+import sys
+import tempfile
+import threading
+import time
+
+PROGRAM = os.path.abspath(sys.argv[1])
+failed = 0
+
+
+def check(name, wanted, found):
+    global failed
+    if wanted == found:
+        print(f"ok      {name}", flush=True)
+    else:
+        failed = 1
+        print(f"FAILED  {name}: wanted {wanted!r}, found {found!r}", flush=True)
+
+
+def sentence(body):
+    total = 0
+    for byte in body.encode():
+        total ^= byte
+    return f"${body}*{total:02X}\r\n".encode()
+
+
+def second(t, minute=0):
+    """The two sentences of one second."""
+    clock = f"12{minute:02d}{t:02d}"
+    return (sentence(f"GPRMC,{clock},A,4807.038,N,01131.000,E,022.4,084.4,010624,,,A")
+            + sentence(f"GPGGA,{clock},4807.038,N,01131.000,E,1,08,0.9,545.4,M,46.9,M,,"))
+
+
+def free_port():
+    with socket.socket() as it:
+        it.bind(("127.0.0.1", 0))
+        return it.getsockname()[1]
+
+
+class Device:
+    """A receiver behind TCP: it accepts one connection and sends what it is given."""
+
+    def __init__(self):
+        self.listener = socket.create_server(("127.0.0.1", 0))
+        self.listener.settimeout(20)
+        self.port = self.listener.getsockname()[1]
+        self.link = None
+
+    def take(self):
+        self.link, _ = self.listener.accept()
+        self.link.settimeout(20)
+
+    def send(self, data):
+        self.link.sendall(data)
+
+    def end(self):
+        self.link.shutdown(socket.SHUT_WR)
+
+    def reset(self):
+        self.link.setsockopt(socket.SOL_SOCKET, socket.SO_LINGER, struct.pack("ii", 1, 0))
+        self.link.close()
+
+
+class Client:
+    def __init__(self, port):
+        self.socket = socket.create_connection(("127.0.0.1", port), timeout=20)
+        self.socket.settimeout(20)
+        self.buffer = b""
+        self.ended = False
+
+    def send(self, data):
+        self.socket.sendall(data)
+
+    def line(self):
+        """The next line, or None at the end."""
+        while b"\n" not in self.buffer:
+            try:
+                data = self.socket.recv(65536)
+            except (ConnectionResetError, socket.timeout):
+                data = b""
+            if not data:
+                self.ended = True
+                return None
+            self.buffer += data
+        line, _, self.buffer = self.buffer.partition(b"\n")
+        return line + b"\n"
+
+    def lines(self):
+        found = []
+        while (line := self.line()) is not None:
+            found.append(line)
+        return found
+
+    def object(self):
+        line = self.line()
+        return None if line is None else json.loads(line)
+
+    def close(self):
+        self.socket.close()
+
+
+class Daemon:
+    def __init__(self, *words, port=None):
+        self.port = port or free_port()
+        self.errors = tempfile.TemporaryFile()
+        self.process = subprocess.Popen([PROGRAM, "serve", "--listen", f"127.0.0.1:{self.port}", *words],
+                                        stdout=subprocess.PIPE, stderr=self.errors)
+
+    def client(self):
+        end = time.monotonic() + 20
+        while True:
+            try:
+                return Client(self.port)
+            except ConnectionRefusedError:
+                if time.monotonic() > end or self.process.poll() is not None:
+                    raise
+                time.sleep(0.02)
+
+    def wait(self, seconds=30):
+        try:
+            out, _ = self.process.communicate(timeout=seconds)
+        except subprocess.TimeoutExpired:
+            self.process.kill()
+            out, _ = self.process.communicate()
+            return "still running", out
+        return self.process.returncode, out
+
+    def said(self):
+        self.errors.seek(0)
+        return self.errors.read().decode(errors="replace")
+
+    def cpu(self):
+        with open(f"/proc/{self.process.pid}/stat") as it:
+            fields = it.read().rpartition(")")[2].split()
+        return (int(fields[11]) + int(fields[12])) / os.sysconf("SC_CLK_TCK")
+
+    def open_files(self):
+        return len(os.listdir(f"/proc/{self.process.pid}/fd"))
+
+    def threads(self):
+        return len(os.listdir(f"/proc/{self.process.pid}/task"))
+
+    def memory(self):
+        with open(f"/proc/{self.process.pid}/status") as it:
+            return int(re.search(r"VmRSS:\s+(\d+)", it.read())[1])
+
+
+def started(*words):
+    """A daemon with one device, gps0, which is there."""
+    device = Device()
+    daemon = Daemon(*words, f"gps0=tcp:127.0.0.1:{device.port}")
+    device.take()
+    return daemon, device
+
+
+VERSION = b'{"class":"VERSION","release":"gpsrelay-1","rev":"1","proto_major":3,"proto_minor":1}\r\n'
+WATCH = b'?WATCH={"json":true};'
+
+
+def a_day():
+    """A client that watches, a device that ends: the whole of it."""
+    daemon, device = started()
+    client = daemon.client()
+    check("a client is greeted", VERSION, client.line())
+    client.send(WATCH)
+    check("a WATCH is answered by the devices", {"class": "DEVICES", "devices": [{"class": "DEVICE", "path": "gps0"}]}, client.object())
+    check("and by the watch itself", b'{"class":"WATCH","enable":true,"json":true,"nmea":false,"raw":0,"pps":false}\r\n', client.line())
+    device.send(second(0))
+    told = client.object()
+    check("the first byte announces the device", ("DEVICE", "gps0", True), (told["class"], told["path"], "activated" in told))
+    device.send(second(1))
+    check("an epoch is written once the next begins",
+          b'{"class":"TPV","device":"gps0","mode":3,"time":"2024-06-01T12:00:00.000Z","lat":48.117300000,"lon":11.516666667,'
+          b'"altMSL":545.400,"geoidSep":46.900,"track":84.4000,"speed":11.524}\r\n', client.line())
+    client.send(b"?POLL;\n")
+    poll = client.object()
+    check("POLL has the last fix", ("POLL", 1, "2024-06-01T12:00:00.000Z"), (poll["class"], poll["active"], poll["tpv"][0]["time"]))
+    client.send(b"?FROB;")
+    check("an unknown request is named", {"class": "ERROR", "message": "Unrecognized request"}, client.object())
+    client.send(b"?WATCH={")
+    client.send(b'"json":1}\n')
+    check("a bad WATCH in two pieces", {"class": "ERROR", "message": "Invalid WATCH"}, client.object())
+    device.end()
+    rest = client.lines()
+    check("the end: the last fix, the device's end, and nothing else", ["TPV", "DEVICE"], [json.loads(line)["class"] for line in rest])
+    status, out = daemon.wait()
+    check("the daemon ends by itself: status", 0, status)
+    check("the closing lines", True, re.fullmatch(rb"s0 drained daemonend \d+\nu0 published 2 count 4 left 0\n", out) is not None or out)
+
+
+def forms():
+    """Clients that want sentences, and one that wants nothing."""
+    daemon, device = started()
+    json_client, text_client, silent = daemon.client(), daemon.client(), daemon.client()
+    for client in json_client, text_client, silent:
+        client.line()
+    json_client.send(WATCH)
+    text_client.send(b'?WATCH={"nmea":true}\r\n')
+    for client in json_client, text_client:
+        client.line(), client.line()
+    device.send(second(0) + b"junk" + second(1))
+    device.end()
+    check("sentences as they came, junk left out", [line + b"\n" for line in (second(0) + second(1)).split(b"\n")[:-1]], text_client.lines())
+    check("one JSON line a fix", 2, sum(b'"TPV"' in line for line in json_client.lines()))
+    check("a client that asked for nothing gets nothing", [], silent.lines())
+    check("forms: status", 0, daemon.wait()[0])
+
+
+def bad_clients():
+    """Garbage, megabytes, one byte at a time, half a close, a reset: nobody else is touched."""
+    daemon, device = started()
+    good = daemon.client()
+    good.line()
+    good.send(WATCH)
+    good.line(), good.line()
+    garbage, huge, half, gone, slow = (daemon.client() for _ in range(5))
+    garbage.line(), huge.line(), half.line(), slow.line()
+    garbage.send(bytes(range(1, 256)) * 4 + b"\n;")
+    check("garbage is answered by an error", "ERROR", garbage.object()["class"])
+    sender = threading.Thread(target=lambda: huge.send(b"x" * 4_000_000 + b"\n?VERSION;"))
+    sender.start()
+    check("a request of megabytes is too long, once", {"class": "ERROR", "message": "Request too long"}, huge.object())
+    check("and what follows its line is answered", VERSION, huge.line())
+    sender.join()
+    half.send(b"?VERSION;")
+    half.socket.shutdown(socket.SHUT_WR)
+    check("a client that closes its half has had its answer", VERSION, half.line())
+    check("and its link is let go of", None, half.line())
+    for byte in b"?VERSION;":
+        slow.send(bytes([byte]))
+        time.sleep(0.01)
+    check("one byte at a time", VERSION, slow.line())
+    gone.send(b'?WATCH={"json":true};?POLL;?POLL;?POL')
+    gone.socket.setsockopt(socket.SOL_SOCKET, socket.SO_LINGER, struct.pack("ii", 1, 0))
+    gone.close()
+    device.send(second(0) + second(1) + second(2))
+    device.end()
+    check("the good client has it all", ["DEVICE", "TPV", "TPV", "TPV", "DEVICE"], [json.loads(line)["class"] for line in good.lines()])
+    status, out = daemon.wait()
+    check("bad clients: status", 0, status)
+    check("bad clients: the one that reset hung up or could not be written to", True,
+          re.search(rb"^s4 (drained|writefault) (hungup|readfault) \d+$", out, re.M) is not None or out)
+
+
+def crowd():
+    """The 65th client, and many that come and go."""
+    daemon, device = started()
+    clients = [daemon.client() for _ in range(64)]
+    for client in clients:
+        client.line()
+    late = daemon.client()
+    check("the 65th link is dropped without a byte", None, late.line())
+    clients[7].close()
+    again = None
+    for _ in range(100):
+        again = daemon.client()
+        if again.line() == VERSION:
+            break
+        time.sleep(0.05)
+    check("when one has gone the next is taken", False, again.ended)
+    for client in clients:
+        client.close()
+    again.close()
+    time.sleep(1.5)
+    probe = daemon.client()
+    probe.line()
+    files, memory, threads = daemon.open_files(), daemon.memory(), daemon.threads()
+    for _ in range(2_000):
+        client = daemon.client()
+        client.line()
+        client.close()
+    time.sleep(1.5)
+    check("2,000 links later: open files", True, daemon.open_files() <= files + 8 or (files, daemon.open_files()))
+    check("2,000 links later: threads", True, daemon.threads() <= threads + 8 or (threads, daemon.threads()))
+    check("2,000 links later: memory within 16 MB", True, daemon.memory() <= memory + 16_384 or (memory, daemon.memory()))
+    device.end()
+    check("the crowd: status", 0, daemon.wait()[0])
+
+
+def stuck_client():
+    """A client that never reads: it is ended, and nobody waits for it."""
+    daemon, device = started("--queue", "200")
+    quick, stuck = daemon.client(), daemon.client()
+    quick.line(), stuck.line()
+    for client in quick, stuck:
+        client.send(b'?WATCH={"json":true,"nmea":true};')
+    quick.line(), quick.line()
+    stuck.socket.setsockopt(socket.SOL_SOCKET, socket.SO_RCVBUF, 4096)
+    longest, stop = [0.0], [False]
+    stamps = []
+
+    def read():
+        while quick.line() is not None:
+            stamps.append(time.monotonic())
+
+    reader = threading.Thread(target=read)
+    reader.start()
+    for t in range(600):
+        device.send(second(t % 60, t // 60) * 20)
+        time.sleep(0.005)
+    device.end()
+    reader.join(30)
+    gaps = [b - a for a, b in zip(stamps, stamps[1:])]
+    check("a quick client beside a stuck one waits less than half a second", True, max(gaps, default=9) < 0.5 or max(gaps, default=9))
+    check("and gets every sentence", True, len(stamps) >= 600 * 20 * 2 or len(stamps))
+    status, out = daemon.wait()
+    check("a stuck client: status", 0, status)
+    check("the stuck one overran", True, re.search(rb"^s1 (drained|writefault) overrun \d+$", out, re.M) is not None or out)
+
+
+def devices():
+    """Devices that send junk, end in mid-packet, reset, or are not there; edges; FIFOs."""
+    daemon, device = started()
+    client = daemon.client()
+    client.line()
+    client.send(WATCH)
+    client.line(), client.line()
+    device.send(os.urandom(5000).replace(b"$", b"%").replace(b"\xb5", b"\xb6") + second(0) + second(1)[:20])
+    device.end()
+    check("junk, and an end in the middle of a packet", ["DEVICE", "TPV", "DEVICE"], [json.loads(line)["class"] for line in client.lines()])
+    check("junk: status", 0, daemon.wait()[0])
+
+    daemon, device = started()
+    client = daemon.client()
+    client.line()
+    client.send(WATCH)
+    client.line(), client.line()
+    device.send(second(0) + second(1))
+    client.line(), client.line()
+    device.reset()
+    check("a device that fails adds nothing", [], client.lines())
+    check("a device that fails: status", 3, daemon.wait()[0])
+
+    place = tempfile.mkdtemp()
+    fifo, edges = os.path.join(place, "fifo"), os.path.join(place, "edges")
+    os.mkfifo(fifo)
+    now = int(time.time())
+    with open(edges, "w") as it:
+        it.write(f"assert {now}.000000000#1\r\nnonsense\nclear {now}.500000000#2\nassert {now + 1}.000000000#2")
+    daemon = Daemon("--wait", "1", f"gps0=file:{fifo}", f"gps0=edges:{edges}")
+    with open(fifo, "wb", buffering=0) as it:
+        client = daemon.client()
+        client.line()
+        it.write(second(0) + second(1))
+        client.send(b'?WATCH={"json":true,"pps":true}\n')
+        client.line(), client.line()
+        told = client.object()
+        check("with --wait nothing is read before a client watches", "DEVICE", told["class"])
+        it.write(second(2))
+    classes = [json.loads(line)["class"] for line in client.lines()]
+    check("a FIFO and its edges: fixes", 3, classes.count("TPV"))
+    check("a FIFO and its edges: serial times", 3, classes.count("TOFF"))
+    check("a FIFO and its edges: status", 0, daemon.wait()[0])
+
+    daemon = Daemon("gps0=file:/nonexistent/path")
+    check("a device that is not there: status", 3, daemon.wait()[0])
+
+
+def listening():
+    with socket.create_server(("127.0.0.1", 0)) as taken:
+        port = taken.getsockname()[1]
+        daemon = Daemon("gps0=file:/dev/null", port=port)
+        check("a port that is taken: status", 8, daemon.wait()[0])
+        check("a port that is taken is named", True, str(port) in daemon.said() or daemon.said())
+    daemon = Daemon("gps0=file:/dev/null")
+    check("an empty device: status", 0, daemon.wait()[0])
+    check("where it listens is said", True, f"127.0.0.1:{daemon.port}" in daemon.said() or daemon.said())
+    for words in (), ("frob",), ("gps0=",), ("gps0=file:",), ("gps0=file:a", "gps0=tcp:b:1"), ("gps0=edges:a",), ("--queue", "0", "gps0=file:a"):
+        daemon = Daemon(*words)
+        check(f"refused words {' '.join(words)!r}: status", 2, daemon.wait()[0])
+
+
+def idle():
+    """64 clients that wait cost next to nothing, and a sentence reaches them at once."""
+    daemon, device = started()
+    clients = [daemon.client() for _ in range(64)]
+    for client in clients:
+        client.line()
+        client.send(b'?WATCH={"nmea":true}\n')
+        client.line(), client.line()
+    time.sleep(0.5)
+    before = daemon.cpu()
+    time.sleep(3)
+    check("64 idle clients cost below a hundredth of a processor", True, daemon.cpu() - before < 0.03 or daemon.cpu() - before)
+    waits = []
+    for t in range(30):
+        device.send(second(t))
+        begun = time.monotonic()
+        clients[t].line()
+        waits.append(time.monotonic() - begun)
+        for client in clients:
+            if client is not clients[t]:
+                client.line()
+            client.line()
+    check("a sentence is there within 20 ms, at the middle of thirty", True, sorted(waits)[15] < 0.02 or sorted(waits)[15])
+    device.end()
+    for client in clients:
+        client.lines()
+    check("idle clients: status", 0, daemon.wait()[0])
+
+
+resource.setrlimit(resource.RLIMIT_NOFILE, (4096, 4096))
+for part in a_day, forms, bad_clients, crowd, stuck_client, devices, listening, idle:
+    try:
+        part()
+    except Exception as error:  # one part that breaks must not hide the others
+        check(f"{part.__name__} ran to its end", None, repr(error))
+sys.exit(failed)

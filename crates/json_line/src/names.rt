@@ -68,8 +68,9 @@ pub enum Key {
     Vdop,
 }
 
+/// How an object of a class begins.
 #[tactic(auto, unfolding(crate::specs::Names::head_of))]
-fn head(class: Class) -> &'static [u8]
+pub fn head(class: Class) -> &'static [u8]
     ensures { result.now ≡ head_of class }
 {
     match class {
@@ -86,8 +87,9 @@ fn head(class: Class) -> &'static [u8]
     }
 }
 
+/// What stands before the value of a member.
 #[tactic(auto, unfolding(crate::specs::Names::label_of))]
-fn label(key: Key) -> &'static [u8]
+pub fn label(key: Key) -> &'static [u8]
     ensures { result.now ≡ label_of key }
 {
     match key {

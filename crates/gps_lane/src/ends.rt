@@ -27,7 +27,7 @@ pub struct Tx<T, R> {
 }
 
 impl<T, R> Model for Tx<T, R> {
-    ghost use Rattle.std.specs.Prelude.{◌≡◌, true, false, []};
+    ghost use Rattle.std.specs.Prelude.{◌≡◌, ◌≤◌, true, false, []};
     ghost use Rattle.std.specs.Arc.{arc_value};
     ghost use Rattle.crossbeam_queue.specs.Passes.{view, IsPassOf, ruled_capacity};
     ghost use Rattle.gps_lane.specs.Lane.{log};
@@ -38,7 +38,8 @@ impl<T, R> Model for Tx<T, R> {
     ghost view = { λ s. record { lane = s.pass.table_id; cap = ruled_capacity (arc_value s.queue); put = s.pass.me.0.client.put } };
 
     ghost invariant = { λ s. IsPassOf (arc_value s.queue) s.pass
-        × (s.pass.me.0.client ≡ log true false s.pass.me.0.client.put []) };
+        × (s.pass.me.0.client ≡ log true false s.pass.me.0.client.put [])
+        × (1 ≤ ruled_capacity (arc_value s.queue)) };
 }
 
 /// The end of a lane that gets.
@@ -105,6 +106,13 @@ impl<T: Drop, R: Wait + Copy> Tx<T, R> {
             Ok(()) => Pushed::Done,
             Err(back) => Pushed::Full(back),
         }
+    }
+
+    /// A lane has room for one item at least.
+    pub fn show(&self)
+        ensures { 1 ≤ self.now.cap }
+    {
+        let _queue = &self.queue;
     }
 }
 

@@ -1,0 +1,69 @@
+-- A session is admitted, or is not.
+use Rattle.std.proofs.Common.{◌≡◌, ℕ, Bool, true, false, List, [], ◌∷◌, ◌++◌, length, map, Option, Some, None, refl, sym, ap, ◌∙◌, subst}
+use Rattle.std.specs.Prelude.{Result, Ok, Err}
+use Rattle.std.specs.List.{list_all}
+use Rattle.atomic_table.specs.Seated.{TableId}
+use Rattle.book_log.specs.Logged.{Logged}
+use Rattle.book_log.specs.Standing.{has_stopped}
+use Rattle.book_sessions.specs.Attendance.{Attendance}
+use Rattle.gps_lane.specs.Ends.{Putting, Taking}
+use Rattle.hub_door.specs.Admissions.{Admissions, Link, admitting, link_of}
+use Rattle.report_book.specs.BookView.{BookView}
+use Rattle.report_book.specs.Moves.{Admits}
+use Rattle.report_book.specs.Refusals.{RefusesWith}
+use Rattle.report_book.specs.Standing.{Holds as BookHolds}
+use Rattle.report_book.specs.declared.fault.BookFault.{BookFault}
+use Rattle.serve_pieces.specs.declared.piece.Piece.{Piece}
+use Rattle.session_core.specs.Naming.{OutletName, of_table}
+use Rattle.hub_laws.specs.Keeping.{HubKeeps, Lasts}
+use Rattle.hub_laws.specs.Parts.{AreAdmitted, HubView, Terms}
+use Rattle.hub_laws.proofs.Calls.{ended_there, hub_admit, hub_shut}
+use Rattle.hub_laws.proofs.Hubs.{map_length}
+use Rattle.gps_hub.specs.Admitting.{RefusesLink, ShutIf}
+
+-- each device of a book that was shut has stopped
+pub shut_ended : (terms : Terms) (h : HubView) (lasts : List Lasts) → HubKeeps terms h lasts → h.is_shut ≡ true → list_all (λ line. has_stopped line.stage) h.book.log.present.lines ≡ true
+shut_ended terms h lasts k is = ended_there h.book k.over.0 k.holds k.over.1.stands (k.over.1.shut is)
+
+-- with one more session
+abbrev opened_hub : HubView → TableId → ℕ → Taking Piece → BookView → Bool → HubView
+opened_hub h outlet room x book is_shut = record h { book = book; inputs = h.inputs ++ x ∷ []; door = admitting (link_of outlet room x.lane) h.door; is_shut = is_shut }
+
+pub opened_keeps : (terms : Terms) (h : HubView) (lasts : List Lasts) (mid book : BookView) (outlet : TableId) (cap : ℕ) (x : Taking Piece)
+    → HubKeeps terms h lasts → BookHolds mid → BookHolds book → Admits (of_table outlet) cap h.book mid → ShutIf h.is_shut mid book → x.got ≡ []
+    → HubKeeps terms (record h { book = book; inputs = h.inputs ++ x ∷ []; door = admitting (link_of outlet cap x.lane) h.door }) lasts
+opened_keeps terms h lasts mid book outlet room x k mid_holds holds admits shuts none =
+    by_shut h.is_shut refl shuts (hub_admit terms h lasts mid outlet room x k mid_holds admits none)
+  where
+    by_shut : (b : Bool) → h.is_shut ≡ b → ShutIf b mid book → HubKeeps terms (opened_hub h outlet room x mid false) lasts → HubKeeps terms (opened_hub h outlet room x book h.is_shut) lasts
+    by_shut false is same admitted =
+        let P : BookView × Bool → Type 0 = λ t. HubKeeps terms (opened_hub h outlet room x t.0 t.1) lasts in
+        subst P (λ i. (sym same i, sym is i)) admitted
+    by_shut true is shut admitted =
+        let L : Logged → Type 0 = λ l. list_all (λ line. has_stopped line.stage) l.present.lines ≡ true in
+        let P : Bool → Type 0 = λ b. HubKeeps terms (opened_hub h outlet room x book b) lasts in
+        subst P (sym is)
+        (hub_shut terms (opened_hub h outlet room x mid false) lasts book admitted holds (subst L (sym admits.same.log) (shut_ended terms h lasts k is)) shut)
+
+-- the number of a new session is that of those that were admitted before it
+pub numbered : (links : List Link) (sessions : List Attendance) (inputs : List (Taking Piece)) → AreAdmitted links sessions inputs → length sessions ≡ length links
+numbered links sessions inputs admitted =
+    sym (map_length (λ (a : Attendance). a.session.name) sessions) ∙ ap length admitted.outlets ∙ map_length (λ (l : Link). of_table l.outlet) links
+
+pub refuses_again : (X O I : Type 0) (o now : Option BookFault) (outlet : O) (input : I) (fault : BookFault) → o ≡ now → RefusesWith {X = X} o (Err (outlet, fault)) → RefusesLink {X = X} now (Err (outlet, input, fault))
+refuses_again X O I o now outlet input fault same refused = by_fault now (subst (λ (t : Option BookFault). RefusesWith {X = X} t (Err (outlet, fault))) same refused)
+  where
+    fault_in : BookFault → Result X (O × BookFault) → BookFault
+    fault_in other (Ok x) = other
+    fault_in other (Err refusal) = refusal.1
+
+    by_fault : (t : Option BookFault) → RefusesWith {X = X} t (Err (outlet, fault)) → RefusesLink {X = X} t (Err (outlet, input, fault))
+    by_fault (Some found) again = (outlet, input, ap (λ f. Err (outlet, input, f)) (ap (fault_in found) again.1))
+    by_fault None again = again
+
+pub not_refused : (X O I : Type 0) (o now : Option BookFault) (x : X) → o ≡ now → RefusesWith {X = X} {O = O} o (Ok x) → RefusesLink {X = X} {O = O} {I = I} now (Ok x)
+not_refused X O I o now x same refused = by_fault now (subst (λ (t : Option BookFault). RefusesWith {X = X} {O = O} t (Ok x)) same refused)
+  where
+    by_fault : (t : Option BookFault) → RefusesWith {X = X} {O = O} t (Ok x) → RefusesLink {X = X} {O = O} {I = I} t (Ok x)
+    by_fault (Some found) again = absurd (cc (again.1))
+    by_fault None again = tt

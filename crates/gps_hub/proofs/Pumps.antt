@@ -1,0 +1,96 @@
+-- What a look at a device or a session answers, from what it did to the lanes.
+use Rattle.std.proofs.Common.{◌≡◌, ◌<◌, ◌≤◌, ℕ, zero, suc, Bool, true, false, List, [], ◌∷◌, ◌++◌, length, get_or, set, Option, Some, None, refl, sym, ap, ◌∙◌, subst, inl, inr, ◌⊎◌, ⊎_elim, arith, get_or-set_same}
+use Rattle.std.specs.Prelude.{is_some, option_map, MatchOption}
+use Rattle.std.proofs.lemmas.List.{get_or_default, set-get_or}
+use Rattle.book_sessions.specs.Roster.{IsOpenAt}
+use Rattle.gps_lane.specs.Ends.{Taking}
+use Rattle.report_book.specs.BookView.{BookView}
+use Rattle.serve_pieces.specs.declared.piece.Piece.{Piece}
+use Rattle.hub_laws.specs.declared.ends.DeviceEnd.{DeviceEnd}
+use Rattle.hub_laws.specs.DaemonHub.{MayGoOn}
+use Rattle.hub_laws.specs.Parts.{HubView, Lanes, names_of, parts_of}
+use Rattle.hub_laws.specs.Steps.{with_bytes, with_edge, with_got}
+use Rattle.gps_hub.specs.declared.pumped.Pumped.{Pumped}
+use Rattle.gps_hub.specs.declared.pumped.Pumped.TheVariants.{Fed, Empty, Waiting, Done, Refused}
+use Rattle.gps_hub.specs.Pumping.{DevicePumped, GoesOn, GotInput, GotOne, Looked, LookedAt, SessionPumped}
+
+pub none_of : {X : Type 0} (o : Option X) → false ≡ is_some o → o ≡ None
+none_of None e = refl
+none_of (Some end) e = absurd (cc)
+
+pub running_is : (ends : List (Option DeviceEnd)) (at : ℕ) (seen end : Option DeviceEnd) → at < length ends → seen ≡ get_or ends at seen → end ≡ get_or ends at end → false ≡ is_some seen → end ≡ None
+running_is ends at seen end lt s e none = e ∙ get_or_default ends at end seen lt ∙ sym s ∙ none_of seen none
+
+pub match_none : {X : Type 0} (r : Option X) (P : Type 0) (Q : X → Type 0) → MatchOption r P Q → ((x : X) → r ≡ Some x → ⊥) → P
+match_none None P Q is not = is
+match_none (Some x) P Q is not = absurd (not x refl)
+
+edge_names : (piece : Piece) (o : Option (Taking Piece)) → option_map (λ (y : Taking Piece). y.lane) (option_map (with_got piece) o) ≡ option_map (λ (y : Taking Piece). y.lane) o
+edge_names piece None = refl
+edge_names piece (Some x) = refl
+
+one_names : (x y : Lanes) → GotOne x y → names_of y ≡ names_of x
+one_names x y one =
+    ⊎_elim (λ (e : y ≡ with_bytes one.0 x). ap names_of e)
+    (λ (e : y ≡ with_edge one.0 x). ap names_of e ∙ (λ i. record { bytes = x.bytes.lane; edges = edge_names one.0 x.edges i })) one.1
+
+pub looked_names : (r : Pumped) (x y : Lanes) (end : Option DeviceEnd) → Looked r x y end → names_of y ≡ names_of x
+looked_names Fed x y end looked = one_names x y looked
+looked_names Empty x y end looked = ap names_of looked
+looked_names (Waiting watched) x y end looked = absurd looked
+looked_names Done x y end looked = absurd looked
+looked_names (Refused fault) x y end looked = one_names x y looked.0
+
+set_at : {A : Type 0} (xs : List A) (d : ℕ) (x y : A) → get_or xs d x ≡ x → y ≡ x → set xs d y ≡ xs
+set_at xs d x y here same = ap (set xs d) (same ∙ sym here) ∙ set-get_or xs d x
+
+module _ (h : HubView) (d : ℕ) (book : BookView) (x y : Lanes) (was end : Option DeviceEnd) (lt : d < length h.inlets) (ends_lt : d < length h.ends) (here : get_or h.inlets d x ≡ x) (there : get_or h.ends d was ≡ was) where
+  abbrev after : HubView
+  after = record h { book = book; inlets = set h.inlets d y; ends = set h.ends d end }
+
+  got_there : GotOne x y → (free : Lanes) → GotOne (get_or h.inlets d free) (get_or (set h.inlets d y) d free)
+  got_there one free =
+      subst (λ (t : Lanes × Lanes). GotOne t.0 t.1) (λ i. ((sym here ∙ get_or_default h.inlets d x free lt) i, sym (get_or-set_same h.inlets d y free lt) i)) one
+
+  pub device_pumped : (r : Pumped) → GoesOn h d → Looked r x y end → (r ≡ Empty → (book ≡ h.book) × (end ≡ was)) → DevicePumped r d h after
+  device_pumped Fed goes looked empty = (goes, got_there looked)
+  device_pumped Empty goes looked empty =
+      let still = empty refl in (
+        goes,
+        (λ i. record {
+          book = still.0 i;
+          inlets = set_at h.inlets d x y here looked i;
+          ends = set_at h.ends d was end there still.1 i;
+          inputs = h.inputs;
+          door = h.door;
+          wait = h.wait;
+          is_shut = h.is_shut;
+        }),
+      )
+  device_pumped (Waiting watched) goes looked empty = absurd looked
+  device_pumped Done goes looked empty = absurd looked
+  device_pumped (Refused fault) goes looked empty =
+      (goes, got_there looked.0, looked.1, get_or-set_same h.ends d end None ends_lt ∙ looked.2)
+
+module _ (h : HubView) (s : ℕ) (book : BookView) (x y : Taking Piece) (lt : s < length h.inputs) (here : get_or h.inputs s x ≡ x) where
+  input_there : GotInput x y → (free : Taking Piece) → GotInput (get_or h.inputs s free) (get_or (set h.inputs s y) s free)
+  input_there one free =
+      subst (λ (t : Taking Piece × Taking Piece). GotInput t.0 t.1) (λ i. ((sym here ∙ get_or_default h.inputs s x free lt) i, sym (get_or-set_same h.inputs s y free lt) i)) one
+
+  pub session_pumped : (r : Pumped) → IsOpenAt s h.book.sessions → LookedAt r x y → (r ≡ Empty → book ≡ h.book) → SessionPumped r s h (record h { book = book; inputs = set h.inputs s y })
+  session_pumped Fed goes looked empty = (goes, input_there looked)
+  session_pumped Empty goes looked empty = (
+    goes,
+    (λ i. record {
+      book = empty refl i;
+      inlets = h.inlets;
+      ends = h.ends;
+      inputs = set_at h.inputs s x y here looked i;
+      door = h.door;
+      wait = h.wait;
+      is_shut = h.is_shut;
+    }),
+  )
+  session_pumped (Waiting watched) goes looked empty = absurd looked
+  session_pumped Done goes looked empty = absurd looked
+  session_pumped (Refused fault) goes looked empty = (goes, input_there looked.0, looked.1)

@@ -1,0 +1,32 @@
+use Rattle.std.proofs.Common.{◌≡◌, ℕ, List, [], Some, None, Option, sym, subst, refl, ap, ◌∙◌, false, inr, ⊎_elim, length, option_to_list}
+use Rattle.hub_laws.specs.declared.ends.DeviceEnd.{DeviceEnd}
+use Rattle.hub_laws.specs.declared.ends.DeviceEnd.TheVariants.{Ended, ReadFault, NoMemory as LostNoMemory}
+use Rattle.serve_pieces.specs.declared.piece.Piece.{Piece}
+use Rattle.serve_pieces.specs.declared.piece.Piece.TheVariants.{Bytes, Line, Input, Last}
+use Rattle.gps_lane.specs.Ends.{Taking}
+use Rattle.report_book.specs.BookView.{BookView}
+use Rattle.book_log.specs.Logged.{turns_at}
+use Rattle.book_log.specs.Entries.{lost}
+use Rattle.pps_edges.specs.Scan.{edge_in}
+use Rattle.hub_laws.specs.Given.{end_by}
+use Rattle.hub_laws.specs.Keeping.{Lasts}
+use Rattle.hub_laws.specs.Parts.{Lanes}
+use Rattle.hub_laws.specs.Steps.{DeviceStep, MovesOn, stop_entries, with_bytes, with_edge}
+use Rattle.hub_laws.proofs.Forward.{moves_onward, quiet_onward}
+use Rattle.hub_laws.proofs.Arms.{fed_step, bytes_refused_step, bytes_last_step, bytes_useless_step, edged_step, edges_refused_step, edges_last_step, edges_useless_step, nothing_step}
+use Rattle.gps_hub.proofs.device.edges_end.Goals as goal
+
+pub returns-in-Ok-clause-step : goal.returns-in-Ok-clause-step
+returns-in-Ok-clause-step g c = λ x lane there.
+    let bytes = ap (λ (l : Lasts). l.bytes) c.lasts.view_is in
+    let next : Lasts = record { bytes = c.lasts.inside.bytes; edges = Some c.args.ending } in
+    let P : Option DeviceEnd → Type 0 = λ e. DeviceStep c.args.d c.args.book.now c.stop.new.book x (with_edge (Last c.args.ending) x) e c.in-Ok.stopped c.args.lasts.now next in
+    subst P (sym c.requires.going)
+    (edges_last_step c.args.book.now c.stop.new.book c.args.d c.args.ending x lane c.in-Ok.stopped c.args.lasts.now next there c.in-Ok.ensures.stops bytes refl (c.in-Ok.ensures.end ∙ ap (λ o. end_by [] o (Some c.args.ending)) bytes))
+
+pub returns-in-Err-clause-step : goal.returns-in-Err-clause-step
+returns-in-Err-clause-step g c = λ x lane there.
+    let piece = Last c.args.ending in
+    let P : BookView × Option DeviceEnd × Option DeviceEnd → Type 0 = λ t. DeviceStep c.args.d t.0 c.refuse.new.book x (with_edge piece x) t.1 t.2 c.args.lasts.now c.args.lasts.now in
+    subst P (λ i. (c.in-Err.ensures.unchanged i, sym c.requires.going i, sym c.refuse.ensures.end i))
+    (edges_refused_step c.stop.new.book c.refuse.new.book c.args.d piece x lane c.args.lasts.now there c.refuse.ensures.lost c.refuse.ensures.earns)

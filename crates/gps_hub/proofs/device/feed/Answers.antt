@@ -1,0 +1,30 @@
+use Rattle.std.proofs.Common.{◌≡◌, ℕ, List, [], Some, None, Option, sym, subst, refl, ap, ◌∙◌, false, inr, ⊎_elim, length, option_to_list}
+use Rattle.hub_laws.specs.declared.ends.DeviceEnd.{DeviceEnd}
+use Rattle.hub_laws.specs.declared.ends.DeviceEnd.TheVariants.{Ended, ReadFault, NoMemory as LostNoMemory}
+use Rattle.serve_pieces.specs.declared.piece.Piece.{Piece}
+use Rattle.serve_pieces.specs.declared.piece.Piece.TheVariants.{Bytes, Line, Input, Last}
+use Rattle.gps_lane.specs.Ends.{Taking}
+use Rattle.report_book.specs.BookView.{BookView}
+use Rattle.book_log.specs.Logged.{turns_at}
+use Rattle.book_log.specs.Entries.{lost}
+use Rattle.pps_edges.specs.Scan.{edge_in}
+use Rattle.hub_laws.specs.Given.{end_by}
+use Rattle.hub_laws.specs.Keeping.{Lasts}
+use Rattle.hub_laws.specs.Parts.{Lanes}
+use Rattle.hub_laws.specs.Steps.{DeviceStep, MovesOn, stop_entries, with_bytes, with_edge}
+use Rattle.hub_laws.proofs.Forward.{moves_onward, quiet_onward}
+use Rattle.hub_laws.proofs.Arms.{fed_step, bytes_refused_step, bytes_last_step, bytes_useless_step, edged_step, edges_refused_step, edges_last_step, edges_useless_step, nothing_step}
+use Rattle.gps_hub.proofs.device.feed.Goals as goal
+
+pub returns-in-Ok-clause-step : goal.returns-in-Ok-clause-step
+returns-in-Ok-clause-step g c = λ x lasts.
+    let P : List ℕ × Option DeviceEnd → Type 0 = λ t. DeviceStep c.args.d c.args.book.now c.feed.new.self x (with_bytes (Bytes c.args.at t.0) x) t.1 t.1 lasts lasts in
+    subst P (λ i. (c.as_slice.ensures.bytes i, sym c.requires.going i))
+    (fed_step false (turns_at c.args.book.now.log (length c.as_slice.result.now)) c.args.book.now c.feed.new.self c.args.d c.args.at c.as_slice.result.now x lasts c.show.ensures.holds c.in-Ok.ensures.fed c.in-Ok.ensures.earns)
+
+pub returns-in-Err-clause-step : goal.returns-in-Err-clause-step
+returns-in-Err-clause-step g c = λ x lasts.
+    let piece = Bytes c.args.at c.args.bytes.now in
+    let P : BookView × Option DeviceEnd × Option DeviceEnd → Type 0 = λ t. DeviceStep c.args.d t.0 c.refuse.new.book x (with_bytes piece x) t.1 t.2 lasts lasts in
+    subst P (λ i. (c.in-Err.ensures.unchanged i, sym c.requires.going i, sym c.refuse.ensures.end i))
+    (bytes_refused_step c.feed.new.self c.refuse.new.book c.args.d piece x lasts c.refuse.ensures.lost c.refuse.ensures.earns)

@@ -1,0 +1,89 @@
+use Rattle.std.proofs.Common.{◌≡◌, ◌<◌, ℕ, List, Option, Some, None, get_or, set, length, sym, ap, ◌∙◌, subst, arith}
+use Rattle.hub_laws.specs.DaemonHub.{MayGoOn}
+use Rattle.hub_laws.specs.declared.ends.DeviceEnd.{DeviceEnd}
+use Rattle.hub_laws.specs.Keeping.{HubKeeps, Lasts}
+use Rattle.hub_laws.specs.Parts.{HubView, Lanes, Terms, parts_of}
+use Rattle.hub_laws.proofs.Calls.{device_free}
+use Rattle.hub_laws.proofs.Hubs.{hub_device}
+use Rattle.gps_hub.specs.Pumping.{DevicePumped}
+use Rattle.gps_hub.proofs.Pumps.{device_pumped, looked_names, match_none, running_is}
+use Rattle.gps_hub.proofs.hub.Hub.device_piece.Goals as goal
+
+-- the hub as its fields show it, before the device was looked at
+module _ (g : _) (c : goal.After-index_mut-3 g) where
+  abbrev seen : HubView
+  seen = record { book = c.self.inside.book; inlets = c.self.inside.inlets.items; ends = c.self.inside.ends.items; inputs = c.self.inside.inputs.items; door = c.self.inside.keeper; wait = c.self.inside.wait; is_shut = c.self.inside.is_shut }
+
+  within : c.args.d < length c.self.inside.book.names
+  within = subst (λ (n : ℕ). c.args.d < n) (sym (ap (λ (t : Terms). length t.names) c.self.invariant.0.terms_are)) c.requires
+
+  going : c.index_mut-3.result.now ≡ None
+  going =
+      running_is c.self.inside.ends.items c.from-at.result c.index.result.now c.index_mut-3.result.now
+      (let at = c.from-at.ensures in let lt = within in let n = c.self.invariant.0.ends_count in omega arith)
+      c.index.ensures c.index_mut-3.ensures.value c.if-is_some.ensures
+
+  there : get_or c.self.inside.ends.items c.args.d c.index_mut-3.result.now ≡ c.index_mut-3.result.now
+  there = subst (λ (n : ℕ). get_or c.self.inside.ends.items n c.index_mut-3.result.now ≡ c.index_mut-3.result.now) c.from-at.ensures (sym c.index_mut-3.ensures.value)
+
+  may : MayGoOn (parts_of seen)
+  may = subst (λ (v : HubView). MayGoOn (parts_of v)) (sym c.self.view_is) (match_none c.waiting.result _ _ c.waiting.ensures c.in_default.not-Some)
+
+pub pump-pumped-requires-clause-runs : goal.pump-pumped-requires-clause-runs
+pump-pumped-requires-clause-runs g c =
+    device_free g.J.HubNaming.terms (seen g c) c.self.inside.lasts.items c.args.d c.index_mut-3.result.now c.self.invariant.0 (within g c) (there g c ∙ going g c)
+
+pub pump-pumped-requires-clause-going : goal.pump-pumped-requires-clause-going
+pump-pumped-requires-clause-going g c = going g c
+
+-- and after
+module _ (g : _) (c : goal.After-show g) where
+  abbrev seen_after : HubView
+  seen_after = record { book = c.self.inside.book; inlets = c.self.inside.inlets.items; ends = c.self.inside.ends.items; inputs = c.self.inside.inputs.items; door = c.self.inside.keeper; wait = c.self.inside.wait; is_shut = c.self.inside.is_shut }
+
+  within_after : c.args.d < length c.self.inside.book.names
+  within_after = subst (λ (n : ℕ). c.args.d < n) (sym (ap (λ (t : Terms). length t.names) c.self.invariant.0.terms_are)) c.requires
+
+  going_after : c.index_mut-3.result.now ≡ None
+  going_after =
+      running_is c.self.inside.ends.items c.from-at.result c.index.result.now c.index_mut-3.result.now
+      (let at = c.from-at.ensures in let lt = within_after in let n = c.self.invariant.0.ends_count in omega arith)
+      c.index.ensures c.index_mut-3.ensures.value c.if-is_some.ensures
+
+  there_after : get_or c.self.inside.ends.items c.args.d c.index_mut-3.result.now ≡ c.index_mut-3.result.now
+  there_after = subst (λ (n : ℕ). get_or c.self.inside.ends.items n c.index_mut-3.result.now ≡ c.index_mut-3.result.now) c.from-at.ensures (sym c.index_mut-3.ensures.value)
+
+  may_after : MayGoOn (parts_of seen_after)
+  may_after = subst (λ (v : HubView). MayGoOn (parts_of v)) (sym c.self.view_is) (match_none c.waiting.result _ _ c.waiting.ensures c.in_default.not-Some)
+
+pub invariant_of-self : goal.invariant_of-self
+invariant_of-self g c =
+    let x = c.index_mut.result.now in
+    let l = c.index_mut-2.result.now in
+    let e = c.index_mut-3.result.now in
+    let new = c.pump-pumped.new in
+    let P : ℕ → Type 0 = λ n. HubKeeps g.J.HubNaming.terms (record (seen_after g c) { book = new.book; inlets = set c.self.inside.inlets.items n new.inlets; ends = set c.self.inside.ends.items n new.end }) (set c.self.inside.lasts.items n new.lasts) in (
+      subst P (sym c.from-at.ensures)
+      (hub_device g.J.HubNaming.terms (seen_after g c) c.self.inside.lasts.items c.args.d new.book x new.inlets e new.end l new.lasts c.self.invariant.0 (within_after g c)
+      (subst (λ (n : ℕ). get_or c.self.inside.inlets.items n x ≡ x) c.from-at.ensures (sym c.index_mut.ensures.value))
+      (there_after g c)
+      (subst (λ (n : ℕ). get_or c.self.inside.lasts.items n l ≡ l) c.from-at.ensures (sym c.index_mut-2.ensures.value))
+      (may_after g c) c.show.ensures.holds (looked_names c.pump-pumped.result x new.inlets new.end c.pump-pumped.ensures.answer) c.pump-pumped.ensures.step),
+      c.self.invariant.1,
+    )
+
+pub returns : goal.returns
+returns g c =
+    let x = c.index_mut.result.now in
+    let e = c.index_mut-3.result.now in
+    let new = c.pump-pumped.new in
+    let h : HubView = seen_after g c in
+    let at = c.from-at.ensures in
+    let lt = within_after g c in
+    let n = c.self.invariant.0.count in
+    let m = c.self.invariant.0.ends_count in
+    let here = subst (λ (n : ℕ). get_or c.self.inside.inlets.items n x ≡ x) at (sym c.index_mut.ensures.value) in
+    let none : get_or c.self.inside.ends.items c.args.d None ≡ None = subst (λ (o : Option DeviceEnd). get_or c.self.inside.ends.items c.args.d o ≡ o) (going_after g c) (there_after g c) in
+    let P : HubView × ℕ → Type 0 = λ t. DevicePumped c.pump-pumped.result c.args.d t.0 (record h { book = new.book; inlets = set c.self.inside.inlets.items t.1 new.inlets; ends = set c.self.inside.ends.items t.1 new.end }) in
+    subst P (λ i. (c.self.view_is i, sym at i))
+    (device_pumped h c.args.d new.book x new.inlets e new.end (omega arith) (omega arith) here (there_after g c) c.pump-pumped.result (may_after g c, none) c.pump-pumped.ensures.answer c.pump-pumped.ensures.empty)

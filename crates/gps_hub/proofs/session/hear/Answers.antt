@@ -1,0 +1,19 @@
+use Rattle.std.proofs.Common.{◌≡◌, ℕ, List, sym, subst, false}
+use Rattle.report_book.specs.BookView.{BookView}
+use Rattle.report_book.specs.Moves.{HangsUp}
+use Rattle.serve_pieces.specs.declared.piece.Piece.TheVariants.{Input}
+use Rattle.session_core.specs.declared.mark.Close.TheVariants.{NoMemory}
+use Rattle.hub_laws.specs.Steps.{SessionStep, with_got}
+use Rattle.hub_laws.proofs.Sessions.{heard_step, hung_step}
+use Rattle.gps_hub.proofs.session.hear.Goals as goal
+
+pub returns-in-Ok-clause-step : goal.returns-in-Ok-clause-step
+returns-in-Ok-clause-step g c = λ x.
+    let P : List ℕ → Type 0 = λ b. SessionStep c.args.s c.args.book.now c.input.new.self x (with_got (Input b) x) in
+    subst P c.as_slice.ensures.bytes
+    (heard_step false c.args.book.now c.input.new.self c.args.s c.as_slice.result.now x c.show.ensures.holds c.requires.within c.requires.open_one c.in-Ok.ensures.hears)
+
+pub returns-in-Err-clause-step : goal.returns-in-Err-clause-step
+returns-in-Err-clause-step g c = λ x.
+    let P : BookView → Type 0 = λ b. HangsUp c.args.s NoMemory b c.hang_up.new.book in
+    hung_step c.args.book.now c.hang_up.new.book c.args.s NoMemory (Input c.args.bytes.now) x c.show.ensures.holds c.requires.open_one (λ _ _ _. tt) (subst P c.in-Err.ensures.unchanged c.hang_up.ensures)

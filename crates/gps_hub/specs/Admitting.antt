@@ -1,0 +1,28 @@
+-- What an admission does, and why one is refused. This project's own.
+use Rattle.std.specs.Prelude.{◌≡◌, Bool, true, false, Option, Some, None, Result, Err, IfErr}
+use Rattle.gps_lane.specs.Ends.{Putting, Taking}
+use Rattle.report_book.specs.BookView.{BookView}
+use Rattle.hub_door.specs.Admissions.{Link}
+use Rattle.report_book.specs.Moves.{Admits, ShutsAll}
+use Rattle.session_core.specs.Naming.{of_table}
+use Rattle.report_book.specs.declared.fault.BookFault.{BookFault}
+use Rattle.report_book.specs.declared.fault.BookFault.TheVariants.{NoMemory}
+
+-- where the book was shut before, the new session is closed at once
+abbrev pub ShutIf : Bool → BookView → BookView → Type 0
+ShutIf false old new = new ≡ old
+ShutIf true old new = ShutsAll old new
+
+-- a session was admitted over these lanes, and is closed at once where the book was shut before
+abbrev pub AdmitsAs : Link → Bool → BookView → BookView → Type 0
+AdmitsAs link is_shut old new = (mid : BookView) × Admits (of_table link.outlet) link.cap old mid × ShutIf is_shut mid new
+
+-- this fault, where there is one, and else want of memory
+abbrev pub fault_or_memory : Option BookFault → BookFault
+fault_or_memory (Some fault) = fault
+fault_or_memory None = NoMemory
+
+-- refused by this fault, where there is one, and else by nothing but want of memory; what was handed over comes back
+abbrev pub RefusesLink : {X O I : Type 0} → Option BookFault → Result X (O × I × BookFault) → Type 0
+RefusesLink (Some fault) result = (outlet : _) × (input : _) × (result ≡ Err (outlet, input, fault))
+RefusesLink None result = IfErr result (λ refusal. refusal.2 ≡ NoMemory)

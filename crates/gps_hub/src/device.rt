@@ -1,0 +1,295 @@
+// What each piece of a device's lanes does to the book.
+ghost use Rattle.std.specs.Prelude.{◌≡◌, ℕ, List, [], Some, None, IfOk, OnErr, IfErr};
+ghost use Rattle.book_log.specs.Entries.{lost};
+ghost use Rattle.gps_lane.specs.Ends.{Taking};
+ghost use Rattle.report_book.specs.Moves.{AddsQuietly, Earns};
+ghost use Rattle.report_book.specs.Refusals.{device_fault};
+ghost use Rattle.report_book.specs.Standing.{Holds};
+ghost use Rattle.report_book.specs.declared.fault.BookFault.TheVariants.{NoMemory as BookNoMemory};
+ghost use Rattle.serve_pieces.specs.declared.piece.Piece.TheVariants.{Bytes, Line, Last};
+ghost use Rattle.hub_laws.specs.Given.{end_by, end_of as end_value};
+ghost use Rattle.hub_laws.specs.Keeping.{Lasts as LastsView};
+ghost use Rattle.hub_laws.specs.Parts.{Lanes};
+ghost use Rattle.hub_laws.specs.Steps.{DeviceStep, MovesOn, stop_entries, with_bytes, with_edge};
+ghost use Rattle.gps_hub.specs.Pumping.{Looked, TookDevice};
+ghost use Rattle.pps_edges.specs.Scan.{edge_in};
+
+use crate::inlets::{Inlets, Lasts, Next};
+use crate::pumped::Pumped;
+use gps_fixed::Stamp;
+use gps_lane::Tx;
+use gps_report::Edge;
+use hub_laws::DeviceEnd;
+use pps_edges::edge_of_line;
+use report_book::{Book, BookFault};
+use serve_pieces::{Chunk, Ending, Piece, ShortLine};
+use session_core::Item;
+use std::sync::Wait;
+
+/// How a device ends whose two sources ended so.
+fn end_of(bytes: Ending, edges: Ending) -> DeviceEnd
+    ensures { result ≡ end_value bytes edges }
+{
+    match bytes {
+        Ending::NoMemory => DeviceEnd::NoMemory,
+        Ending::End => match edges {
+            Ending::End => DeviceEnd::Ended,
+            Ending::Failed => DeviceEnd::ReadFault,
+            Ending::NoMemory => DeviceEnd::NoMemory,
+        },
+        Ending::Failed => match edges {
+            Ending::End | Ending::Failed => DeviceEnd::ReadFault,
+            Ending::NoMemory => DeviceEnd::NoMemory,
+        },
+    }
+}
+
+/// A device is lost.
+fn lose<R: Wait + Copy>(book: &mut Book<Tx<Item, R>>, d: u8)
+    requires { device_fault book.old d ≡ None }
+    ensures lost { AddsQuietly book.old book.new (lost d) }
+    ensures earns { Earns book.old book.new (lost d) }
+{
+    match book.lose_device(d) {
+        Ok(()) => {}
+        Err(_) => unreachable!(),
+    }
+}
+
+/// A device is lost, as the book refused a piece of it.
+fn refuse<R: Wait + Copy>(
+    book: &mut Book<Tx<Item, R>>,
+    end: &mut Option<DeviceEnd>,
+    d: u8,
+    fault: BookFault,
+) -> Pumped
+    requires runs { device_fault book.old d ≡ None }
+    requires fault { fault ≡ BookNoMemory }
+    ensures lost { AddsQuietly book.old book.new (lost d) }
+    ensures earns { Earns book.old book.new (lost d) }
+    ensures end { end.new ≡ Some DeviceEnd.NoMemory }
+    ensures answer { result ≡ Pumped.Refused fault }
+{
+    lose(book, d);
+    *end = Some(DeviceEnd::NoMemory);
+    Pumped::Refused(fault)
+}
+
+/// Stops a device in the book that ends so.
+fn stop_as<R: Wait + Copy>(
+    book: &mut Book<Tx<Item, R>>,
+    d: u8,
+    end: DeviceEnd,
+) -> Result<(), BookFault>
+    requires { device_fault book.old d ≡ None }
+    ensures stops { IfOk result (λ _. MovesOn book.old book.new (stop_entries d (Some end))) }
+    ensures refusal { IfErr result (λ fault. fault ≡ BookNoMemory) }
+    ensures unchanged { OnErr result (book.new ≡ book.old) }
+{
+    match end {
+        DeviceEnd::Ended => {
+            book.show();
+            book.end_device(d)?;
+            Ok(())
+        }
+        DeviceEnd::ReadFault | DeviceEnd::NoMemory => {
+            lose(book, d);
+            Ok(())
+        }
+    }
+}
+
+/// Stops a device in the book, where both of its lanes have told how their source ended.
+fn stop<R: Wait + Copy>(
+    book: &mut Book<Tx<Item, R>>,
+    d: u8,
+    bytes: Option<Ending>,
+    edges: Option<Ending>,
+) -> Result<Option<DeviceEnd>, BookFault>
+    requires { device_fault book.old d ≡ None }
+    ensures end { IfOk result (λ end. end ≡ end_by [] bytes edges) }
+    ensures stops { IfOk result (λ end. MovesOn book.old book.new (stop_entries d end)) }
+    ensures refusal { IfErr result (λ fault. fault ≡ BookNoMemory) }
+    ensures unchanged { OnErr result (book.new ≡ book.old) }
+{
+    let Some(bytes) = bytes else {
+        return Ok(None);
+    };
+    let Some(edges) = edges else {
+        return Ok(None);
+    };
+    let end = end_of(bytes, edges);
+    match stop_as(book, d, end) {
+        Ok(()) => Ok(Some(end)),
+        Err(fault) => Err(fault),
+    }
+}
+
+fn feed<R: Wait + Copy>(
+    book: &mut Book<Tx<Item, R>>,
+    end: &mut Option<DeviceEnd>,
+    d: u8,
+    at: Stamp,
+    bytes: &Chunk,
+) -> Pumped
+    requires runs { device_fault book.old d ≡ None }
+    requires going { end.old ≡ None }
+    ensures step { (x : Lanes) (lasts : LastsView) → DeviceStep d book.old book.new x (with_bytes (Bytes at bytes.now) x) end.old end.new lasts lasts }
+    ensures answer { TookDevice result end.new }
+{
+    book.show();
+    match book.feed(d, at, bytes.as_slice()) {
+        Ok(()) => Pumped::Fed,
+        Err(fault) => refuse(book, end, d, fault),
+    }
+}
+
+fn bytes_end<R: Wait + Copy>(
+    book: &mut Book<Tx<Item, R>>,
+    lasts: &mut Lasts,
+    end: &mut Option<DeviceEnd>,
+    d: u8,
+    ending: Ending,
+) -> Pumped
+    requires runs { device_fault book.old d ≡ None }
+    requires going { end.old ≡ None }
+    ensures step { (x : Lanes) → DeviceStep d book.old book.new x (with_bytes (Last ending) x) end.old end.new lasts.old lasts.new }
+    ensures answer { TookDevice result end.new }
+{
+    match stop(book, d, Some(ending), lasts.edges) {
+        Ok(stopped) => {
+            lasts.bytes = Some(ending);
+            *end = stopped;
+            Pumped::Fed
+        }
+        Err(fault) => refuse(book, end, d, fault),
+    }
+}
+
+/// A piece of a device's lane.
+fn take_bytes<R: Wait + Copy>(
+    book: &mut Book<Tx<Item, R>>,
+    lasts: &mut Lasts,
+    end: &mut Option<DeviceEnd>,
+    d: u8,
+    piece: Piece,
+) -> Pumped
+    requires runs { device_fault book.old d ≡ None }
+    requires going { end.old ≡ None }
+    ensures step { (x : Lanes) → DeviceStep d book.old book.new x (with_bytes piece x) end.old end.new lasts.old lasts.new }
+    ensures answer { TookDevice result end.new }
+{
+    match piece {
+        Piece::Bytes { at, bytes } => feed(book, end, d, at, &bytes),
+        Piece::Last(ending) => bytes_end(book, lasts, end, d, ending),
+        Piece::Line(_) => Pumped::Fed,
+        Piece::Input(_) => Pumped::Fed,
+    }
+}
+
+fn edge<R: Wait + Copy>(
+    book: &mut Book<Tx<Item, R>>,
+    end: &mut Option<DeviceEnd>,
+    d: u8,
+    edge: Edge,
+) -> Pumped
+    requires runs { device_fault book.old d ≡ None }
+    requires going { end.old ≡ None }
+    ensures step { (line : List ℕ) (x : Lanes) (lane : Taking Piece) (lasts : LastsView) → Some edge ≡ edge_in line → x.edges ≡ Some lane
+        → DeviceStep d book.old book.new x (with_edge (Line line) x) end.old end.new lasts lasts }
+    ensures answer { TookDevice result end.new }
+{
+    book.show();
+    match book.edge(d, edge) {
+        Ok(()) => Pumped::Fed,
+        Err(fault) => refuse(book, end, d, fault),
+    }
+}
+
+/// The edge that a line says.
+fn read_edge(line: &ShortLine) -> Option<Edge>
+    ensures { result ≡ edge_in line.now }
+{
+    edge_of_line(line.as_slice())
+}
+
+fn edges_end<R: Wait + Copy>(
+    book: &mut Book<Tx<Item, R>>,
+    lasts: &mut Lasts,
+    end: &mut Option<DeviceEnd>,
+    d: u8,
+    ending: Ending,
+) -> Pumped
+    requires runs { device_fault book.old d ≡ None }
+    requires going { end.old ≡ None }
+    ensures step { (x : Lanes) (lane : Taking Piece) → x.edges ≡ Some lane → DeviceStep d book.old book.new x (with_edge (Last ending) x) end.old end.new lasts.old lasts.new }
+    ensures answer { TookDevice result end.new }
+{
+    match stop(book, d, lasts.bytes, Some(ending)) {
+        Ok(stopped) => {
+            lasts.edges = Some(ending);
+            *end = stopped;
+            Pumped::Fed
+        }
+        Err(fault) => refuse(book, end, d, fault),
+    }
+}
+
+fn line<R: Wait + Copy>(
+    book: &mut Book<Tx<Item, R>>,
+    end: &mut Option<DeviceEnd>,
+    d: u8,
+    line: &ShortLine,
+) -> Pumped
+    requires runs { device_fault book.old d ≡ None }
+    requires going { end.old ≡ None }
+    ensures step { (x : Lanes) (lane : Taking Piece) (lasts : LastsView) → x.edges ≡ Some lane → DeviceStep d book.old book.new x (with_edge (Line line.now) x) end.old end.new lasts lasts }
+    ensures answer { TookDevice result end.new }
+{
+    match read_edge(line) {
+        Some(found) => edge(book, end, d, found),
+        None => Pumped::Fed,
+    }
+}
+
+/// A piece of a device's edge lane.
+fn take_edge<R: Wait + Copy>(
+    book: &mut Book<Tx<Item, R>>,
+    lasts: &mut Lasts,
+    end: &mut Option<DeviceEnd>,
+    d: u8,
+    piece: Piece,
+) -> Pumped
+    requires runs { device_fault book.old d ≡ None }
+    requires going { end.old ≡ None }
+    ensures step { (x : Lanes) (lane : Taking Piece) → x.edges ≡ Some lane → DeviceStep d book.old book.new x (with_edge piece x) end.old end.new lasts.old lasts.new }
+    ensures answer { TookDevice result end.new }
+{
+    match piece {
+        Piece::Line(text) => line(book, end, d, &text),
+        Piece::Last(ending) => edges_end(book, lasts, end, d, ending),
+        Piece::Bytes { at: _, bytes: _ } => Pumped::Fed,
+        Piece::Input(_) => Pumped::Fed,
+    }
+}
+
+/// Gets a piece of a device's lanes, where there is one, and gives it to the book.
+pub(crate) fn pump<R: Wait + Copy>(
+    book: &mut Book<Tx<Item, R>>,
+    inlets: &mut Inlets<R>,
+    lasts: &mut Lasts,
+    end: &mut Option<DeviceEnd>,
+    d: u8,
+) -> Pumped
+    requires runs { device_fault book.old d ≡ None }
+    requires going { end.old ≡ None }
+    ensures step { DeviceStep d book.old book.new inlets.old inlets.new end.old end.new lasts.old lasts.new }
+    ensures answer { Looked result inlets.old inlets.new end.new }
+    ensures empty { result ≡ Pumped.Empty → (book.new ≡ book.old) × (end.new ≡ end.old) }
+{
+    match inlets.next(lasts) {
+        Next::Nothing => Pumped::Empty,
+        Next::Bytes(piece) => take_bytes(book, lasts, end, d, piece),
+        Next::Edges(piece) => take_edge(book, lasts, end, d, piece),
+    }
+}

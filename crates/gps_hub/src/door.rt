@@ -1,0 +1,92 @@
+// What the door does to the book and to the list of admissions.
+ghost use Rattle.std.specs.Prelude.{◌≡◌, ◌<◌, true, [], IfOk, IfErr, OnOk, OnErr, length, vec_len, vec_capacity};
+ghost use Rattle.std.specs.List.{list_all};
+ghost use Rattle.book_log.specs.Standing.{has_stopped};
+ghost use Rattle.hub_door.specs.Admissions.{finished};
+ghost use Rattle.report_book.specs.BookView.{BookView};
+ghost use Rattle.report_book.specs.Moves.{Admits};
+ghost use Rattle.report_book.specs.Refusals.{RefusesWith, crowd_fault};
+ghost use Rattle.report_book.specs.Standing.{Holds as BookHolds};
+ghost use Rattle.session_core.specs.Naming.{of_table};
+ghost use Rattle.gps_hub.specs.Admitting.{ShutIf, fault_or_memory};
+
+use crate::watching::Watching;
+use gps_fixed::NoMemory;
+use gps_lane::{Rx, Tx};
+use hub_door::{DoorNaming, DoorSeat, Keeper};
+use report_book::{Book, BookFault};
+use serve_pieces::Piece;
+use session_core::Item;
+use std::sync::Wait;
+
+/// The door has closed or failed, or had before.
+pub(crate) fn finish<J: DoorNaming>(keeper: &mut Keeper<J>, is_done: bool, door: &mut DoorSeat<J>)
+    requires { is_done ≡ keeper.old.done }
+    ensures keeper { keeper.new ≡ finished keeper.old }
+    ensures door { door.new ≡ finished door.old }
+{
+    if is_done {
+        keeper.agree(door);
+    } else {
+        keeper.finish(door);
+    }
+}
+
+/// Opens the next session, which is closed at once where the book was shut.
+pub(crate) fn open<R: Wait + Copy>(
+    book: &mut Book<Tx<Item, R>>,
+    outlet: Tx<Item, R>,
+    is_shut: bool,
+) -> Result<u32, (Tx<Item, R>, BookFault)>
+    requires empty { outlet.put ≡ [] }
+    requires ended { is_shut ≡ true → list_all (λ line. has_stopped line.stage) book.old.log.present.lines ≡ true }
+    ensures number { IfOk result (λ s. s ≡ length book.old.sessions) }
+    ensures admits { IfOk result (λ _. (mid : BookView) × BookHolds mid × Admits (of_table outlet.lane) outlet.cap book.old mid × ShutIf is_shut mid book.new) }
+    ensures refusal { RefusesWith (crowd_fault book.old) result }
+    ensures outlet { IfErr result (λ refusal. refusal.0 ≡ outlet) }
+    ensures unchanged { OnErr result (book.new ≡ book.old) }
+{
+    outlet.show();
+    match book.admit(outlet) {
+        Ok(s) => {
+            book.show();
+            shut_if(book, is_shut);
+            Ok(s)
+        }
+        Err(refusal) => Err(refusal),
+    }
+}
+
+/// Closes each live session, where the book was shut.
+fn shut_if<R: Wait + Copy>(book: &mut Book<Tx<Item, R>>, is_shut: bool)
+    requires { is_shut ≡ true → list_all (λ line. has_stopped line.stage) book.old.log.present.lines ≡ true }
+    ensures { ShutIf is_shut book.old book.new }
+{
+    if is_shut {
+        book.shut();
+    }
+}
+
+/// Takes room for one more session.
+pub(crate) fn take_room<R>(
+    inputs: &mut Vec<Rx<Piece, R>>,
+    watching: &mut Watching,
+) -> Result<(), NoMemory>
+    ensures items { inputs.new.items ≡ inputs.old.items }
+    ensures room { OnOk result (vec_len inputs.new < vec_capacity inputs.new) }
+{
+    inputs.reserve(1)?;
+    watching.reserve()
+}
+
+/// Why no session may be admitted now: by the numbers of the book, or for want of memory.
+pub(crate) fn refusal_of<R: Wait + Copy>(book: &Book<Tx<Item, R>>) -> BookFault
+    ensures { result ≡ fault_or_memory (crowd_fault book.now) }
+{
+    let (live, opened) = (book.live(), book.opened());
+    if live == 64 || opened == 100_000 {
+        BookFault::TooManySessions { live, opened }
+    } else {
+        BookFault::NoMemory
+    }
+}

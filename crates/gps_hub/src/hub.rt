@@ -1,0 +1,284 @@
+ghost use Rattle.std.specs.Prelude.{◌≡◌, ◌<◌, ◌≤◌, ◌++◌, true, false, [], ◌∷◌, length, IfOk, IfErr, OnOk, OnErr, IfSome, MatchOption, count_by};
+ghost use Rattle.std.specs.List.{All, list_all};
+ghost use Rattle.book_log.specs.Standing.{has_stopped};
+ghost use Rattle.book_sessions.specs.Roster.{was_watched};
+ghost use Rattle.hub_door.specs.Admissions.{admitting, finished, link_of};
+ghost use Rattle.report_book.specs.Moves.{PublishesAt, ShutsAll};
+ghost use Rattle.report_book.specs.Refusals.{crowd_fault};
+ghost use Rattle.report_book.specs.Standing.{Holds as BookHolds};
+ghost use Rattle.hub_laws.specs.DaemonHub.{DaemonHub, MayGoOn};
+ghost use Rattle.hub_laws.specs.Keeping.{IsClosed, IsUnused, NothingGot};
+ghost use Rattle.hub_laws.specs.Parts.{AreAdmitted, parts_of, terms_of};
+ghost use Rattle.gps_hub.specs.Admitting.{AdmitsAs, RefusesLink};
+ghost use Rattle.gps_hub.specs.Pumping.{DevicePumped, IsWaiting, SessionPumped};
+
+use crate::device::pump as pump_device;
+use crate::door::{finish, open, refusal_of, take_room};
+use crate::inlets::{Inlets, Lasts, lasts_of, no_ends};
+use crate::naming::HubNaming;
+use crate::parted::Parted;
+use crate::pumped::Pumped;
+use crate::session::pump as pump_session;
+use crate::watching::{Look, Watching};
+use gps_lane::{Rx, Tx};
+use hub_door::{DoorSeat, DoorTable, Keeper};
+use hub_laws::DeviceEnd;
+use report_book::{Book, BookFault, UnitStep};
+use serve_pieces::Piece;
+use session_core::Item;
+use std::alloc::Global;
+use std::marker::Model;
+use std::snapshot::Snapshot;
+use std::sync::Wait;
+
+/// The book of the running daemon, the receiving ends of the lanes of its devices and sessions, and the state of its door. It stands behind
+/// one lock.
+#[derive(Drop)]
+pub struct Hub<J: HubNaming, R: Wait + Copy> {
+    book: Book<Tx<Item, R>>,
+    inlets: Vec<Inlets<R>>,
+    lasts: Vec<Lasts>,
+    ends: Vec<Option<DeviceEnd>>,
+    inputs: Vec<Rx<Piece, R>>,
+    keeper: Keeper<J>,
+    watching: Watching,
+    is_done: bool,
+    is_shut: bool,
+    wait: u32,
+}
+
+impl<J: HubNaming, R: Wait + Copy> Model for Hub<J, R> {
+    ghost use Rattle.std.specs.Prelude.{◌≡◌};
+    ghost use Rattle.hub_laws.specs.Keeping.{HubKeeps};
+    ghost use Rattle.hub_laws.specs.Parts.{HubView};
+
+    ghost Value = { HubView };
+
+    ghost view = { λ h. record { book = h.book; inlets = h.inlets.items; ends = h.ends.items; inputs = h.inputs.items; door = h.keeper; wait = h.wait; is_shut = h.is_shut } };
+
+    ghost invariant = { λ h. HubKeeps J.terms (record { book = h.book; inlets = h.inlets.items; ends = h.ends.items; inputs = h.inputs.items; door = h.keeper; wait = h.wait; is_shut = h.is_shut }) h.lasts.items
+        × (h.is_done ≡ h.keeper.done) };
+}
+
+/// One step of a unit that there is.
+fn publish_unit<R: Wait + Copy>(book: &mut Book<Tx<Item, R>>, u: u8) -> UnitStep
+    requires { u < length book.old.units }
+    ensures { PublishesAt u result book.old book.new }
+{
+    book.show();
+    match book.publish_step(u) {
+        Ok(step) => step,
+        Err(_) => unreachable!(),
+    }
+}
+
+impl<J: HubNaming, R: Wait + Copy> Hub<J, R> {
+    /// A hub over a new book, with the lanes of its devices; and the token of the door's worker. The devices wait until so many sessions
+    /// have watched, or the door has closed or failed.
+    pub fn new(
+        alloc: Global,
+        book: Book<Tx<Item, R>>,
+        inlets: Vec<Inlets<R>>,
+        doors: DoorTable,
+        wait: u32,
+    ) -> Result<(Hub<J, R>, DoorSeat<J>), (Book<Tx<Item, R>>, Vec<Inlets<R>>)>
+        requires terms { J.terms ≡ terms_of book inlets.items wait }
+        requires table { doors.table ≡ J.table }
+        requires ledger { doors.ledger ≡ J.name }
+        requires parts { doors.parts ≡ J.parts }
+        requires unused { IsUnused book }
+        requires count { length inlets.items ≡ length book.names }
+        requires nothing_got { All NothingGot inlets.items }
+        requires wait { wait ≤ 64 }
+        ensures seat { IfOk result (λ r. r.1 ≡ record { links = []; done = false }) }
+        ensures book { IfErr result (λ r. r.0 ≡ book) }
+        ensures inlets { IfErr result (λ r. r.1 ≡ inlets) }
+    {
+        book.show();
+        let Ok(lasts) = lasts_of(alloc, &inlets) else {
+            return Err((book, inlets));
+        };
+        let Ok(ends) = no_ends(alloc, &inlets) else {
+            return Err((book, inlets));
+        };
+        let (keeper, seat) = doors.open::<J>();
+        let hub = Hub {
+            book,
+            inlets,
+            lasts,
+            ends,
+            inputs: Vec::new(alloc),
+            keeper,
+            watching: Watching::new(alloc),
+            is_done: false,
+            is_shut: false,
+            wait,
+        };
+        Ok((hub, seat))
+    }
+
+    /// How many sessions have watched, where the devices wait.
+    fn waiting(&self) -> Option<u32>
+        ensures { MatchOption result (MayGoOn (parts_of self.now)) (λ watched. IsWaiting self.now × (watched ≡ count_by was_watched self.now.book.sessions)) }
+    {
+        let watched = self.book.watched();
+        if watched < self.wait && !self.is_done {
+            Some(watched)
+        } else {
+            None
+        }
+    }
+
+    /// Gets a piece of one lane of a device and gives it to the book. A device whose lanes have both told how their source ended has stopped;
+    /// so has one of which the book refuses a piece, which is lost.
+    pub fn device_piece(&mut self, d: u8) -> Pumped
+        requires { d < length J.terms.names }
+        ensures { DevicePumped result d self.old self.new }
+    {
+        let at = usize::from(d);
+        if self.ends[at].is_some() {
+            return Pumped::Done;
+        }
+        if let Some(watched) = self.waiting() {
+            return Pumped::Waiting { watched };
+        }
+        let pumped = pump_device(
+            &mut self.book,
+            &mut self.inlets[at],
+            &mut self.lasts[at],
+            &mut self.ends[at],
+            d,
+        );
+        self.book.show();
+        pumped
+    }
+
+    /// Gets a piece of a session's input lane and gives it to the book. A session whose source has ended is hung up; one of which the book
+    /// refuses a piece is closed.
+    pub fn session_piece(&mut self, s: u32) -> Pumped
+        requires { s < length self.old.inputs }
+        ensures { SessionPumped result s self.old self.new }
+    {
+        if self.book.closing(s).is_some() {
+            return Pumped::Done;
+        }
+        let pumped = pump_session(&mut self.book, &mut self.inputs[s as usize], s);
+        self.book.show();
+        pumped
+    }
+
+    /// One step of a unit: it begins the first waiting sample where none is being stored, and makes one store, or none.
+    pub fn publish(&mut self, u: u8) -> UnitStep
+        requires { u < length J.terms.segments }
+        ensures publishes { PublishesAt u result self.old.book self.new.book }
+        ensures others { self.new ≡ record self.old { book = self.new.book } }
+    {
+        let step = publish_unit(&mut self.book, u);
+        self.book.show();
+        step
+    }
+
+    /// The door has closed or failed.
+    pub fn door_done(&mut self, door: &mut DoorSeat<J>)
+        ensures hub { self.new ≡ record self.old { door = finished self.old.door } }
+        ensures door { door.new ≡ finished door.old }
+    {
+        finish(&mut self.keeper, self.is_done, door);
+        self.is_done = true;
+    }
+
+    /// Admits a session over these lanes. Where the book was shut before, it is closed at once.
+    pub fn admit_link(
+        &mut self,
+        door: &mut DoorSeat<J>,
+        outlet: Tx<Item, R>,
+        input: Rx<Piece, R>,
+    ) -> Result<u32, (Tx<Item, R>, Rx<Piece, R>, BookFault)>
+        requires outlet { outlet.put ≡ [] }
+        requires input { input.got ≡ [] }
+        ensures number { IfOk result (λ s. s ≡ length door.old.links) }
+        ensures door { OnOk result (door.new ≡ admitting (link_of outlet.lane outlet.cap input.lane) door.old) }
+        ensures admits { IfOk result (λ _. AdmitsAs (link_of outlet.lane outlet.cap input.lane) self.old.is_shut self.old.book self.new.book) }
+        ensures changes { OnOk result (self.new ≡ record self.old { book = self.new.book; inputs = self.old.inputs ++ input ∷ []; door = admitting (link_of outlet.lane outlet.cap input.lane) self.old.door }) }
+        ensures refusal { RefusesLink (crowd_fault self.old.book) result }
+        ensures outlet { IfErr result (λ r. r.0 ≡ outlet) }
+        ensures input { IfErr result (λ r. r.1 ≡ input) }
+        ensures unchanged { OnErr result (self.new ≡ self.old) }
+        ensures same_door { OnErr result (door.new ≡ door.old) }
+    {
+        let Ok(()) = take_room(&mut self.inputs, &mut self.watching) else {
+            let fault = refusal_of(&self.book);
+            return Err((outlet, input, fault));
+        };
+        let lanes = (Snapshot::of(&outlet), Snapshot::of(&input));
+        match open(&mut self.book, outlet, self.is_shut) {
+            Ok(s) => {
+                self.book.show();
+                self.inputs.push_reserved(input);
+                self.keeper.admit(door, lanes.0, lanes.1);
+                self.watching.add(s);
+                Ok(s)
+            }
+            Err((outlet, fault)) => Err((outlet, input, fault)),
+        }
+    }
+
+    /// Shuts the book where each device has ended or was lost: no session is live then, nor will one be. Else it changes nothing.
+    pub fn shut(&mut self) -> bool
+        ensures exact { result ≡ list_all (λ line. has_stopped line.stage) self.old.book.log.present.lines }
+        ensures shuts { result ≡ true → ShutsAll self.old.book self.new.book × All IsClosed self.new.book.sessions }
+        ensures changes { result ≡ true → self.new ≡ record self.old { book = self.new.book; is_shut = true } }
+        ensures unchanged { result ≡ false → self.new ≡ self.old }
+    {
+        if !self.book.all_ended() {
+            return false;
+        }
+        self.book.shut();
+        self.book.show();
+        self.is_shut = true;
+        true
+    }
+
+    pub fn book(&self) -> &Book<Tx<Item, R>>
+        ensures { result.now ≡ self.now.book }
+    {
+        &self.book
+    }
+
+    /// What is new of the session at a place of the list of those that were not closed at the last look; none behind the last. Where it is
+    /// closed now, it leaves the list, and the last one takes its place.
+    pub fn look(&mut self, place: usize) -> Option<Look>
+        ensures session { IfSome result (λ look. look.session < length self.old.inputs) }
+        ensures unchanged { self.new ≡ self.old }
+    {
+        self.watching.look(&self.book, place)
+    }
+
+    /// Takes the hub apart, once the door's worker is done. Takes no memory.
+    pub fn part(mut self, mut door: DoorSeat<J>) -> Parted<R>
+        ensures agrees { DaemonHub (record { book = result.book; inlets = result.inlets.items; ends = result.ends.items; inputs = result.sessions.items; done = door.done; wait = J.terms.wait }) }
+        ensures terms { terms_of result.book result.inlets.items J.terms.wait ≡ J.terms }
+        ensures sessions { AreAdmitted door.links result.book.sessions result.sessions.items }
+        ensures holds { BookHolds result.book }
+    {
+        self.keeper.agree(&mut door);
+        let Hub {
+            book,
+            inlets,
+            lasts: _,
+            ends,
+            inputs,
+            keeper: _,
+            watching: _,
+            is_done: _,
+            is_shut: _,
+            wait: _,
+        } = self;
+        Parted {
+            book,
+            inlets,
+            ends,
+            sessions: inputs,
+        }
+    }
+}

@@ -1,0 +1,24 @@
+//! The hub of the running daemon: one book, the lanes of its devices and sessions, and the state of its door, which stand together behind
+//! one lock. Each call is one event. Its type keeps *Daemon: hub*: what the book has is what was got of the lanes, and what each session was
+//! given is what its requests select of that.
+#![tactic(auto)]
+
+mod device;
+mod door;
+mod hub;
+mod inlets;
+mod naming;
+mod parted;
+mod pumped;
+mod session;
+mod watching;
+
+pub use hub::Hub;
+pub use hub_door::{DoorNaming, DoorSeat, DoorTable};
+pub use hub_laws::DeviceEnd;
+pub use inlets::Inlets;
+pub use naming::HubNaming;
+pub use parted::Parted;
+pub use pumped::Pumped;
+pub use serve_pieces::{Ending, Piece};
+pub use watching::Look;

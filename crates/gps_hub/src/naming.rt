@@ -1,0 +1,15 @@
+use hub_door::DoorNaming;
+use std::marker::Brand;
+
+/// What no call of a hub changes, and so what is known of it while it stands behind its lock. A call picks it.
+pub trait HubNaming: DoorNaming {
+    ghost use Rattle.hub_laws.specs.Parts.{Terms};
+
+    ghost terms: { Terms };
+}
+
+impl HubNaming for Brand {
+    ghost use Rattle.std.specs.Prelude.{[]};
+
+    ghost terms = { record { names = []; limit = 0; lanes = []; segments = []; wait = 0 } };
+}

@@ -1,0 +1,16 @@
+use crate::inlets::Inlets;
+use gps_lane::{Rx, Tx};
+use hub_laws::DeviceEnd;
+use report_book::Book;
+use serve_pieces::Piece;
+use session_core::Item;
+use std::sync::Wait;
+
+/// What a hub held: its book, the lanes of each device and how the device ended, where it has stopped, and the input lane of each session.
+#[derive(Drop)]
+pub struct Parted<R: Wait + Copy> {
+    pub book: Book<Tx<Item, R>>,
+    pub inlets: Vec<Inlets<R>>,
+    pub ends: Vec<Option<DeviceEnd>>,
+    pub sessions: Vec<Rx<Piece, R>>,
+}

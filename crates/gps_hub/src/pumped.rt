@@ -1,0 +1,16 @@
+use report_book::BookFault;
+
+/// What a look at the lanes of a device or a session did.
+#[derive(Clone, Copy, Debug, PartialEq, Eq)]
+pub enum Pumped {
+    /// One piece was got of a lane.
+    Fed,
+    /// The lanes held nothing.
+    Empty,
+    /// Devices wait until more sessions watch, or the door has closed or failed; so many have watched.
+    Waiting { watched: u32 },
+    /// The device has stopped, or the session is closed.
+    Done,
+    /// A piece was got, and the book refused it: the device was lost, or the session closed.
+    Refused(BookFault),
+}

@@ -1,0 +1,107 @@
+// What each piece of a session's input lane does to the book.
+ghost use Rattle.std.specs.Prelude.{◌≡◌, ◌<◌, ◌⊎◌, length, Some, None};
+ghost use Rattle.book_sessions.specs.Roster.{IsOpenAt};
+ghost use Rattle.gps_lane.specs.Ends.{Taking};
+ghost use Rattle.report_book.specs.Moves.{HangsUp};
+ghost use Rattle.report_book.specs.Refusals.{session_fault};
+ghost use Rattle.report_book.specs.declared.fault.BookFault.TheVariants.{NoMemory as BookNoMemory};
+ghost use Rattle.serve_pieces.specs.declared.piece.Piece.TheVariants.{Input, Last};
+ghost use Rattle.session_core.specs.declared.mark.Close.{Close as CloseValue};
+ghost use Rattle.hub_laws.specs.Steps.{SessionStep, with_got};
+ghost use Rattle.hub_laws.specs.Given.{why_of};
+ghost use Rattle.gps_hub.specs.Pumping.{LookedAt, TookInput};
+
+use crate::pumped::Pumped;
+use gps_lane::{Rx, Tx};
+use report_book::{Book, BookFault};
+use serve_pieces::{Chunk, Ending, Piece};
+use session_core::{Close, Item};
+use std::sync::Wait;
+
+/// Why a session is hung up whose source ended so.
+fn why(ending: Ending) -> Close
+    ensures why { result ≡ why_of ending }
+    ensures known { (result ≡ CloseValue.HungUp) ⊎ (result ≡ CloseValue.ReadFault) ⊎ (result ≡ CloseValue.NoMemory) }
+{
+    match ending {
+        Ending::End => Close::HungUp,
+        Ending::Failed => Close::ReadFault,
+        Ending::NoMemory => Close::NoMemory,
+    }
+}
+
+/// A session is hung up.
+fn hang_up<R: Wait + Copy>(book: &mut Book<Tx<Item, R>>, s: u32, why: Close)
+    requires runs { session_fault book.old s ≡ None }
+    requires why { (why ≡ CloseValue.HungUp) ⊎ (why ≡ CloseValue.ReadFault) ⊎ (why ≡ CloseValue.NoMemory) }
+    ensures { HangsUp s why book.old book.new }
+{
+    match book.hang_up(s, why) {
+        Ok(()) => {}
+        Err(_) => unreachable!(),
+    }
+}
+
+fn hear<R: Wait + Copy>(book: &mut Book<Tx<Item, R>>, s: u32, bytes: &Chunk) -> Pumped
+    requires runs { session_fault book.old s ≡ None }
+    requires within { s < length book.old.sessions }
+    requires open_one { IsOpenAt s book.old.sessions }
+    ensures step { (x : Taking Piece) → SessionStep s book.old book.new x (with_got (Input bytes.now) x) }
+    ensures answer { TookInput result }
+{
+    book.show();
+    match book.input(s, bytes.as_slice()) {
+        Ok(()) => Pumped::Fed,
+        Err(fault) => {
+            hang_up(book, s, Close::NoMemory);
+            Pumped::Refused(fault)
+        }
+    }
+}
+
+fn end<R: Wait + Copy>(book: &mut Book<Tx<Item, R>>, s: u32, ending: Ending)
+    requires runs { session_fault book.old s ≡ None }
+    requires open_one { IsOpenAt s book.old.sessions }
+    ensures { (x : Taking Piece) → SessionStep s book.old book.new x (with_got (Last ending) x) }
+{
+    book.show();
+    hang_up(book, s, why(ending));
+}
+
+/// A piece of a session's input lane.
+fn take_input<R: Wait + Copy>(book: &mut Book<Tx<Item, R>>, s: u32, piece: Piece) -> Pumped
+    requires runs { session_fault book.old s ≡ None }
+    requires within { s < length book.old.sessions }
+    requires open_one { IsOpenAt s book.old.sessions }
+    ensures step { (x : Taking Piece) → SessionStep s book.old book.new x (with_got piece x) }
+    ensures answer { TookInput result }
+{
+    match piece {
+        Piece::Input(bytes) => hear(book, s, &bytes),
+        Piece::Last(ending) => {
+            end(book, s, ending);
+            Pumped::Fed
+        }
+        Piece::Bytes { at: _, bytes: _ } => Pumped::Fed,
+        Piece::Line(_) => Pumped::Fed,
+    }
+}
+
+/// Gets a piece of a session's input lane, where there is one, and gives it to the book.
+pub(crate) fn pump<R: Wait + Copy>(
+    book: &mut Book<Tx<Item, R>>,
+    input: &mut Rx<Piece, R>,
+    s: u32,
+) -> Pumped
+    requires runs { session_fault book.old s ≡ None }
+    requires within { s < length book.old.sessions }
+    requires open_one { IsOpenAt s book.old.sessions }
+    ensures step { SessionStep s book.old book.new input.old input.new }
+    ensures answer { LookedAt result input.old input.new }
+    ensures empty { result ≡ Pumped.Empty → book.new ≡ book.old }
+{
+    match input.pop() {
+        Some(piece) => take_input(book, s, piece),
+        None => Pumped::Empty,
+    }
+}

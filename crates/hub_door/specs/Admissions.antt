@@ -1,0 +1,56 @@
+-- What a list of the door's entries says: the sessions that were admitted, in order, each with its two lanes, and whether the door has closed
+-- or failed. This project's own.
+use Rattle.std.specs.Prelude.{ℕ, Bool, true, false, ◌||◌, List, [], ◌∷◌, ◌++◌}
+use Rattle.std.specs.List.{flat_map, list_any}
+use Rattle.atomic_table.specs.Seated.{TableId}
+use Rattle.hub_door.specs.declared.view.Entry.{Entry}
+use Rattle.hub_door.specs.declared.view.Entry.TheVariants.{Link as LinkEntry, Done}
+use Rattle.hub_door.specs.declared.view.LaneName.{LaneName}
+
+-- a session's outlet lane, with the number of items that may stand in it, and its input lane
+pub record Link : Type 0 where
+  pub outlet : TableId
+  pub cap : ℕ
+  pub input : TableId
+
+abbrev pub link_of : TableId → ℕ → TableId → Link
+link_of outlet cap input = record { outlet = outlet; cap = cap; input = input }
+
+pub record Admissions : Type 0 where
+  pub links : List Link
+  pub done : Bool
+
+abbrev pub links_in : Entry → List Link
+links_in (LinkEntry outlet cap input) = record { outlet = outlet.name; cap = cap; input = input.name } ∷ []
+links_in Done = []
+
+abbrev pub is_done : Entry → Bool
+is_done (LinkEntry outlet cap input) = false
+is_done Done = true
+
+abbrev pub admissions : List Entry → Admissions
+admissions list = record { links = flat_map links_in list; done = list_any is_done list }
+
+abbrev pub lane_name : TableId → LaneName
+lane_name lane = record { marker = record {}; name = lane }
+
+abbrev pub entry_of : Link → Entry
+entry_of link = LinkEntry (lane_name link.outlet) link.cap (lane_name link.input)
+
+-- one more session
+abbrev pub admitting : Link → Admissions → Admissions
+admitting link a = record a { links = a.links ++ link ∷ [] }
+
+-- the door has closed or failed
+abbrev pub finished : Admissions → Admissions
+finished a = record a { done = true }
+
+-- which table of the door and which ledger it is
+pub record DoorId : Type 0 where
+  pub table : TableId
+  pub ledger : ℕ
+  pub parts : ℕ
+
+-- with one more entry
+abbrev pub entered : Entry → Admissions → Admissions
+entered e a = record { links = a.links ++ links_in e; done = a.done || is_done e }

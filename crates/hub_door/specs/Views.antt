@@ -1,0 +1,29 @@
+-- What each kind of seat of the door's table knows. This project's own.
+use Rattle.std.specs.Prelude.{◌≡◌, true, false, List, [], ◌++◌}
+use Rattle.atomic_table.specs.Seated.{TableId}
+use Rattle.atomic_table.specs.Table.{Me}
+use Rattle.hub_door.specs.declared.view.DoorView.{DoorView}
+use Rattle.hub_door.specs.declared.view.Entry.{Entry}
+
+-- the hub's seat, which keeps the list
+abbrev pub keeper : List Entry → DoorView
+keeper list = record { keeps = true; list = list; told = [] }
+
+-- a note of the list as it was
+abbrev pub noted : List Entry → DoorView
+noted list = record { keeps = false; list = list; told = [] }
+
+-- a seat that takes a note in
+abbrev pub meeting : DoorView → List Entry → DoorView
+meeting v told = record { keeps = v.keeps; list = v.list; told = told }
+
+-- these are the first of all
+abbrev pub BeginsWith : List Entry → List Entry → Type 0
+BeginsWith first all = (rest : List Entry) × (all ≡ first ++ rest)
+
+-- the hub's seat of this table
+abbrev pub IsKeeperOf : TableId → TableId → Me (Unit {0}) DoorView → Type 0
+IsKeeperOf table at me = (at ≡ table) × (me ≡ (keeper me.0.list, []))
+
+abbrev pub IsNoteOf : TableId → TableId → Me (Unit {0}) DoorView → Type 0
+IsNoteOf table at me = (at ≡ table) × (me ≡ (noted me.0.list, []))

@@ -1,0 +1,9 @@
+pub mod EdgeLines
+pub mod Readable
+pub mod Devices
+pub mod Forward
+pub mod Sessions
+pub mod Lists
+pub mod Hubs
+pub mod Arms
+pub mod Calls

@@ -1,0 +1,5 @@
+pub mod Parts
+pub mod Given
+pub mod DaemonHub
+pub mod Keeping
+pub mod Steps

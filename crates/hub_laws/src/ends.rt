@@ -1,0 +1,10 @@
+/// How a device ended.
+#[derive(Clone, Copy, Debug, PartialEq, Eq)]
+pub enum DeviceEnd {
+    /// Its sources ended, and it was given all of them.
+    Ended,
+    /// It was lost, since a source of it failed.
+    ReadFault,
+    /// It was lost, since the book or a reader of it met want of memory.
+    NoMemory,
+}

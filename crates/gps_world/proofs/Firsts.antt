@@ -1,9 +1,9 @@
 -- The first source of a place.
-use Rattle.std.proofs.Common.{◌≡◌, ◌≢◌, ℕ, zero, suc, ◌+◌, ◌<◌, ◌≤◌, Bool, true, false, not, cond, true≢false, List, [], ◌∷◌, ◌++◌, length, get_or, take, drop, Option, Some, None, IfSome, refl, sym, ◌∙◌, ap, subst, arith, nat_eq, slice_index_or, option_map, if◌then◌else◌}
+use Rattle.std.proofs.Common.{◌≡◌, ◌≢◌, ℕ, suc, ◌+◌, ◌<◌, ◌≤◌, Bool, true, false, not, cond, true≢false, List, [], ◌∷◌, length, Option, Some, None, IfSome, refl, sym, ◌∙◌, ap, subst, arith, slice_index_or, option_map, if◌then◌else◌}
 use Rattle.std.proofs.lemmas.Option.{none-some}
 use Rattle.std.specs.List.{prefix_len, remove}
 use Rattle.std.specs.Option.{option_and_then}
-use Rattle.std.specs.Cmp.Lexicographic.{pointwise, same_text}
+use Rattle.std.specs.Cmp.Lexicographic.{same_text}
 use Rattle.gps_outside.specs.Told.{Stream}
 use Rattle.gps_world.specs.declared.place.Place.{Place}
 use Rattle.gps_world.specs.declared.place.Place.TheVariants.{File, Tcp, Gpsd}

@@ -1,5 +1,5 @@
 -- A world in memory: what it still holds. This project's own.
-use Rattle.std.specs.Prelude.{◌≡◌, ℕ, Bool, true, not, List, [], ◌∷◌, if◌then◌else◌, Option, Some, None, option_map}
+use Rattle.std.specs.Prelude.{◌≡◌, ℕ, Bool, not, List, [], ◌∷◌, if◌then◌else◌, Option, Some, None, option_map}
 use Rattle.std.specs.Option.{option_and_then}
 use Rattle.gps_fixed.specs.Moment.{Moment}
 use Rattle.gps_outside.specs.Counts.{one_more}
@@ -9,7 +9,7 @@ use Rattle.gps_outside.specs.Told.{Stream}
 use Rattle.gps_world.specs.declared.place.Place.{Place}
 use Rattle.gps_world.specs.declared.world.Opened.{Opened}
 use Rattle.gps_world.specs.declared.world.Opened.TheVariants.{Ready, Failed}
-use Rattle.gps_world.specs.Asking.{Asking, asked_nothing, asked_for, listened_to}
+use Rattle.gps_world.specs.Asking.{Asking, asked_for, listened_to}
 use Rattle.gps_world.specs.Places.{same_place}
 
 -- the sources that are left, each with its place, the door until it is given, the clock that is given next, the counts and what was asked

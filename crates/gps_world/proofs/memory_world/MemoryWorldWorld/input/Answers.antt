@@ -1,4 +1,4 @@
-use Rattle.std.proofs.Common.{sym, ◌∙◌, ap, subst, rules}
+use Rattle.std.proofs.Common.{sym, ◌∙◌, ap}
 use Rattle.gps_outside.specs.Links.{IsUnread}
 use Rattle.gps_world.proofs.Firsts.{have_rest, have_first, bytes_stay, holds_all}
 use Rattle.gps_world.proofs.memory_world.MemoryWorldWorld.input.Goals as goal

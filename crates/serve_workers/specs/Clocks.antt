@@ -1,0 +1,16 @@
+-- The stamps of a clock that several readers share. This project's own.
+use Rattle.std.specs.Prelude.{◌≡◌, List, Option, Some, None}
+use Rattle.std.specs.List.{IsAmong}
+use Rattle.gps_fixed.specs.Moment.{Moment}
+use Rattle.gps_outside.specs.Ticks.{Dial}
+
+-- these are the stamps that the clock may give, where that is told
+abbrev pub MayGive : Option (List Moment) → Option Dial → Type 0
+MayGive None stamps = Unit {0}
+MayGive (Some may) None = ⊥
+MayGive (Some may) (Some dial) = dial.may ≡ may
+
+-- the stamp is one of those, where they are told
+abbrev pub IsAllowed : Option (List Moment) → Moment → Type 0
+IsAllowed None at = Unit {0}
+IsAllowed (Some may) at = IsAmong may at

@@ -1,0 +1,129 @@
+-- The lines of an edges file that are put into a lane: those of at most 64 bytes without their line end. This project's own.
+use Rattle.std.specs.Prelude.{◌≡◌, ℕ, List, [], ◌∷◌, ◌++◌, length, map, nat_le, if◌then◌else◌, Option, Some, None}
+use Rattle.gps_outside.specs.Told.{Stream, Goes, Passes}
+use Rattle.gps_outside.specs.Turns.{TakesAll, TakesSome}
+use Rattle.serve_pieces.specs.declared.piece.Ending.{Ending}
+use Rattle.serve_pieces.specs.declared.piece.Ending.TheVariants.{End, Failed, NoMemory}
+use Rattle.serve_pieces.specs.declared.piece.Piece.{Piece}
+use Rattle.serve_pieces.specs.declared.piece.Piece.TheVariants.{Line}
+use Rattle.text_lines.specs.declared.limit.Limit.{Limit}
+use Rattle.text_lines.specs.declared.limit.Limit.TheVariants.{Text}
+use Rattle.text_lines.specs.Lines.{text_of, open_line, last_lines}
+use Rattle.text_lines.specs.Limits.{fitting_lines}
+use Rattle.text_lines.specs.Standing.{Kept, StandsFor}
+use Rattle.serve_workers.specs.declared.readers.Turn.{Turn}
+use Rattle.serve_workers.specs.declared.readers.Turn.TheVariants.{On, Over, Closed}
+use Rattle.serve_workers.specs.declared.edges.Put.{Put}
+use Rattle.serve_workers.specs.declared.edges.Put.TheVariants as put
+use Rattle.serve_workers.specs.Readings.{last_piece}
+
+abbrev pub edge_limit : Limit
+edge_limit = Text 64
+
+-- the lines whose end is there
+abbrev pub edge_lines : List ℕ → List (List ℕ)
+edge_lines bytes = map text_of (fitting_lines edge_limit bytes)
+
+-- the last line, where it lacks its end
+abbrev pub last_edge_line : List ℕ → List (List ℕ)
+last_edge_line bytes = if nat_le (length (open_line bytes)) 64 then last_lines (open_line bytes) else []
+
+abbrev pub line_pieces : List (List ℕ) → List Piece
+line_pieces lines = map Line lines
+
+-- these are the first of those
+abbrev pub AreFirst : List (List ℕ) → List (List ℕ) → Type 0
+AreFirst first all = (rest : List (List ℕ)) × (all ≡ first ++ rest)
+
+-- Which lines of the bytes were put. At the source's end the last line may lack its end; where memory was wanting, or the reader was told to end, they
+-- are the first ones.
+abbrev pub AreLinesOf : Option Ending → List (List ℕ) → List ℕ → Type 0
+AreLinesOf (Some End) lines bytes = lines ≡ edge_lines bytes ++ last_edge_line bytes
+AreLinesOf (Some Failed) lines bytes = lines ≡ edge_lines bytes
+AreLinesOf (Some NoMemory) lines bytes = AreFirst lines (edge_lines bytes ++ last_edge_line bytes)
+AreLinesOf None lines bytes = AreFirst lines (edge_lines bytes ++ last_edge_line bytes)
+
+-- the bytes that were taken
+abbrev pub TookLines : Option Ending → List ℕ → Option Stream → Option Stream → Type 0
+TookLines (Some End) bytes before after = Goes (TakesAll bytes) before after
+TookLines (Some Failed) bytes before after = Goes (TakesSome bytes) before after
+TookLines (Some NoMemory) bytes before after = Goes (TakesSome bytes) before after
+TookLines None bytes before after = Goes (TakesSome bytes) before after
+
+-- The lines of the bytes that were taken were put, in order, and behind them the last piece, unless the reader was told to end.
+pub record HandsLines (ending : Option Ending) (put put' : List Piece) (before after : Option Stream) : Type 0 where
+  pub bytes : List ℕ
+  pub lines : List (List ℕ)
+  pub puts : put' ≡ (put ++ line_pieces lines) ++ last_piece ending
+  pub are : AreLinesOf ending lines bytes
+  pub took : TookLines ending bytes before after
+
+-- a line that was put, or dropped
+abbrev pub PutsLine : Put → List ℕ → List Piece → List Piece → Type 0
+PutsLine put.Done line before after = after ≡ before ++ Line line ∷ []
+PutsLine put.NoMemory line before after = after ≡ before
+PutsLine put.Closed line before after = after ≡ before
+
+-- all of these lines, or the first of them
+abbrev pub Lines : Put → List (List ℕ) → List (List ℕ) → Type 0
+Lines put.Done got all = all ≡ got
+Lines put.NoMemory got all = AreFirst got all
+Lines put.Closed got all = AreFirst got all
+
+-- what is kept stands for the bytes, where the reading goes on
+abbrev pub StandsOn : Put → Kept → List ℕ → Type 0
+StandsOn put.Done kept bytes = StandsFor kept bytes
+StandsOn put.NoMemory kept bytes = Unit {0}
+StandsOn put.Closed kept bytes = Unit {0}
+
+-- behind these bytes the lines that a piece ends were put
+pub record PutsLines (result : Put) (bytes piece : List ℕ) (kept : Kept) (before after : List Piece) : Type 0 where
+  pub lines : List (List ℕ)
+  pub puts : after ≡ before ++ line_pieces lines
+  pub are : Lines result (edge_lines bytes ++ lines) (edge_lines (bytes ++ piece))
+  pub stands : StandsOn result kept (bytes ++ piece)
+
+-- the line that lacks its end was put, where it is not too long
+abbrev pub PutsLast : Put → List ℕ → List Piece → List Piece → Type 0
+PutsLast put.Done bytes before after = after ≡ before ++ line_pieces (last_edge_line bytes)
+PutsLast put.NoMemory bytes before after = after ≡ before
+PutsLast put.Closed bytes before after = after ≡ before
+
+-- what a turn of the reader took
+abbrev pub TookTurn : Turn → List ℕ → Option Stream → Option Stream → Type 0
+TookTurn On more before after = Goes (Passes more) before after
+TookTurn (Over ending) more before after = TookLines (Some ending) more before after
+TookTurn Closed more before after = TookLines None more before after
+
+-- which lines a turn put, of those that its bytes end
+abbrev pub LinesIn : Turn → List (List ℕ) → List (List ℕ) → Type 0
+LinesIn On got all = all ≡ got
+LinesIn (Over End) got all = all ≡ got
+LinesIn (Over Failed) got all = all ≡ got
+LinesIn (Over NoMemory) got all = AreFirst got all
+LinesIn Closed got all = AreFirst got all
+
+-- what is kept stands for the bytes, until they are lost
+abbrev pub StandsIn : Turn → Kept → List ℕ → Type 0
+StandsIn On kept bytes = StandsFor kept bytes
+StandsIn (Over End) kept bytes = StandsFor kept bytes
+StandsIn (Over Failed) kept bytes = Unit {0}
+StandsIn (Over NoMemory) kept bytes = Unit {0}
+StandsIn Closed kept bytes = Unit {0}
+
+-- turns of the reader behind these bytes
+pub record LineTurns (turn : Turn) (bytes : List ℕ) (kept : Kept) (put put' : List Piece) (before after : Option Stream) : Type 0 where
+  pub more : List ℕ
+  pub lines : List (List ℕ)
+  pub puts : put' ≡ put ++ line_pieces lines
+  pub are : LinesIn turn (edge_lines bytes ++ lines) (edge_lines (bytes ++ more))
+  pub stands : StandsIn turn kept (bytes ++ more)
+  pub took : TookTurn turn more before after
+
+-- the lines that were put, before the last piece
+pub record CutsLines (ending : Option Ending) (put put' : List Piece) (before after : Option Stream) : Type 0 where
+  pub bytes : List ℕ
+  pub lines : List (List ℕ)
+  pub puts : put' ≡ put ++ line_pieces lines
+  pub are : AreLinesOf ending lines bytes
+  pub took : TookLines ending bytes before after

@@ -1,0 +1,6 @@
+pub mod Clocks
+pub mod Putting
+pub mod Readings
+pub mod Writing
+pub mod Watching
+pub mod EdgeLines

@@ -1,0 +1,88 @@
+-- What a reader took from its source, and what it put into its lane. This project's own.
+use Rattle.std.specs.Prelude.{◌≡◌, ℕ, ◌≤◌, ◌<◌, ◌⊎◌, List, [], ◌∷◌, ◌++◌, length, Option, Some, None}
+use Rattle.std.specs.List.{flat_map}
+use Rattle.gps_fixed.specs.Moment.{Moment}
+use Rattle.gps_outside.specs.Counts.{Rose}
+use Rattle.gps_outside.specs.Told.{Stream, Goes, Passes}
+use Rattle.gps_outside.specs.Turns.{TakesAll, TakesSome}
+use Rattle.serve_pieces.specs.declared.piece.Ending.{Ending}
+use Rattle.serve_pieces.specs.declared.piece.Ending.TheVariants.{End, Failed, NoMemory}
+use Rattle.serve_pieces.specs.declared.piece.Piece.{Piece}
+use Rattle.serve_pieces.specs.declared.piece.Piece.TheVariants.{Bytes, Line, Input, Last}
+use Rattle.serve_pieces.specs.Sizes.{IsChunk}
+use Rattle.serve_workers.specs.declared.readers.Turn.{Turn}
+use Rattle.serve_workers.specs.declared.readers.Turn.TheVariants.{On, Over, Closed}
+use Rattle.serve_workers.specs.Clocks.{IsAllowed}
+
+-- each piece is as P says
+abbrev pub Each : (Piece → Type 0) → List Piece → Type 0
+Each P [] = Unit {0}
+Each P (piece ∷ pieces) = P piece × Each P pieces
+
+-- bytes of a device, with a stamp that the clock may give
+abbrev pub IsDevicePiece : Option (List Moment) → Piece → Type 0
+IsDevicePiece may (Bytes at bytes) = IsChunk bytes × IsAllowed may at
+IsDevicePiece may (Line line) = ⊥
+IsDevicePiece may (Input bytes) = ⊥
+IsDevicePiece may (Last ending) = ⊥
+
+-- bytes of a session's requests
+abbrev pub IsInputPiece : Piece → Type 0
+IsInputPiece (Bytes at bytes) = ⊥
+IsInputPiece (Line line) = ⊥
+IsInputPiece (Input bytes) = IsChunk bytes
+IsInputPiece (Last ending) = ⊥
+
+-- the last piece, where one was put
+abbrev pub last_piece : Option Ending → List Piece
+last_piece None = []
+last_piece (Some ending) = Last ending ∷ []
+
+-- these bytes were taken, and at most 512 more
+abbrev pub TakesMore : List ℕ → Stream → Stream → Type 0
+TakesMore bytes before after = (more : List ℕ) × ((length more ≤ 512) × TakesSome (bytes ++ more) before after)
+
+-- The bytes that were put are those taken from the source. At its end nothing is left; at its fault what was left may be lost. Where memory was wanting,
+-- or the reader was told to end, at most 512 bytes were taken and not put.
+abbrev pub Took : Option Ending → List ℕ → Option Stream → Option Stream → Type 0
+Took (Some End) bytes before after = Goes (TakesAll bytes) before after
+Took (Some Failed) bytes before after = Goes (TakesSome bytes) before after
+Took (Some NoMemory) bytes before after = Goes (TakesMore bytes) before after
+Took None bytes before after = Goes (TakesMore bytes) before after
+
+-- Pieces as P says were put, in order, and behind them the last one, unless the reader was told to end. Their bytes are those taken.
+pub record HandsOn (part : Piece → List ℕ) (P : Piece → Type 0) (ending : Option Ending) (put put' : List Piece) (before after : Option Stream) : Type 0 where
+  pub pieces : List Piece
+  pub puts : put' ≡ (put ++ pieces) ++ last_piece ending
+  pub good : Each P pieces
+  pub took : Took ending (flat_map part pieces) before after
+
+-- the source was read: bytes were taken, its quiets or faults are above 0, or nothing is left
+abbrev pub WasRead : ℕ → ℕ → Stream → Stream → Type 0
+WasRead faults quiets before after = (0 < length after.taken) ⊎ (0 < quiets) ⊎ (0 < faults) ⊎ (after.left ≡ [])
+
+-- what a turn of a reader took for the pieces that it put
+abbrev pub TookIn : Turn → List ℕ → Option Stream → Option Stream → Type 0
+TookIn On bytes before after = Goes (Passes bytes) before after
+TookIn (Over ending) bytes before after = Took (Some ending) bytes before after
+TookIn Closed bytes before after = Took None bytes before after
+
+-- the same of turns, before the last piece
+pub record Turns (part : Piece → List ℕ) (P : Piece → Type 0) (turn : Turn) (put put' : List Piece) (before after : Option Stream) : Type 0 where
+  pub pieces : List Piece
+  pub puts : put' ≡ put ++ pieces
+  pub good : Each P pieces
+  pub took : TookIn turn (flat_map part pieces) before after
+
+-- a reading that is over
+abbrev pub over : Option Ending → Turn
+over None = Closed
+over (Some ending) = Over ending
+
+-- the cause of a turn's answer
+abbrev pub HasCause : Turn → ℕ → ℕ → Type 0
+HasCause On before now = Unit {0}
+HasCause (Over End) before now = Unit {0}
+HasCause (Over Failed) before now = Rose before now
+HasCause (Over NoMemory) before now = Unit {0}
+HasCause Closed before now = Unit {0}

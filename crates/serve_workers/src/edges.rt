@@ -1,0 +1,224 @@
+ghost use Rattle.std.specs.Prelude.{◌≡◌, ◌≤◌, ℕ, List, [], Some};
+ghost use Rattle.gps_outside.specs.Counts.{Rose};
+ghost use Rattle.serve_pieces.specs.declared.piece.Ending.{Ending};
+ghost use Rattle.serve_pieces.specs.Sizes.{IsShort};
+ghost use Rattle.text_lines.specs.Standing.{StandsFor};
+ghost use Rattle.serve_workers.specs.Readings.{HasCause, over};
+ghost use Rattle.serve_workers.specs.EdgeLines.{edge_limit, PutsLine, PutsLines, PutsLast, LineTurns, CutsLines, HandsLines};
+
+use crate::pauses::pause;
+use crate::puts::{put, put_ending};
+use crate::readers::{READ, Turn};
+use gps_lane::{Bell, Tx};
+use gps_outside::{ReadStep, Source};
+use serve_pieces::{Ending, Piece};
+use std::alloc::Global;
+use std::sync::Wait;
+use text_lines::{Last, Limit, LineCutter, Next, text_of};
+
+/// How many bytes a line may have without its line end.
+const LONGEST: usize = 64;
+
+/// What came of a line, or of lines.
+enum Put {
+    Done,
+    NoMemory,
+    /// The reader was told to end.
+    Closed,
+}
+
+fn put_line<R: Wait + Copy>(
+    rt: &R,
+    alloc: Global,
+    pieces: &mut Tx<Piece, R>,
+    text: &[u8],
+    own: &Bell,
+    pump: &Bell,
+) -> Put
+    requires { IsShort text.now }
+    ensures puts { PutsLine result text.now pieces.old.put pieces.new.put }
+    ensures lane { pieces.new ≡ record pieces.old { put = pieces.new.put } }
+{
+    match Piece::line(alloc, text) {
+        Ok(piece) => {
+            if put(rt, pieces, piece, own) {
+                pump.ring();
+                Put::Done
+            } else {
+                Put::Closed
+            }
+        }
+        Err(_) => Put::NoMemory,
+    }
+}
+
+/// Puts the lines that a piece of bytes ends. Those that are too long are passed over.
+fn put_lines<R: Wait + Copy>(
+    rt: &R,
+    alloc: Global,
+    pieces: &mut Tx<Piece, R>,
+    cutter: &mut LineCutter,
+    piece: &[u8],
+    own: &Bell,
+    pump: &Bell,
+) -> Put
+    requires limit { cutter.old.limit ≡ edge_limit }
+    requires stands { (bytes : List ℕ) × StandsFor cutter.old bytes }
+    ensures limit { cutter.new.limit ≡ cutter.old.limit }
+    ensures puts { (bytes : List ℕ) → StandsFor cutter.old bytes → PutsLines result bytes piece.now cutter.new pieces.old.put pieces.new.put }
+    ensures lane { pieces.new ≡ record pieces.old { put = pieces.new.put } }
+{
+    let mut rest = piece;
+    'cuts: loop {
+        match cutter.next(rest) {
+            Ok(Next::Line(line, used)) => {
+                match put_line(rt, alloc, pieces, text_of(line.as_slice()), own, pump) {
+                    Put::Done => rest = &rest[used..],
+                    Put::NoMemory => return Put::NoMemory,
+                    Put::Closed => return Put::Closed,
+                }
+            }
+            Ok(Next::TooLong(used)) => rest = &rest[used..],
+            Ok(Next::Used) => return Put::Done,
+            Err(_) => return Put::NoMemory,
+        }
+    }
+}
+
+/// Puts the line that lacks its end.
+fn put_last<R: Wait + Copy>(
+    rt: &R,
+    alloc: Global,
+    pieces: &mut Tx<Piece, R>,
+    cutter: &LineCutter,
+    own: &Bell,
+    pump: &Bell,
+) -> Put
+    requires limit { cutter.now.limit ≡ edge_limit }
+    requires stands { (bytes : List ℕ) × StandsFor cutter.now bytes }
+    ensures puts { (bytes : List ℕ) → StandsFor cutter.now bytes → PutsLast result bytes pieces.old.put pieces.new.put }
+    ensures lane { pieces.new ≡ record pieces.old { put = pieces.new.put } }
+{
+    match cutter.last() {
+        Last::Line(line) => put_line(rt, alloc, pieces, line, own, pump),
+        Last::None => Put::Done,
+        Last::TooLong => Put::Done,
+    }
+}
+
+/// Reads once, and puts the lines that the bytes end.
+fn cut_once<S: Source, R: Wait + Copy>(
+    rt: &R,
+    alloc: Global,
+    source: &mut S,
+    pieces: &mut Tx<Piece, R>,
+    cutter: &mut LineCutter,
+    own: &Bell,
+    pump: &Bell,
+) -> Turn
+    requires limit { cutter.old.limit ≡ edge_limit }
+    requires stands { (bytes : List ℕ) × StandsFor cutter.old bytes }
+    ensures limit { cutter.new.limit ≡ cutter.old.limit }
+    ensures turns { (bytes : List ℕ) → StandsFor cutter.old bytes
+        → LineTurns result bytes cutter.new pieces.old.put pieces.new.put (S.content source.old) (S.content source.new) }
+    ensures lane { pieces.new ≡ record pieces.old { put = pieces.new.put } }
+    ensures faults_stay { S.faults source.old ≤ S.faults source.new }
+    ensures quiets_stay { S.quiets source.old ≤ S.quiets source.new }
+    ensures failed { HasCause result (S.faults source.old) (S.faults source.new) }
+{
+    let mut buf = [0u8; READ];
+    match source.read(&mut buf) {
+        ReadStep::Got(n) => match put_lines(rt, alloc, pieces, cutter, &buf[..n], own, pump) {
+            Put::Done => Turn::On,
+            Put::NoMemory => Turn::Over(Ending::NoMemory),
+            Put::Closed => Turn::Closed,
+        },
+        ReadStep::Quiet => {
+            if pause(rt, own) {
+                Turn::On
+            } else {
+                Turn::Closed
+            }
+        }
+        ReadStep::End => Turn::Over(Ending::End),
+        ReadStep::Failed => Turn::Over(Ending::Failed),
+    }
+}
+
+/// Reads a source to its end, and puts the lines that its bytes end. None: it was told to end before.
+fn cut_on<S: Source, R: Wait + Copy>(
+    rt: &R,
+    alloc: Global,
+    source: &mut S,
+    pieces: &mut Tx<Piece, R>,
+    cutter: &mut LineCutter,
+    own: &Bell,
+    pump: &Bell,
+) -> Option<Ending>
+    requires limit { cutter.old.limit ≡ edge_limit }
+    requires stands { StandsFor cutter.old [] }
+    ensures limit { cutter.new.limit ≡ edge_limit }
+    ensures turns { LineTurns (over result) [] cutter.new pieces.old.put pieces.new.put (S.content source.old) (S.content source.new) }
+    ensures lane { pieces.new ≡ record pieces.old { put = pieces.new.put } }
+    ensures faults_stay { S.faults source.old ≤ S.faults source.new }
+    ensures quiets_stay { S.quiets source.old ≤ S.quiets source.new }
+    ensures failed { HasCause (over result) (S.faults source.old) (S.faults source.new) }
+{
+    'reads: for _ in rt.forever() {
+        match cut_once(rt, alloc, source, pieces, cutter, own, pump) {
+            Turn::On => {}
+            Turn::Over(ending) => return Some(ending),
+            Turn::Closed => return None,
+        }
+    }
+    unreachable!()
+}
+
+/// Reads a source to its end, and puts its lines, with a last one that lacks its end.
+fn cut_all<S: Source, R: Wait + Copy>(
+    rt: &R,
+    alloc: Global,
+    source: &mut S,
+    pieces: &mut Tx<Piece, R>,
+    own: &Bell,
+    pump: &Bell,
+) -> Option<Ending>
+    ensures cuts { CutsLines result pieces.old.put pieces.new.put (S.content source.old) (S.content source.new) }
+    ensures lane { pieces.new ≡ record pieces.old { put = pieces.new.put } }
+    ensures faults_stay { S.faults source.old ≤ S.faults source.new }
+    ensures quiets_stay { S.quiets source.old ≤ S.quiets source.new }
+    ensures failed { HasCause (over result) (S.faults source.old) (S.faults source.new) }
+{
+    let mut cutter = LineCutter::new(alloc, Limit::Text(LONGEST));
+    match cut_on(rt, alloc, source, pieces, &mut cutter, own, pump) {
+        Some(Ending::End) => match put_last(rt, alloc, pieces, &cutter, own, pump) {
+            Put::Done => Some(Ending::End),
+            Put::NoMemory => Some(Ending::NoMemory),
+            Put::Closed => None,
+        },
+        Some(Ending::Failed) => Some(Ending::Failed),
+        Some(Ending::NoMemory) => Some(Ending::NoMemory),
+        None => None,
+    }
+}
+
+/// Reads the lines of an edges file to its end, and puts each that has at most 64 bytes without its line end, LF or CR
+/// LF; the last may lack it. The last piece tells how the source ended. None: it was told to end before that was put, as
+/// [`read_device`](crate::read_device).
+pub fn read_edges<S: Source, R: Wait + Copy>(
+    rt: &R,
+    alloc: Global,
+    source: &mut S,
+    pieces: &mut Tx<Piece, R>,
+    own: &Bell,
+    pump: &Bell,
+) -> Option<Ending>
+    ensures hands { HandsLines result pieces.old.put pieces.new.put (S.content source.old) (S.content source.new) }
+    ensures lane { pieces.new ≡ record pieces.old { put = pieces.new.put } }
+    ensures faults_stay { S.faults source.old ≤ S.faults source.new }
+    ensures quiets_stay { S.quiets source.old ≤ S.quiets source.new }
+    ensures failed { result ≡ Some Ending.Failed → Rose (S.faults source.old) (S.faults source.new) }
+{
+    let ending = cut_all(rt, alloc, source, pieces, own, pump)?;
+    put_ending(rt, pieces, ending, own, pump)
+}

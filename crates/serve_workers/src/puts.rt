@@ -1,0 +1,52 @@
+ghost use Rattle.std.specs.Prelude.{◌≡◌, ◌++◌, IfSome};
+ghost use Rattle.serve_workers.specs.Readings.{last_piece};
+ghost use Rattle.serve_workers.specs.Putting.{puts_if};
+
+use gps_lane::{Bell, Pushed, Tx};
+use serve_pieces::{Ending, Piece};
+use std::sync::Wait;
+
+/// Puts a piece, and waits for room where the lane is full, until it is told to end; then the piece is dropped.
+pub(crate) fn put<R: Wait + Copy>(
+    rt: &R,
+    pieces: &mut Tx<Piece, R>,
+    piece: Piece,
+    own: &Bell,
+) -> bool
+    ensures { pieces.new ≡ puts_if result piece pieces.old }
+{
+    let mut next = piece;
+    for _ in rt.forever() {
+        let closed = own.is_closed();
+        match pieces.push(next) {
+            Pushed::Done => return true,
+            Pushed::Full(back) => {
+                if closed {
+                    return false;
+                }
+                next = back;
+                own.wait(rt);
+            }
+        }
+    }
+    unreachable!()
+}
+
+/// Puts the last piece, unless the reader is told to end.
+pub(crate) fn put_ending<R: Wait + Copy>(
+    rt: &R,
+    pieces: &mut Tx<Piece, R>,
+    ending: Ending,
+    own: &Bell,
+    pump: &Bell,
+) -> Option<Ending>
+    ensures puts { pieces.new ≡ record pieces.old { put = pieces.old.put ++ last_piece result } }
+    ensures ending { IfSome result (λ last. last ≡ ending) }
+{
+    if put(rt, pieces, Piece::Last(ending), own) {
+        pump.ring();
+        Some(ending)
+    } else {
+        None
+    }
+}

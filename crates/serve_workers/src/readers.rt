@@ -1,0 +1,161 @@
+ghost use Rattle.std.specs.Prelude.{◌≡◌, ◌≤◌, Some};
+ghost use Rattle.gps_outside.specs.Counts.{Rose};
+ghost use Rattle.gps_outside.specs.Told.{Goes};
+ghost use Rattle.serve_pieces.specs.declared.piece.Ending.{Ending};
+ghost use Rattle.serve_pieces.specs.Carried.{device_part, input_part};
+ghost use Rattle.serve_workers.specs.Readings.{HandsOn, Turns, HasCause, over, WasRead, IsDevicePiece, IsInputPiece};
+
+use crate::maker::{Maker, Requests, Stamped};
+use crate::pauses::pause;
+use crate::puts::{put, put_ending};
+use crate::{Dials, SharedClock};
+use gps_lane::{Bell, Tx};
+use gps_outside::{Clock, ReadStep, Source};
+use serve_pieces::{Ending, Piece};
+use std::alloc::Global;
+use std::sync::{Mutex, Wait};
+
+/// The bytes of one read.
+pub(crate) const READ: usize = 512;
+
+/// What one turn of a reader comes to.
+pub(crate) enum Turn {
+    On,
+    /// The source ended, or memory was wanting.
+    Over(Ending),
+    /// It was told to end.
+    Closed,
+}
+
+/// Reads once, and puts what came.
+fn read_once<M: Maker, S: Source, R: Wait + Copy>(
+    rt: &R,
+    alloc: Global,
+    maker: &M,
+    source: &mut S,
+    pieces: &mut Tx<Piece, R>,
+    own: &Bell,
+    pump: &Bell,
+) -> Turn
+    ensures turns { Turns M.part M.good result pieces.old.put pieces.new.put (S.content source.old) (S.content source.new) }
+    ensures lane { pieces.new ≡ record pieces.old { put = pieces.new.put } }
+    ensures read { Goes (WasRead (S.faults source.new) (S.quiets source.new)) (S.content source.old) (S.content source.new) }
+    ensures faults_stay { S.faults source.old ≤ S.faults source.new }
+    ensures quiets_stay { S.quiets source.old ≤ S.quiets source.new }
+    ensures failed { HasCause result (S.faults source.old) (S.faults source.new) }
+{
+    let mut buf = [0u8; READ];
+    match source.read(&mut buf) {
+        ReadStep::Got(n) => match maker.piece(rt, alloc, &buf[..n]) {
+            Ok(piece) => {
+                if put(rt, pieces, piece, own) {
+                    pump.ring();
+                    Turn::On
+                } else {
+                    Turn::Closed
+                }
+            }
+            Err(_) => Turn::Over(Ending::NoMemory),
+        },
+        ReadStep::Quiet => {
+            if pause(rt, own) {
+                Turn::On
+            } else {
+                Turn::Closed
+            }
+        }
+        ReadStep::End => Turn::Over(Ending::End),
+        ReadStep::Failed => Turn::Over(Ending::Failed),
+    }
+}
+
+/// Reads a source to its end, and puts what each read gave. None: it was told to end before.
+fn read_on<M: Maker, S: Source, R: Wait + Copy>(
+    rt: &R,
+    alloc: Global,
+    maker: &M,
+    source: &mut S,
+    pieces: &mut Tx<Piece, R>,
+    own: &Bell,
+    pump: &Bell,
+) -> Option<Ending>
+    ensures turns { Turns M.part M.good (over result) pieces.old.put pieces.new.put (S.content source.old) (S.content source.new) }
+    ensures lane { pieces.new ≡ record pieces.old { put = pieces.new.put } }
+    ensures read { Goes (WasRead (S.faults source.new) (S.quiets source.new)) (S.content source.old) (S.content source.new) }
+    ensures faults_stay { S.faults source.old ≤ S.faults source.new }
+    ensures quiets_stay { S.quiets source.old ≤ S.quiets source.new }
+    ensures failed { HasCause (over result) (S.faults source.old) (S.faults source.new) }
+{
+    'reads: for _ in rt.forever() {
+        match read_once(rt, alloc, maker, source, pieces, own, pump) {
+            Turn::On => {}
+            Turn::Over(ending) => return Some(ending),
+            Turn::Closed => return None,
+        }
+    }
+    unreachable!()
+}
+
+/// Reads a source to its end, puts what each read gave, and behind it how the source ended.
+fn read_all<M: Maker, S: Source, R: Wait + Copy>(
+    rt: &R,
+    alloc: Global,
+    maker: &M,
+    source: &mut S,
+    pieces: &mut Tx<Piece, R>,
+    own: &Bell,
+    pump: &Bell,
+) -> Option<Ending>
+    ensures hands { HandsOn M.part M.good result pieces.old.put pieces.new.put (S.content source.old) (S.content source.new) }
+    ensures lane { pieces.new ≡ record pieces.old { put = pieces.new.put } }
+    ensures read { Goes (WasRead (S.faults source.new) (S.quiets source.new)) (S.content source.old) (S.content source.new) }
+    ensures faults_stay { S.faults source.old ≤ S.faults source.new }
+    ensures quiets_stay { S.quiets source.old ≤ S.quiets source.new }
+    ensures failed { result ≡ Some Ending.Failed → Rose (S.faults source.old) (S.faults source.new) }
+{
+    let ending = read_on(rt, alloc, maker, source, pieces, own, pump)?;
+    put_ending(rt, pieces, ending, own, pump)
+}
+
+/// Reads a device to its end. Each read that gives bytes makes a piece of them, with the clock's stamp; the last piece
+/// tells how the source ended. None: it was told to end before that was put, by its own bell, at a read that gave nothing
+/// or at a full lane.
+///
+/// It rings the pump after each piece, and sleeps on its own bell while its lane is full.
+pub fn read_device<S: Source, C: Clock, D: Dials, R: Wait + Copy>(
+    rt: &R,
+    alloc: Global,
+    source: &mut S,
+    clock: &Mutex<SharedClock<C, D>>,
+    pieces: &mut Tx<Piece, R>,
+    own: &Bell,
+    pump: &Bell,
+) -> Option<Ending>
+    ensures hands { HandsOn device_part (IsDevicePiece D.may) result pieces.old.put pieces.new.put (S.content source.old) (S.content source.new) }
+    ensures lane { pieces.new ≡ record pieces.old { put = pieces.new.put } }
+    ensures read { Goes (WasRead (S.faults source.new) (S.quiets source.new)) (S.content source.old) (S.content source.new) }
+    ensures faults_stay { S.faults source.old ≤ S.faults source.new }
+    ensures quiets_stay { S.quiets source.old ≤ S.quiets source.new }
+    ensures failed { result ≡ Some Ending.Failed → Rose (S.faults source.old) (S.faults source.new) }
+{
+    read_all(rt, alloc, &Stamped(clock), source, pieces, own, pump)
+}
+
+/// Reads the requests of a session to their end, as [`read_device`] reads a device. It makes at least one read.
+pub fn read_session<S: Source, R: Wait + Copy>(
+    rt: &R,
+    alloc: Global,
+    source: &mut S,
+    pieces: &mut Tx<Piece, R>,
+    own: &Bell,
+    pump: &Bell,
+) -> Option<Ending>
+    ensures hands { HandsOn input_part IsInputPiece result pieces.old.put pieces.new.put (S.content source.old) (S.content source.new) }
+    ensures lane { pieces.new ≡ record pieces.old { put = pieces.new.put } }
+    ensures read { Goes (WasRead (S.faults source.new) (S.quiets source.new)) (S.content source.old) (S.content source.new) }
+    ensures faults_stay { S.faults source.old ≤ S.faults source.new }
+    ensures quiets_stay { S.quiets source.old ≤ S.quiets source.new }
+    ensures failed { result ≡ Some Ending.Failed → Rose (S.faults source.old) (S.faults source.new) }
+{
+    read_all(rt, alloc, &Requests, source, pieces, own, pump)
+}

@@ -1,0 +1,6 @@
+pub mod Courses
+pub mod Running
+pub mod Dues
+pub mod Writing
+pub mod Reading
+pub mod Complete

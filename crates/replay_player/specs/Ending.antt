@@ -1,0 +1,88 @@
+-- The steps of a script's end. This project's own.
+use Rattle.std.specs.Prelude.{◌≡◌, ◌<◌, ◌+◌, ◌-◌, ◌*◌, ℕ, true, false, Bool, List, ◌++◌, length, get_or, slice_get, slice_index, Option, Some, None, Result, Ok, Err}
+use Rattle.shm_segment.specs.declared.publisher.Phase.{Phase}
+use Rattle.shm_segment.specs.declared.publisher.Phase.TheVariants.{Idle, ToInvalid, ToOdd, ToBody, ToEven, ToValid}
+use Rattle.book_log.specs.Entries.{stops_in}
+use Rattle.book_units.specs.Steps.{state_of}
+use Rattle.book_units.specs.Units.{UnitView}
+use Rattle.report_book.specs.declared.fault.BookFault.{BookFault}
+use Rattle.report_book.specs.declared.fault.BookFault.TheVariants as book
+use Rattle.replay_monitors.specs.Stored.{shown_state, stores_at_end}
+use Rattle.replay_player.specs.Clients.{Client, after_take}
+use Rattle.replay_player.specs.Effects.{with_client}
+use Rattle.replay_player.specs.Ends.{all_drained, drained, published}
+use Rattle.replay_player.specs.Playing.{Plays, StageView}
+use Rattle.replay_player.specs.States.{State, samples_at}
+
+-- a call of a book did not fail for want of memory
+abbrev pub IsServed : Result (Unit {0}) BookFault → Type 0
+IsServed (Ok _) = Unit {0}
+IsServed (Err book.NoMemory) = ⊥
+IsServed (Err fault) = Unit {0}
+
+-- each device has ended or was lost
+abbrev pub HaveStopped : State → Type 0
+HaveStopped state = (d : ℕ) → d < length state.names → stops_in d state.log ≡ true
+
+-- the names, the first numbers and the log are the same
+pub record Alike (old new : State) : Type 0 where
+  pub names : new.names ≡ old.names
+  pub firsts : new.firsts ≡ old.firsts
+  pub log : new.log ≡ old.log
+
+-- the stage stands for a state that is alike
+pub record Stands (new : StageView) (state : State) : Type 0 where
+  pub now : State
+  pub plays : Plays new now
+  pub alike : Alike state now
+
+-- so many items are taken at once: no outlet keeps more
+abbrev pub most_kept : ℕ
+most_kept = 65_536
+
+-- all items of a session are taken
+abbrev pub emptied : ℕ → Client → State → State
+emptied s c state = with_client s (after_take most_kept state.names state.log c) state
+
+-- the lines of one session
+pub record DrainsOne (s : ℕ) (new : StageView) (out out' : List ℕ) (state : State) (c : Client) : Type 0 where
+  pub plays : Plays new (emptied s c state)
+  pub written : out' ≡ out ++ drained state.names state.log s c
+
+-- the lines of all sessions
+pub record Drains (new : StageView) (out out' : List ℕ) (state : State) : Type 0 where
+  pub stands : Stands new state
+  pub written : out' ≡ out ++ all_drained state.names state.log 0 state.clients
+
+-- how many stores are at most left of a sample in this phase
+abbrev pub phase_left : Phase → ℕ
+phase_left Idle = 0
+phase_left ToInvalid = 13
+phase_left ToOdd = 12
+phase_left (ToBody place) = 3 + (8 - place)
+phase_left ToEven = 2
+phase_left ToValid = 1
+
+-- how many stores a unit has left at most: each waiting sample takes thirteen
+abbrev pub unit_left : Option UnitView → ℕ
+unit_left None = 0
+unit_left (Some u) = 13 * length u.waiting + phase_left u.publisher.phase
+
+abbrev pub stores_left : ℕ → List UnitView → ℕ
+stores_left u units = unit_left (slice_get units u)
+
+-- a unit shows what it shows at its end
+abbrev pub IsPublished : ℕ → StageView → State → Type 0
+IsPublished u s state =
+    (free : UnitView) → state_of (get_or s.book.units u free)
+    ≡ shown_state (slice_index state.firsts u) (samples_at u state) (stores_at_end (slice_index state.firsts u) (samples_at u state))
+
+-- a step of a unit; where it makes no store, the unit has come to its end
+pub record PublishesOne (u : ℕ) (more : Bool) (new : StageView) (state : State) : Type 0 where
+  pub stands : Stands new state
+  pub last : more ≡ false → IsPublished u new state
+
+-- the line of one unit
+pub record Shows (u : ℕ) (new : StageView) (out out' : List ℕ) (state : State) : Type 0 where
+  pub stands : Stands new state
+  pub written : out' ≡ out ++ published state u

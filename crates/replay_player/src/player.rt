@@ -1,0 +1,125 @@
+//! Any event of a script.
+
+ghost use Rattle.std.specs.Prelude.{◌≡◌, ◌≤◌, ◌++◌, OnOk, List, [], replicate};
+ghost use Rattle.replay_script.specs.Events.{Fits};
+ghost use Rattle.replay_player.specs.Effects.{effect};
+ghost use Rattle.replay_player.specs.Ends.{written_at_end};
+ghost use Rattle.replay_player.specs.Players.{Played, Stands};
+ghost use Rattle.replay_player.specs.Playing.{Plays, declared_state};
+ghost use Rattle.replay_player.specs.States.{State, new_state};
+
+use crate::declarations::Declarations;
+use crate::stage::Stage;
+use crate::turn::Turn;
+use gps_fixed::{Bytes, NoMemory};
+use replay_script::Event;
+use std::alloc::Global;
+
+/// A script that is being played.
+#[derive(Drop)]
+pub enum Player {
+    /// No event has come: devices and units are declared.
+    Declaring(Declarations),
+    /// An event has come.
+    Playing(Stage),
+}
+
+/// On a stage.
+fn play_on(
+    mut stage: Stage,
+    queue: u32,
+    event: Event,
+    out: &mut Bytes,
+) -> Result<Option<Player>, NoMemory>
+    requires least { 1 ≤ queue }
+    requires most { queue ≤ 65536 }
+    requires fits { Fits event }
+    requires known { (state : State) × Plays stage state }
+    ensures played { (state : State) → Plays stage state → Played result (effect queue state event) out.old out.new }
+{
+    match stage.play(queue, event, out)? {
+        Turn::Made => Ok(Some(Player::Playing(stage))),
+        Turn::Refused => Ok(None),
+    }
+}
+
+/// Before the first event, which opens the stage.
+fn play_first(
+    mut declarations: Declarations,
+    queue: u32,
+    event: Event,
+    out: &mut Bytes,
+) -> Result<Option<Player>, NoMemory>
+    requires least { 1 ≤ queue }
+    requires most { queue ≤ 65536 }
+    requires fits { Fits event }
+    ensures played { Played result (effect queue (declared_state declarations.names declarations.firsts) event) out.old out.new }
+{
+    match event {
+        Event::Nothing => Ok(Some(Player::Declaring(declarations))),
+        Event::Device(name) => match declarations.declare(name)? {
+            Turn::Made => Ok(Some(Player::Declaring(declarations))),
+            Turn::Refused => Ok(None),
+        },
+        Event::Segment { unit, first } => match declarations.number(unit, first) {
+            Turn::Made => Ok(Some(Player::Declaring(declarations))),
+            Turn::Refused => Ok(None),
+        },
+        event => {
+            let stage = declarations.begin()?;
+            play_on(stage, queue, event, out)
+        }
+    }
+}
+
+impl Player {
+    /// No line was played. Takes no memory.
+    pub fn new(alloc: Global, limit: u32) -> Player
+        requires some { 1 ≤ limit }
+        requires most { limit ≤ 33554432 }
+        ensures { Stands result new_state }
+    {
+        Player::Declaring(Declarations::new(alloc, limit))
+    }
+
+    /// Does what an event does, and adds what it writes; none where it may not come now. An outlet keeps `queue` items where the event
+    /// says no other number.
+    pub fn play(self, queue: u32, event: Event, out: &mut Bytes) -> Result<Option<Player>, NoMemory>
+        requires least { 1 ≤ queue }
+        requires most { queue ≤ 65536 }
+        requires fits { Fits event }
+        requires known { (state : State) × Stands self state }
+        ensures played { (state : State) → Stands self state → Played result (effect queue state event) out.old out.new }
+    {
+        match self {
+            Player::Declaring(declarations) => play_first(declarations, queue, event, out),
+            Player::Playing(stage) => play_on(stage, queue, event, out),
+        }
+    }
+
+    /// Does what happens at a script's end, and adds what it writes.
+    pub fn finish(self, out: &mut Bytes) -> Result<(), NoMemory>
+        requires known { (state : State) × Stands self state }
+        ensures writes { (state : State) → Stands self state → OnOk result (out.new ≡ out.old ++ written_at_end state) }
+    {
+        match self {
+            Player::Declaring(declarations) => finish_first(declarations, out),
+            Player::Playing(stage) => finish_on(stage, out),
+        }
+    }
+}
+
+/// On a stage.
+fn finish_on(mut stage: Stage, out: &mut Bytes) -> Result<(), NoMemory>
+    ensures { (state : State) → Plays stage state → OnOk result (out.new ≡ out.old ++ written_at_end state) }
+{
+    stage.end(out)
+}
+
+/// Where no event came, on the stage of the declarations.
+fn finish_first(declarations: Declarations, out: &mut Bytes) -> Result<(), NoMemory>
+    ensures { OnOk result (out.new ≡ out.old ++ written_at_end (declared_state declarations.names declarations.firsts)) }
+{
+    let stage = declarations.begin()?;
+    finish_on(stage, out)
+}

@@ -19,7 +19,7 @@ run() {
     status=$?
 }
 
-usage='usage: gpsrelay decode|pseudo'
+usage='usage: gpsrelay decode|pseudo|lines'
 sentence='$GPRMC,123519,A,4807.038,N,01131.000,E,022.4,084.4,230394,003.1,W*6A'
 line='{"class":"TPV","device":"stdin","mode":2,"time":"1994-03-23T12:35:19.000Z","lat":48.117300000,"lon":11.516666667,"track":84.4000,"speed":11.524}'
 later='$GPGGA,123520,4807.038,N,01131.000,E,1,08,0.9,545.4,M,46.9,M,,*4D'
@@ -52,7 +52,7 @@ check 'one byte more than the history: no line' '' "$(cat "$place/out")"
 run decode --history 70
 check 'as many bytes as the history: status' 0 "$status"
 
-for words in '' 'frob' 'decode --history 0' 'decode --history x' 'decode --help' 'decode more' 'pseudo more' 'serve'; do
+for words in '' 'frob' 'decode --history 0' 'decode --history x' 'decode --help' 'decode more' 'pseudo more' 'lines more' 'lines --history 5' 'serve'; do
     run $words
     check "refused words '$words': status" 2 "$status"
     check "refused words '$words': nothing on standard output" '' "$(cat "$place/out")"
@@ -103,6 +103,31 @@ check 'the sentences are read: status' 0 "$status"
 check 'the sentences are read: the same fixes' "$(cksum <"$place/wanted")" "$(cksum <"$place/out")"
 run pseudo
 check 'sentences as sentences: the same' "$(cksum <"$place/in")" "$(cksum <"$place/out")"
+
+# The lines that decode writes are read back; a line that it does not write is refused.
+run decode
+cp "$place/out" "$place/in"
+run lines
+check 'lines: status' 0 "$status"
+check 'lines: their numbers' 'version 0 devices 0 device 0 watch 0 poll 0 tpv 90 sky 0 toff 0 pps 0 error 0' "$(cat "$place/out")"
+{ printf '%s\r\n' "$line" "${line/11.524/11.52}"; } >"$place/in"
+run lines
+check 'a line that is none: status' 6 "$status"
+check 'a line that is none: its number' 'bad line 2' "$(cat "$place/out")"
+printf '%s\r\n%s' "$line" "$line" >"$place/in"
+run lines
+check 'a line without its end: status' 6 "$status"
+check 'a line without its end: its number' 'bad line 2' "$(cat "$place/out")"
+head -c 1048577 /dev/zero >"$place/in"
+run lines
+check 'a line that is too long: status' 6 "$status"
+: >"$place/in"
+run lines
+check 'no lines: status' 0 "$status"
+"$program" lines <"$samples" >"$place/out" 2>"$place/err"
+check 'lines, and a read that fails: status' 3 $?
+check 'lines, and a read that fails: nothing is written' '' "$(cat "$place/out")"
+printf '%s\r\n' "$sentence" >"$place/in"
 
 "$program" frob 2>&-
 check 'refused words, standard error closed: status' 2 $?

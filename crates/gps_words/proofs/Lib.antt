@@ -4,3 +4,4 @@ pub mod Readings
 pub mod Rows
 pub mod DeviceWords
 pub mod Colons
+pub mod Within

@@ -1,6 +1,6 @@
 -- Words written out, and what they ask for.
 use Rattle.std.specs.Prelude.{⊤}
-use Rattle.std.proofs.Common.{◌≡◌, true, false, List, [], ◌∷◌, Option, Some, None, codes, refl}
+use Rattle.std.proofs.Common.{◌≡◌, List, [], ◌∷◌, Option, Some, None, codes, refl}
 use Rattle.clap.specs.Walk.{Text}
 use Rattle.clap.proofs.OnLiterals.{clap_on_literals}
 use Rattle.gps_words.specs.Asked.{asked_of}
@@ -9,12 +9,11 @@ use Rattle.gps_fixed.specs.Scaled.{whole_of}
 use Rattle.gps_fixed.specs.Numeral.{numeral}
 use Rattle.gps_words.specs.Devices.{devices_in, devices_of, edges_end_names, edges_for, halves, is_address, is_port, last_colon, target_in, target_of, word_in, words_in}
 use Rattle.gps_words.specs.Generate.{generate_in, generate_of}
-use Rattle.gps_words.specs.Lines.{lines_app}
-use Rattle.gps_words.specs.Options.{are_taken, read_by}
+use Rattle.gps_words.specs.Options.{read_by}
 use Rattle.gps_words.specs.Replay.{replay_of}
 use Rattle.gps_words.specs.Serve.{Serve, numbers_in, serve_asked_of, serve_in}
 use Rattle.gps_words.specs.declared.command.Command.{Command}
-use Rattle.gps_words.specs.declared.command.Command.TheVariants.{Decode}
+use Rattle.gps_words.specs.declared.command.Command.TheVariants.{Decode, Lines}
 use Rattle.gps_words.specs.declared.device.Input.TheVariants.{File, Tcp}
 use Rattle.gps_words.specs.declared.serve.ServeNumbers.{ServeNumbers}
 
@@ -110,12 +109,12 @@ replayed : replay_of (codes "replay" ∷ codes "--queue" ∷ codes "65536" ∷ [
 unfolding clap_on_literals read_by digits_after
 replayed = refl
 
-option_of_lines : are_taken lines_app (codes "lines" ∷ codes "--history=5" ∷ []) ≡ false
-unfolding clap_on_literals
+option_of_lines : asked_of (codes "lines" ∷ codes "--history=5" ∷ []) ≡ None
+unfolding clap_on_literals read_by
 option_of_lines = refl
 
-lines_alone : are_taken lines_app (codes "lines" ∷ []) ≡ true
-unfolding clap_on_literals
+lines_alone : asked_of (codes "lines" ∷ []) ≡ Some Lines
+unfolding clap_on_literals read_by
 lines_alone = refl
 
 -- what computes the devices and the numbers of words that are written out

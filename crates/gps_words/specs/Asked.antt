@@ -5,6 +5,7 @@ use Rattle.std.specs.Prelude.{List, [], ◌∷◌, Option, None, codes, if◌the
 use Rattle.std.specs.Str.{bytes_eq}
 use Rattle.clap.specs.Walk.{Text}
 use Rattle.gps_words.specs.Decode.{decode_of}
+use Rattle.gps_words.specs.Lines.{lines_of}
 use Rattle.gps_words.specs.Pseudo.{pseudo_of}
 use Rattle.gps_words.specs.declared.command.Command.{Command}
 
@@ -13,4 +14,5 @@ asked_of [] = None
 asked_of (word ∷ words) =
     if bytes_eq word (codes "decode") then decode_of (word ∷ words)
     else (if bytes_eq word (codes "pseudo") then pseudo_of (word ∷ words)
-    else None)
+    else (if bytes_eq word (codes "lines") then lines_of (word ∷ words)
+    else None))

@@ -8,3 +8,4 @@ pub mod Options
 pub mod Pseudo
 pub mod Replay
 pub mod Serve
+pub mod Within

@@ -2,6 +2,7 @@ ghost use Rattle.std.specs.Prelude.{◌≡◌, None, IfOk, map, string_bytes};
 ghost use Rattle.gps_words.specs.Asked.{asked_of};
 
 use crate::decode::decode;
+use crate::lines::lines;
 use crate::pseudo::pseudo;
 use crate::{Command, WordsFault};
 use std::alloc::Global;
@@ -18,6 +19,8 @@ pub fn asked(alloc: Global, words: &[String]) -> Result<Command, WordsFault>
                 decode(alloc, words)
             } else if word.as_str() == "pseudo" {
                 pseudo(alloc, words)
+            } else if word.as_str() == "lines" {
+                lines(alloc, words)
             } else {
                 Err(WordsFault::Refused)
             }

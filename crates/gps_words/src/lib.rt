@@ -21,6 +21,5 @@ pub use choice::asked;
 pub use command::{Command, WordsFault};
 pub use device::Input;
 pub use generate::{GenerateOptions, generate_options};
-pub use lines::lines_taken;
 pub use replay::{ReplayOptions, replay_options};
 pub use serve::{ServeNumbers, ServeOptions, serve_asked};

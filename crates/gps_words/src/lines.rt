@@ -1,16 +1,33 @@
-ghost use Rattle.std.specs.Prelude.{◌≡◌, true, false, IfOk, map, string_bytes};
-ghost use Rattle.gps_words.specs.Lines.{lines_app};
-ghost use Rattle.gps_words.specs.Options.{are_taken};
+ghost use Rattle.std.specs.Prelude.{◌≡◌, Some, None, IfOk, map, string_bytes};
+ghost use Rattle.clap.specs.Simple.{app_of};
+ghost use Rattle.clap.specs.Words.{found_of, rows_of};
+ghost use Rattle.gps_words.specs.Lines.{lines_app, lines_in, lines_of};
 
-use crate::WordsFault;
 use crate::options::{bare, matches_in};
+use crate::{Command, WordsFault};
+use clap::ArgMatches;
 use std::alloc::Global;
 
-/// The words of `lines`, its name among them: there is no other.
-pub fn lines_taken(alloc: Global, words: &[String]) -> Result<(), WordsFault>
-    ensures ok { IfOk result (λ _. are_taken lines_app (map string_bytes words.now) ≡ true) }
-    ensures refused { result ≡ Err WordsFault.Refused → are_taken lines_app (map string_bytes words.now) ≡ false }
+fn command<'a>(alloc: Global) -> clap::Command<'a>
+    ensures { app_of result ≡ lines_app }
 {
-    let _matches = matches_in(bare(alloc, "lines"), words)?;
-    Ok(())
+    bare(alloc, "lines")
+}
+
+fn lines_in(_matches: &ArgMatches) -> Option<Command>
+    ensures { result ≡ lines_in (rows_of (found_of _matches.now)) }
+{
+    Some(Command::Lines)
+}
+
+/// The words of `lines`: its name alone.
+#[tactic(auto, using(crate::proofs::Readings::read_is, crate::proofs::Readings::read_refused))]
+pub(crate) fn lines(alloc: Global, words: &[String]) -> Result<Command, WordsFault>
+    ensures ok { IfOk result (λ command. lines_of (map string_bytes words.now) ≡ Some command) }
+    ensures refused { result ≡ Err WordsFault.Refused → lines_of (map string_bytes words.now) ≡ None }
+{
+    let command = command(alloc);
+    let matches = matches_in(command, words)?;
+    let lines = lines_in(&matches).ok_or(WordsFault::Refused)?;
+    Ok(lines)
 }

@@ -2,6 +2,7 @@ ghost use Rattle.std.specs.Prelude.{◌≡◌, true, false, None, Some, IfOk, ma
 ghost use Rattle.clap.specs.Simple.{app_of};
 ghost use Rattle.clap.specs.Words.{found_of, rows_of};
 ghost use Rattle.gps_words.specs.Devices.{shown_devices};
+ghost use Rattle.gps_words.specs.Within.{IsWithin};
 ghost use Rattle.gps_words.specs.Serve.{devices_among, if_address, listen_in, monitor_in, numbers_in, serve_app, serve_asked_of, serve_in, serve_of, shown, wait_in, with_numbers};
 
 use crate::WordsFault;
@@ -169,11 +170,7 @@ fn serve(alloc: Global, words: &[String]) -> Result<ServeOptions, WordsFault>
     }
 }
 
-/// The options of `serve` that the words ask for. `Refused` comes exactly where the first word is another or is missing, where
-/// `clap` finds a fault in the words or a number's text is none in its range, where the text of `--listen` is no
-/// `HOST:PORT`, or where there are not 1 to 16 device words, which name at most 8 devices: each name has one word that says
-/// where its bytes come from, and at most one with its edges, behind that.
-pub fn serve_asked(alloc: Global, words: &[String]) -> Result<ServeOptions, WordsFault>
+fn asked_for(alloc: Global, words: &[String]) -> Result<ServeOptions, WordsFault>
     ensures ok { IfOk result (λ options. serve_asked_of (map string_bytes words.now) ≡ Some (shown options)) }
     ensures refused { result ≡ Err WordsFault.Refused → serve_asked_of (map string_bytes words.now) ≡ None }
 {
@@ -187,4 +184,17 @@ pub fn serve_asked(alloc: Global, words: &[String]) -> Result<ServeOptions, Word
             }
         }
     }
+}
+
+/// The options of `serve` that the words ask for. `Refused` comes exactly where the first word is another or is missing, where
+/// `clap` finds a fault in the words or a number's text is none in its range, where the text of `--listen` is no
+/// `HOST:PORT`, or where there are not 1 to 16 device words, which name at most 8 devices: each name has one word that says
+/// where its bytes come from, and at most one with its edges, behind that.
+pub fn serve_asked(alloc: Global, words: &[String]) -> Result<ServeOptions, WordsFault>
+    ensures ok { IfOk result (λ options. serve_asked_of (map string_bytes words.now) ≡ Some (shown options)) }
+    ensures within { IfOk result (λ options. IsWithin (shown options)) }
+    ensures refused { result ≡ Err WordsFault.Refused → serve_asked_of (map string_bytes words.now) ≡ None }
+{
+    let options = asked_for(alloc, words)?;
+    Ok(options)
 }

@@ -2,7 +2,7 @@
 
 use crate::{
     Command, GenerateOptions, Input, ReplayOptions, WordsFault, asked, generate_options,
-    lines_taken, replay_options, serve_asked,
+    replay_options, serve_asked,
 };
 use gps_fixed::NoMemory;
 use std::alloc::Global;
@@ -46,8 +46,7 @@ fn each_command_reads_its_words(rt: HostRuntime) -> Result<(), Fail> {
     let words = words_of(alloc, &["generate", "--seed", "1", "--size", "10"])?;
     let generate = GenerateOptions { seed: 1, size: 10 };
     assert!(rt; generate_options(alloc, words.as_slice()) == Ok(generate));
-    let words = words_of(alloc, &["lines"])?;
-    assert!(rt; lines_taken(alloc, words.as_slice()) == Ok(()));
+    assert!(rt; asked_by(alloc, &["lines"])? == Ok(Command::Lines));
     Ok(())
 }
 

@@ -76,7 +76,7 @@ stamps_on readings at bytes clock clock' clock'' all given =
     (goes_on (GivesAll (stamps_of readings)) (Gives at) (GivesAll (stamps_of readings ++ at ∷ [])) clock clock' clock''
     (gives_more (stamps_of readings) at) all given)
 
-passes_none : (source : Option Stream) → Goes (Passes []) source source
+pub passes_none : (source : Option Stream) → Goes (Passes []) source source
 passes_none None = tt
 passes_none (Some stream) = record { next = refl; joins = sym (append-nil stream.taken) }
 

@@ -1,3 +1,5 @@
+pub mod Commands
 pub mod Decoding
+pub mod LineStatuses
 pub mod LineTexts
 pub mod Statuses

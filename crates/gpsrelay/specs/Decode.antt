@@ -9,8 +9,6 @@ use Rattle.gps_outside.specs.Ticks.{Dial, GivesAll}
 use Rattle.gps_outside.specs.Turns.{PassesMore, TakesAll, TakesSome}
 use Rattle.device_core.specs.Reports.{Gains}
 use Rattle.device_core.specs.Standing.{Kept, StandsFor}
-use Rattle.gps_words.specs.declared.command.Command.{Command}
-use Rattle.gps_words.specs.declared.command.Command.TheVariants as command
 use Rattle.gpsrelay.specs.declared.outcome.Outcome.{Outcome}
 use Rattle.gpsrelay.specs.declared.outcome.Outcome.TheVariants.{Done, ReadFault, TooQuiet, WriteFault, Full, NoMemory}
 use Rattle.gpsrelay.specs.declared.outcome.Fault.{Fault}
@@ -85,7 +83,3 @@ abbrev pub HandsOn : {X : Type 0} → Texts → Result X Fault → List Symbol �
 HandsOn says (Ok _) stream more kept before after = StandsFor kept (stream ++ more) × ((out : List Body) × (Gains stream more out × Goes (Appends (texts_of says out)) before after))
 HandsOn says (Err Sink) stream more kept before after = (out : List Body) × (Gains stream more out × Goes (AppendsPart (texts_of says out)) before after)
 HandsOn says (Err NoMemoryFault) stream more kept before after = before ≡ after
-
--- what is asked for is a command that reads a device, with so long a history
-abbrev pub ReadsDevice : Option Command → ℕ → Type 0
-ReadsDevice asked history = (asked ≡ Some (command.Decode history)) ⊎ (asked ≡ Some (command.Pseudo history))

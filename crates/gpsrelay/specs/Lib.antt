@@ -1,3 +1,4 @@
+pub mod Commands
 pub mod Readings
 pub mod Texts
 pub mod Outcomes

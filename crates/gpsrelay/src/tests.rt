@@ -387,6 +387,7 @@ fn words_choose_the_history_or_are_refused(rt: HostRuntime) -> Result<(), Fail> 
         (&["decode", "--history", "70"], 0, RMC_LINE),
         (&["decode", "--history", "0"], 2, b""),
         (&["pseudo", "--history", "69"], 5, b""),
+        (&["lines"], 6, b"bad line 1\n"),
         (&["frob"], 2, b""),
         (&[], 2, b""),
     ];

@@ -1,5 +1,5 @@
 -- The lines of a script, and the event that each of them is. What earlier lines decide, as which devices there are, is not said here. This project's own.
-use Rattle.std.specs.Prelude.{ℕ, ◌==◌, List, [], ◌∷◌, Option, Some, None, option_and_then, unwrap_or, codes, if◌then◌else◌}
+use Rattle.std.specs.Prelude.{ℕ, ◌≤◌, length, ◌==◌, List, [], ◌∷◌, Option, Some, None, option_and_then, unwrap_or, codes, if◌then◌else◌}
 use Rattle.std.specs.Option.{option_map}
 use Rattle.std.specs.Str.{bytes_eq}
 use Rattle.gps_report.specs.Name.{is_name}
@@ -73,3 +73,20 @@ unfoldable pub event_in : List ℕ → Option Event
 event_in [] = Some Nothing
 event_in (c ∷ line) =
     if c == 35 then Some Nothing else option_and_then (λ p. word_event p.0 p.1) (halves 32 (c ∷ line))
+
+-- 1 to 512 bytes
+abbrev pub IsPiece : List ℕ → Type 0
+IsPiece bytes = (1 ≤ length bytes) × (length bytes ≤ 512)
+
+-- 1 to 65,536 items, where a number is given
+abbrev pub IsCap : Option ℕ → Type 0
+IsCap None = Unit {0}
+IsCap (Some cap) = (1 ≤ cap) × (cap ≤ 65_536)
+
+-- the ranges of an event's bytes and numbers
+abbrev pub Fits : Event → Type 0
+Fits (Segment unit first) = first ≤ 1_073_741_823
+Fits (Feed device at bytes) = IsPiece bytes
+Fits (Open session cap) = IsCap cap
+Fits (Input session bytes) = IsPiece bytes
+Fits event = Unit {0}

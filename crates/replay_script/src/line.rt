@@ -1,6 +1,6 @@
-ghost use Rattle.std.specs.Prelude.{◌≡◌, IfOk, Some, unwrap_or};
+ghost use Rattle.std.specs.Prelude.{◌≡◌, IfOk, IfSome, Some, unwrap_or};
 ghost use Rattle.pps_edges.specs.Scan.{edge_in};
-ghost use Rattle.replay_script.specs.Events.{bytes_event, device_in, edge_at, event_in, feed_in, input_in, monitor_in, number_event, open_in, word_event};
+ghost use Rattle.replay_script.specs.Events.{Fits, bytes_event, device_in, edge_at, event_in, feed_in, input_in, monitor_in, number_event, open_in, word_event};
 
 use crate::event::Event;
 use crate::payload::{Payload, payload_bytes};
@@ -12,7 +12,8 @@ use std::alloc::Global;
 
 #[tactic(auto, unfolding(crate::specs::Events::device_in))]
 fn device(alloc: Global, text: &[u8]) -> Result<Option<Event>, NoMemory>
-    ensures { IfOk result (λ event. event ≡ device_in text.now) }
+    ensures is { IfOk result (λ event. event ≡ device_in text.now) }
+    ensures fits { IfOk result (λ event. IfSome event Fits) }
 {
     match Name::of(alloc, text) {
         Ok(name) => Ok(Some(Event::Device(name))),
@@ -23,7 +24,8 @@ fn device(alloc: Global, text: &[u8]) -> Result<Option<Event>, NoMemory>
 
 #[tactic(auto, unfolding(crate::specs::Events::feed_in))]
 fn feed(alloc: Global, payload: Payload, text: &[u8]) -> Result<Option<Event>, NoMemory>
-    ensures { IfOk result (λ event. event ≡ feed_in payload text.now) }
+    ensures is { IfOk result (λ event. event ≡ feed_in payload text.now) }
+    ensures fits { IfOk result (λ event. IfSome event Fits) }
 {
     let Some((device, rest)) = numbered(text) else {
         return Ok(None);
@@ -39,7 +41,8 @@ fn feed(alloc: Global, payload: Payload, text: &[u8]) -> Result<Option<Event>, N
 
 #[tactic(auto, unfolding(crate::specs::Events::input_in))]
 fn input(alloc: Global, payload: Payload, text: &[u8]) -> Result<Option<Event>, NoMemory>
-    ensures { IfOk result (λ event. event ≡ input_in payload text.now) }
+    ensures is { IfOk result (λ event. event ≡ input_in payload text.now) }
+    ensures fits { IfOk result (λ event. IfSome event Fits) }
 {
     let Some((session, rest)) = numbered(text) else {
         return Ok(None);
@@ -58,7 +61,8 @@ fn edge_in_line(text: &[u8]) -> Option<Edge>
 
 #[tactic(auto, unfolding(crate::specs::Events::edge_at))]
 fn edge(text: &[u8]) -> Option<Event>
-    ensures { result ≡ edge_at text.now }
+    ensures is { result ≡ edge_at text.now }
+    ensures fits { IfSome result Fits }
 {
     let (device, line) = numbered(text)?;
     let edge = edge_in_line(line)?;
@@ -67,7 +71,8 @@ fn edge(text: &[u8]) -> Option<Event>
 
 #[tactic(auto, unfolding(crate::specs::Events::open_in))]
 fn open(text: &[u8]) -> Option<Event>
-    ensures { result ≡ open_in text.now }
+    ensures is { result ≡ open_in text.now }
+    ensures fits { IfSome result Fits }
 {
     if let Some(session) = number(text) {
         return Some(Event::Open { session, cap: None });
@@ -81,7 +86,8 @@ fn open(text: &[u8]) -> Option<Event>
 
 #[tactic(auto, unfolding(crate::specs::Events::monitor_in))]
 fn monitor(text: &[u8]) -> Option<Event>
-    ensures { result ≡ monitor_in text.now }
+    ensures is { result ≡ monitor_in text.now }
+    ensures fits { IfSome result Fits }
 {
     let (monitor, rest) = numbered(text)?;
     let unit = number(rest)?;
@@ -91,7 +97,8 @@ fn monitor(text: &[u8]) -> Option<Event>
 /// The event of a word that brings a name or bytes; none where it is another word.
 #[tactic(auto, unfolding(crate::specs::Events::bytes_event))]
 fn bytes_event(alloc: Global, word: &[u8], rest: &[u8]) -> Result<Option<Option<Event>>, NoMemory>
-    ensures { IfOk result (λ event. event ≡ bytes_event word.now rest.now) }
+    ensures is { IfOk result (λ event. event ≡ bytes_event word.now rest.now) }
+    ensures fits { IfOk result (λ event. IfSome event (λ e. IfSome e Fits)) }
 {
     let event = if word == b"device".as_slice() {
         device(alloc, rest)?
@@ -114,7 +121,8 @@ fn bytes_event(alloc: Global, word: &[u8], rest: &[u8]) -> Result<Option<Option<
 /// The event of a word that brings numbers or an edge.
 #[tactic(auto, unfolding(crate::specs::Events::number_event))]
 fn number_event(word: &[u8], rest: &[u8]) -> Option<Event>
-    ensures { result ≡ number_event word.now rest.now }
+    ensures is { result ≡ number_event word.now rest.now }
+    ensures fits { IfSome result Fits }
 {
     if word == b"segment".as_slice() {
         let (unit, first) = number_and_count(rest, 0, 1_073_741_823)?;
@@ -146,7 +154,8 @@ fn number_event(word: &[u8], rest: &[u8]) -> Option<Event>
 }
 
 fn word_event(alloc: Global, word: &[u8], rest: &[u8]) -> Result<Option<Event>, NoMemory>
-    ensures { IfOk result (λ event. event ≡ word_event word.now rest.now) }
+    ensures is { IfOk result (λ event. event ≡ word_event word.now rest.now) }
+    ensures fits { IfOk result (λ event. IfSome event Fits) }
 {
     match bytes_event(alloc, word, rest)? {
         Some(event) => Ok(event),
@@ -160,6 +169,7 @@ fn word_event(alloc: Global, word: &[u8], rest: &[u8]) -> Result<Option<Event>, 
 #[tactic(auto, unfolding(crate::specs::Events::event_in))]
 pub fn event_of(alloc: Global, line: &[u8]) -> Result<Option<Event>, NoMemory>
     ensures exact { IfOk result (λ event. event ≡ event_in line.now) }
+    ensures fits { IfOk result (λ event. IfSome event Fits) }
 {
     match line {
         [] | [b'#', ..] => Ok(Some(Event::Nothing)),

@@ -1,5 +1,6 @@
 // The bytes that a line brings: as text, or as hexadecimal digits.
-ghost use Rattle.std.specs.Prelude.{◌≡◌, ◌++◌, IfOk};
+ghost use Rattle.std.specs.Prelude.{◌≡◌, ◌≤◌, ◌+◌, ◌++◌, IfOk, IfSome, length};
+ghost use Rattle.replay_script.specs.Events.{IsPiece};
 ghost use Rattle.replay_script.specs.Words.{bytes_in, hex_in, is_sized, text_in};
 
 use gps_fixed::{Bytes, NoMemory};
@@ -27,7 +28,8 @@ fn is_sized(text: &[u8], most: usize) -> bool
 
 #[tactic(auto, unfolding(crate::specs::Words::hex_in))]
 fn hex_bytes(alloc: Global, text: &[u8]) -> Result<Option<Bytes>, NoMemory>
-    ensures { IfOk result (λ bytes. bytes ≡ hex_in text.now) }
+    ensures is { IfOk result (λ bytes. bytes ≡ hex_in text.now) }
+    ensures piece { IfOk result (λ bytes. IfSome bytes (λ b. IsPiece b)) }
 {
     match hex::decode(alloc, text) {
         Ok(bytes) if is_sized(bytes.as_slice(), 512) => Ok(Some(Bytes::from_vec(bytes))),
@@ -46,7 +48,9 @@ fn text_bytes(
     most: usize,
     ending: &[u8],
 ) -> Result<Option<Bytes>, NoMemory>
-    ensures { IfOk result (λ bytes. bytes ≡ text_in most ending.now text.now) }
+    requires { most + length ending.now ≤ 512 }
+    ensures is { IfOk result (λ bytes. bytes ≡ text_in most ending.now text.now) }
+    ensures piece { IfOk result (λ bytes. IfSome bytes (λ b. IsPiece b)) }
 {
     if !is_sized(text, most) {
         return Ok(None);
@@ -62,7 +66,8 @@ pub(crate) fn payload_bytes(
     payload: Payload,
     text: &[u8],
 ) -> Result<Option<Bytes>, NoMemory>
-    ensures { IfOk result (λ bytes. bytes ≡ bytes_in payload text.now) }
+    ensures is { IfOk result (λ bytes. bytes ≡ bytes_in payload text.now) }
+    ensures piece { IfOk result (λ bytes. IfSome bytes (λ b. IsPiece b)) }
 {
     match payload {
         Payload::Hex => hex_bytes(alloc, text),

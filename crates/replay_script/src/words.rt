@@ -54,7 +54,8 @@ fn nine(text: &[u8]) -> Option<u32>
 /// A number of 1 to 10 digits in this range.
 #[tactic(auto, unfolding(crate::specs::Words::number_between))]
 fn number_between(text: &[u8], least: u32, most: u32) -> Option<u32>
-    ensures { result ≡ number_between least most text.now }
+    ensures is { result ≡ number_between least most text.now }
+    ensures range { IfSome result (λ n. (least ≤ n) × (n ≤ most)) }
 {
     let number = number(text)?;
     if u64::from(least) <= number && number <= u64::from(most) {
@@ -119,7 +120,8 @@ pub(crate) fn stamped(text: &[u8]) -> Option<(Stamp, &[u8])>
 /// A number, a space, and a number in this range.
 #[tactic(auto, unfolding(crate::specs::Words::number_and_count))]
 pub(crate) fn number_and_count(text: &[u8], least: u32, most: u32) -> Option<(u64, u32)>
-    ensures { result ≡ number_and_count least most text.now }
+    ensures is { result ≡ number_and_count least most text.now }
+    ensures range { IfSome result (λ p. (least ≤ p.1) × (p.1 ≤ most)) }
 {
     let (first, rest) = numbered(text)?;
     let second = number_between(rest, least, most)?;

@@ -1,0 +1,136 @@
+-- What the words of `serve` ask for lies in its ranges.
+use Rattle.std.proofs.Common.{◌≡◌, ◌≤◌, ◌&&◌, ◌+◌, ℕ, Bool, true, false, nat_le, refl, sym, ap, ◌∙◌, arith, List, [], ◌∷◌, ◌++◌, length, Option, Some, None, option_map, option_and_then, if◌then◌else◌}
+use Rattle.std.proofs.lemmas.Bool.{and_parts}
+use Rattle.std.proofs.Common.{leb-true}
+use Rattle.std.proofs.lemmas.List.{length-map, length-append}
+use Rattle.std.proofs.Common.{subst, codes}
+use Rattle.std.specs.Str.{bytes_eq}
+use Rattle.clap.specs.Simple.{matches_of}
+use Rattle.clap.specs.Walk.{Row, Text, all_of, first_of}
+use Rattle.gps_words.specs.Numbers.{digits_after, is_number_text, number_or}
+use Rattle.gps_words.specs.Options.{are_taken, read_by}
+use Rattle.gps_words.specs.Replay.{queue_in}
+use Rattle.gps_words.specs.Decode.{history_in}
+use Rattle.gps_words.specs.declared.device.DeviceWord.{DeviceWord}
+use Rattle.gps_words.specs.declared.device.Target.{Target}
+use Rattle.gps_words.specs.declared.device.Target.TheVariants.{Device, Edges}
+use Rattle.gps_words.specs.declared.serve.ServeNumbers.{ServeNumbers}
+use Rattle.gps_words.specs.Devices.{Lists, are_devices, devices_in, devices_of, edges_of, input_of, inputs_of, is_address, is_count, lists_of, name_of, names_of, words_in}
+use Rattle.gps_words.specs.Serve.{Serve, if_address, listen_in, devices_among, monitor_in, numbers_in, serve_app, serve_asked_of, serve_in, serve_of, wait_in}
+use Rattle.gps_words.specs.Within.{IsWithin}
+
+chosen : {X : Type 0} (b : Bool) (x y : X) → (if b then Some x else None) ≡ Some y → (b ≡ true) × (x ≡ y)
+chosen true x y is = (refl, some_is x y is)
+  where
+    some_is : {X : Type 0} (x y : X) → Some x ≡ Some y → x ≡ y
+    some_is x y is = cc
+chosen false x y is = absurd (cc)
+
+chosen_some : {X : Type 0} (b : Bool) (o : Option X) (y : X) → (if b then o else None) ≡ Some y → o ≡ Some y
+chosen_some true o y is = is
+chosen_some false o y is = absurd (cc)
+
+number_range : (default least most : ℕ) (text : Option (List ℕ)) (n : ℕ) → least ≤ default → default ≤ most → number_or default least most text ≡ Some n → (least ≤ n) × (n ≤ most)
+number_range default least most None n low high is =
+    let same : default ≡ n = (chosen true default n is).1 in
+    (omega (arith, low, same), omega (arith, high, same))
+number_range default least most (Some text) n low high is =
+    let m = digits_after 0 text in
+    let c = chosen (is_number_text text && nat_le least m && nat_le m most) m n is in
+    let p = and_parts (is_number_text text && nat_le least m) (nat_le m most) c.0 in
+    let q = and_parts (is_number_text text) (nat_le least m) p.0 in
+    (omega (arith, leb-true least m q.1, c.1), omega (arith, leb-true m most p.1, c.1))
+
+pub record InRange (n : ServeNumbers) : Type 0 where
+  pub queue_low : 1 ≤ n.queue
+  pub queue_high : n.queue ≤ 65_536
+  pub history_low : 1 ≤ n.history
+  pub history_high : n.history ≤ 33_554_432
+  pub wait : n.wait ≤ 64
+  pub monitor : n.monitor ≤ 1_000_000
+
+-- each of the four is read
+four : (queue history wait monitor : Option ℕ) (n : ServeNumbers)
+    → option_and_then (λ q. option_and_then (λ h. option_and_then (λ w. option_map (λ m. record { queue = q; history = h; wait = w; monitor = m }) monitor) wait) history) queue ≡ Some n
+    → (queue ≡ Some n.queue) × (history ≡ Some n.history) × (wait ≡ Some n.wait) × (monitor ≡ Some n.monitor)
+four (Some q) (Some h) (Some w) (Some m) n is =
+    let same : record { queue = q; history = h; wait = w; monitor = m } ≡ n = (chosen true _ n is).1 in
+    (ap (λ (x : ServeNumbers). Some x.queue) same, ap (λ (x : ServeNumbers). Some x.history) same, ap (λ (x : ServeNumbers). Some x.wait) same, ap (λ (x : ServeNumbers). Some x.monitor) same)
+four None history wait monitor n is = absurd (cc)
+four (Some q) None wait monitor n is = absurd (cc)
+four (Some q) (Some h) None monitor n is = absurd (cc)
+four (Some q) (Some h) (Some w) None n is = absurd (cc)
+
+numbers_range : (rows : List Row) (n : ServeNumbers) → numbers_in rows ≡ Some n → InRange n
+unfolding numbers_in
+numbers_range rows n is =
+    let f = four (queue_in rows) (history_in rows) (wait_in rows) (monitor_in rows) n is in
+    let q = number_range 4_096 1 65_536 (first_of (codes "queue") rows) n.queue (omega arith) (omega arith) f.0 in
+    let h = number_range 16_777_216 1 33_554_432 (first_of (codes "history") rows) n.history (omega arith) (omega arith) f.1 in
+    let w = number_range 0 0 64 (first_of (codes "wait") rows) n.wait (omega arith) (omega arith) f.2 in
+    let m = number_range 0 0 1_000_000 (first_of (codes "monitor") rows) n.monitor (omega arith) (omega arith) f.3 in
+    record { queue_low = q.0; queue_high = q.1; history_low = h.0; history_high = h.1; wait = w.1; monitor = m.1 }
+
+-- one input for each name
+one_each : (word : DeviceWord) (target : Target) → length (input_of target) ≡ length (name_of word target)
+one_each word (Device input) = refl
+one_each word (Edges path) = refl
+
+inputs_match : (words : List DeviceWord) → length (inputs_of words) ≡ length (names_of words)
+inputs_match [] = refl
+inputs_match (word ∷ words) =
+    length-append (input_of word.target) (inputs_of words)
+    ∙ omega (arith, one_each word word.target, inputs_match words, length-append (name_of word word.target) (names_of words))
+
+pub record AreMatched (l : Lists) : Type 0 where
+  pub inputs : length l.inputs ≡ length l.names
+  pub edges : length l.edges ≡ length l.names
+
+lists_match : (words : List DeviceWord) → AreMatched (lists_of words)
+lists_match words = record { inputs = inputs_match words; edges = length-map (names_of words) _ }
+
+devices_match : (texts : List (List ℕ)) (l : Lists) → devices_in texts ≡ Some l → AreMatched l
+unfolding devices_in devices_of
+devices_match texts l is = read (words_in texts) l (chosen_some (is_count (length texts)) (option_and_then devices_of (words_in texts)) l is)
+  where
+    read : (o : Option (List DeviceWord)) (l : Lists) → option_and_then devices_of o ≡ Some l → AreMatched l
+    read None l is = absurd (cc)
+    read (Some words) l is = subst AreMatched (chosen (are_devices words) (lists_of words) l is).1 (lists_match words)
+
+served : (numbers : Option ServeNumbers) (devices : Option Lists) (listen : Text) (s : Serve)
+    → option_and_then (λ n. option_and_then (if_address listen n) devices) numbers ≡ Some s
+    → (numbers ≡ Some s.numbers) × (devices ≡ Some s.devices)
+served None devices listen s is = absurd (cc)
+served (Some n) None listen s is = absurd (cc)
+served (Some n) (Some l) listen s is =
+    let same : record { devices = l; listen = listen; numbers = n } ≡ s = (chosen (is_address listen) _ s is).1 in
+    (ap (λ (x : Serve). Some x.numbers) same, ap (λ (x : Serve). Some x.devices) same)
+
+among : (o : Option (List (List ℕ))) (l : Lists) → option_and_then devices_in o ≡ Some l → AreMatched l
+among None l is = absurd (cc)
+among (Some texts) l is = devices_match texts l is
+
+pub rows_within : (rows : List Row) (s : Serve) → serve_in rows ≡ Some s → IsWithin s
+unfolding serve_in
+rows_within rows s is =
+    let p = served (numbers_in rows) (devices_among rows) (listen_in rows) s is in
+    let n = numbers_range rows s.numbers p.0 in
+    let l = among (all_of _ rows) s.devices p.1 in
+    record {
+      inputs = l.inputs;
+      edges = l.edges;
+      queue_low = n.queue_low;
+      queue_high = n.queue_high;
+      history_low = n.history_low;
+      history_high = n.history_high;
+      wait = n.wait;
+      monitor = n.monitor;
+    }
+
+read_within : (words : List Text) (s : Serve) → read_by serve_app serve_in words ≡ Some s → IsWithin s
+unfolding read_by
+read_within words s is = rows_within (matches_of serve_app words) s (chosen_some (are_taken serve_app words) (serve_in (matches_of serve_app words)) s is)
+
+pub words_within : (words : List Text) (s : Serve) → serve_asked_of words ≡ Some s → IsWithin s
+words_within [] s is = absurd (cc)
+words_within (word ∷ words) s is = read_within (word ∷ words) s (chosen_some (bytes_eq word (codes "serve")) (serve_of (word ∷ words)) s is)

@@ -1,0 +1,7 @@
+pub mod Counted
+pub mod Lines
+pub mod Outcomes
+pub mod Reading
+pub mod Standing
+pub mod Tallies
+pub mod Writing

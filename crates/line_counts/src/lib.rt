@@ -1,0 +1,14 @@
+//! Lines of this project's daemon, read to their end and counted by class: what the command `lines` does.
+#![tactic(auto)]
+
+mod counting;
+mod outcome;
+mod reading;
+mod running;
+mod tally;
+#[cfg(test)]
+mod tests;
+mod writing;
+
+pub use outcome::Outcome;
+pub use running::count_lines;

@@ -5,3 +5,4 @@ pub mod Rows
 pub mod DeviceWords
 pub mod Colons
 pub mod Within
+pub mod CommandRanges

@@ -3,17 +3,16 @@ use Rattle.std.specs.Prelude.{⊤}
 use Rattle.std.proofs.Common.{◌≡◌, List, [], ◌∷◌, Option, Some, None, codes, refl}
 use Rattle.clap.specs.Walk.{Text}
 use Rattle.clap.proofs.OnLiterals.{clap_on_literals}
-use Rattle.gps_words.specs.Asked.{asked_of}
+use Rattle.gps_words.specs.Asked.{asked_of, kind_named}
 use Rattle.gps_words.specs.Numbers.{digits_after}
 use Rattle.gps_fixed.specs.Scaled.{whole_of}
 use Rattle.gps_fixed.specs.Numeral.{numeral}
 use Rattle.gps_words.specs.Devices.{devices_in, devices_of, edges_end_names, edges_for, halves, is_address, is_port, last_colon, target_in, target_of, word_in, words_in}
-use Rattle.gps_words.specs.Generate.{generate_in, generate_of}
 use Rattle.gps_words.specs.Options.{read_by}
-use Rattle.gps_words.specs.Replay.{replay_of}
+use Rattle.gps_words.specs.Replay.{replay_in}
 use Rattle.gps_words.specs.Serve.{Serve, numbers_in, serve_asked_of, serve_in}
 use Rattle.gps_words.specs.declared.command.Command.{Command}
-use Rattle.gps_words.specs.declared.command.Command.TheVariants.{Decode, Lines}
+use Rattle.gps_words.specs.declared.command.Command.TheVariants.{Decode, Lines, Replay}
 use Rattle.gps_words.specs.declared.device.Input.TheVariants.{File, Tcp}
 use Rattle.gps_words.specs.declared.serve.ServeNumbers.{ServeNumbers}
 
@@ -24,97 +23,91 @@ no_word : asked_of [] ≡ None
 no_word = refl
 
 unknown_word : asked_of (codes "frob" ∷ []) ≡ None
+unfolding kind_named
 unknown_word = refl
 
 begun_word : asked_of (codes "decod" ∷ []) ≡ None
+unfolding kind_named
 begun_word = refl
 
 alone : decode_with [] ≡ Some (Decode 16_777_216)
-unfolding clap_on_literals read_by digits_after
+unfolding clap_on_literals kind_named read_by digits_after
 alone = refl
 
 value_behind : decode_with (codes "--history" ∷ codes "69" ∷ []) ≡ Some (Decode 69)
-unfolding clap_on_literals read_by digits_after
+unfolding clap_on_literals kind_named read_by digits_after
 value_behind = refl
 
 value_after_equals : decode_with (codes "--history=5" ∷ []) ≡ Some (Decode 5)
-unfolding clap_on_literals read_by digits_after
+unfolding clap_on_literals kind_named read_by digits_after
 value_after_equals = refl
 
 ten_digits : decode_with (codes "--history" ∷ codes "0000000070" ∷ []) ≡ Some (Decode 70)
-unfolding clap_on_literals read_by digits_after
+unfolding clap_on_literals kind_named read_by digits_after
 ten_digits = refl
 
 most : decode_with (codes "--history" ∷ codes "33554432" ∷ []) ≡ Some (Decode 33_554_432)
-unfolding clap_on_literals read_by digits_after
+unfolding clap_on_literals kind_named read_by digits_after
 most = refl
 
 over_most : decode_with (codes "--history" ∷ codes "33554433" ∷ []) ≡ None
-unfolding clap_on_literals read_by digits_after
+unfolding clap_on_literals kind_named read_by digits_after
 over_most = refl
 
 nought : decode_with (codes "--history" ∷ codes "0" ∷ []) ≡ None
-unfolding clap_on_literals read_by digits_after
+unfolding clap_on_literals kind_named read_by digits_after
 nought = refl
 
 eleven_digits : decode_with (codes "--history" ∷ codes "00000000070" ∷ []) ≡ None
-unfolding clap_on_literals read_by digits_after
+unfolding clap_on_literals kind_named read_by digits_after
 eleven_digits = refl
 
 with_plus : decode_with (codes "--history" ∷ codes "+5" ∷ []) ≡ None
-unfolding clap_on_literals read_by digits_after
+unfolding clap_on_literals kind_named read_by digits_after
 with_plus = refl
 
 with_minus : decode_with (codes "--history" ∷ codes "-5" ∷ []) ≡ None
-unfolding clap_on_literals read_by digits_after
+unfolding clap_on_literals kind_named read_by digits_after
 with_minus = refl
 
 no_value : decode_with (codes "--history" ∷ []) ≡ None
-unfolding clap_on_literals read_by digits_after
+unfolding clap_on_literals kind_named read_by digits_after
 no_value = refl
 
 empty_value : decode_with (codes "--history=" ∷ []) ≡ None
-unfolding clap_on_literals read_by digits_after
+unfolding clap_on_literals kind_named read_by digits_after
 empty_value = refl
 
 twice : decode_with (codes "--history=5" ∷ codes "--history=5" ∷ []) ≡ None
-unfolding clap_on_literals read_by digits_after
+unfolding clap_on_literals kind_named read_by digits_after
 twice = refl
 
 begun_option : decode_with (codes "--hist" ∷ codes "5" ∷ []) ≡ None
-unfolding clap_on_literals read_by digits_after
+unfolding clap_on_literals kind_named read_by digits_after
 begun_option = refl
 
 help : decode_with (codes "--help" ∷ []) ≡ None
-unfolding clap_on_literals read_by digits_after
+unfolding clap_on_literals kind_named read_by digits_after
 help = refl
 
 short_help : decode_with (codes "-h" ∷ []) ≡ None
-unfolding clap_on_literals read_by digits_after
+unfolding clap_on_literals kind_named read_by digits_after
 short_help = refl
 
 stray_word : decode_with (codes "stdin" ∷ []) ≡ None
-unfolding clap_on_literals read_by digits_after
+unfolding clap_on_literals kind_named read_by digits_after
 stray_word = refl
 
-generated : generate_of (codes "generate" ∷ codes "--seed" ∷ codes "0" ∷ codes "--size=10000" ∷ []) ≡ Some (record { seed = 0; size = 10_000 })
-unfolding clap_on_literals read_by digits_after generate_in
-generated = refl
-
-no_size : generate_of (codes "generate" ∷ codes "--seed" ∷ codes "1" ∷ []) ≡ None
-unfolding clap_on_literals read_by digits_after generate_in
-no_size = refl
-
-replayed : replay_of (codes "replay" ∷ codes "--queue" ∷ codes "65536" ∷ []) ≡ Some (record { history = 16_777_216; queue = 65_536 })
-unfolding clap_on_literals read_by digits_after
+replayed : asked_of (codes "replay" ∷ codes "--queue" ∷ codes "65536" ∷ []) ≡ Some (Replay 16_777_216 65_536)
+unfolding clap_on_literals kind_named read_by digits_after replay_in
 replayed = refl
 
 option_of_lines : asked_of (codes "lines" ∷ codes "--history=5" ∷ []) ≡ None
-unfolding clap_on_literals read_by
+unfolding clap_on_literals kind_named read_by
 option_of_lines = refl
 
 lines_alone : asked_of (codes "lines" ∷ []) ≡ Some Lines
-unfolding clap_on_literals read_by
+unfolding clap_on_literals kind_named read_by
 lines_alone = refl
 
 -- what computes the devices and the numbers of words that are written out

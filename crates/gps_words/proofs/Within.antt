@@ -19,18 +19,18 @@ use Rattle.gps_words.specs.Devices.{Lists, are_devices, devices_in, devices_of, 
 use Rattle.gps_words.specs.Serve.{Serve, if_address, listen_in, devices_among, monitor_in, numbers_in, serve_app, serve_asked_of, serve_in, serve_of, wait_in}
 use Rattle.gps_words.specs.Within.{IsWithin}
 
-chosen : {X : Type 0} (b : Bool) (x y : X) → (if b then Some x else None) ≡ Some y → (b ≡ true) × (x ≡ y)
+pub chosen : {X : Type 0} (b : Bool) (x y : X) → (if b then Some x else None) ≡ Some y → (b ≡ true) × (x ≡ y)
 chosen true x y is = (refl, some_is x y is)
   where
     some_is : {X : Type 0} (x y : X) → Some x ≡ Some y → x ≡ y
     some_is x y is = cc
 chosen false x y is = absurd (cc)
 
-chosen_some : {X : Type 0} (b : Bool) (o : Option X) (y : X) → (if b then o else None) ≡ Some y → o ≡ Some y
+pub chosen_some : {X : Type 0} (b : Bool) (o : Option X) (y : X) → (if b then o else None) ≡ Some y → o ≡ Some y
 chosen_some true o y is = is
 chosen_some false o y is = absurd (cc)
 
-number_range : (default least most : ℕ) (text : Option (List ℕ)) (n : ℕ) → least ≤ default → default ≤ most → number_or default least most text ≡ Some n → (least ≤ n) × (n ≤ most)
+pub number_range : (default least most : ℕ) (text : Option (List ℕ)) (n : ℕ) → least ≤ default → default ≤ most → number_or default least most text ≡ Some n → (least ≤ n) × (n ≤ most)
 number_range default least most None n low high is =
     let same : default ≡ n = (chosen true default n is).1 in
     (omega (arith, low, same), omega (arith, high, same))

@@ -1,18 +1,33 @@
 -- What the words ask for, without the program's name: the first chooses the command, which reads them all.
 -- No answer where the first is no command or is missing, where clap finds a fault, or where a number is none. This
 -- project's own.
-use Rattle.std.specs.Prelude.{List, [], ◌∷◌, Option, None, codes, if◌then◌else◌}
+use Rattle.std.specs.Prelude.{List, [], ◌∷◌, Option, Some, None, codes, if◌then◌else◌}
 use Rattle.std.specs.Str.{bytes_eq}
 use Rattle.clap.specs.Walk.{Text}
 use Rattle.gps_words.specs.Decode.{decode_of}
 use Rattle.gps_words.specs.Lines.{lines_of}
 use Rattle.gps_words.specs.Pseudo.{pseudo_of}
+use Rattle.gps_words.specs.Replay.{replay_of}
+use Rattle.gps_words.specs.declared.choice.Kind.{Kind}
+use Rattle.gps_words.specs.declared.choice.Kind.TheVariants as kind
 use Rattle.gps_words.specs.declared.command.Command.{Command}
+
+-- the commands by their names
+unfoldable pub kind_named : Text → Option Kind
+kind_named word =
+    if bytes_eq word (codes "decode") then Some kind.Decode
+    else (if bytes_eq word (codes "pseudo") then Some kind.Pseudo
+    else (if bytes_eq word (codes "replay") then Some kind.Replay
+    else (if bytes_eq word (codes "lines") then Some kind.Lines
+    else None)))
+
+abbrev pub read_as : Option Kind → List Text → Option Command
+read_as None words = None
+read_as (Some kind.Decode) words = decode_of words
+read_as (Some kind.Pseudo) words = pseudo_of words
+read_as (Some kind.Replay) words = replay_of words
+read_as (Some kind.Lines) words = lines_of words
 
 abbrev pub asked_of : List Text → Option Command
 asked_of [] = None
-asked_of (word ∷ words) =
-    if bytes_eq word (codes "decode") then decode_of (word ∷ words)
-    else (if bytes_eq word (codes "pseudo") then pseudo_of (word ∷ words)
-    else (if bytes_eq word (codes "lines") then lines_of (word ∷ words)
-    else None))
+asked_of (word ∷ words) = read_as (kind_named word) (word ∷ words)

@@ -1,6 +1,8 @@
--- The ranges of what the words of `serve` ask for. This project's own.
-use Rattle.std.specs.Prelude.{◌≡◌, ◌≤◌, length}
+-- The ranges of what the words ask for. This project's own.
+use Rattle.std.specs.Prelude.{◌≡◌, ℕ, ◌≤◌, length}
 use Rattle.gps_words.specs.Serve.{Serve}
+use Rattle.gps_words.specs.declared.command.Command.{Command}
+use Rattle.gps_words.specs.declared.command.Command.TheVariants.{Decode, Pseudo, Replay, Lines}
 
 -- one input and one place of edges, or none, for each device, and each number in its range
 pub record IsWithin (s : Serve) : Type 0 where
@@ -12,3 +14,16 @@ pub record IsWithin (s : Serve) : Type 0 where
   pub history_high : s.numbers.history ≤ 33_554_432
   pub wait : s.numbers.wait ≤ 64
   pub monitor : s.numbers.monitor ≤ 1_000_000
+
+abbrev pub IsHistory : ℕ → Type 0
+IsHistory history = (1 ≤ history) × (history ≤ 33_554_432)
+
+abbrev pub IsQueue : ℕ → Type 0
+IsQueue queue = (1 ≤ queue) × (queue ≤ 65_536)
+
+-- each number of a command lies in its range
+abbrev pub IsInRange : Command → Type 0
+IsInRange (Decode history) = IsHistory history
+IsInRange (Pseudo history) = IsHistory history
+IsInRange (Replay history queue) = IsHistory history × IsQueue queue
+IsInRange Lines = Unit {0}

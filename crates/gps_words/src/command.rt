@@ -7,6 +7,8 @@ pub enum Command {
     Decode { history: u32 },
     /// Reads device bytes and writes the sentences of their fixes; `history` is how many bytes are read at most.
     Pseudo { history: u32 },
+    /// Plays a script; `history` is how many symbols a generation has at most, `queue` how many items wait for a session.
+    Replay { history: u32, queue: u32 },
     /// Reads the daemon's lines and writes how many are of each class.
     Lines,
 }

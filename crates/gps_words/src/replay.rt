@@ -3,21 +3,12 @@ ghost use Rattle.clap.specs.Simple.{app_of};
 ghost use Rattle.clap.specs.Words.{found_of, rows_of};
 ghost use Rattle.gps_words.specs.Replay.{queue_in, replay_app, replay_in, replay_of};
 
-use crate::WordsFault;
 use crate::decode::history;
 use crate::numbers::number_given;
 use crate::options::{bare, matches_in, with_option};
+use crate::{Command, WordsFault};
 use clap::ArgMatches;
 use std::alloc::{AllocError, Global};
-
-/// The options of `replay`.
-#[derive(Clone, Copy, Debug, PartialEq, Eq)]
-pub struct ReplayOptions {
-    /// How many symbols a generation has at most.
-    pub history: u32,
-    /// How many items the outlet of a session keeps at most.
-    pub queue: u32,
-}
 
 /// How many items the outlet of a session keeps at most.
 #[tactic(auto, using(crate::proofs::Given::first_of_rows))]
@@ -35,18 +26,19 @@ fn command<'a>(alloc: Global) -> Result<clap::Command<'a>, AllocError>
     Ok(command)
 }
 
-fn replay_in(matches: &ArgMatches) -> Option<ReplayOptions>
+#[tactic(auto, unfolding(crate::specs::Replay::replay_in))]
+fn replay_in(matches: &ArgMatches) -> Option<Command>
     ensures { result ≡ replay_in (rows_of (found_of matches.now)) }
 {
     let history = history(matches)?;
     let queue = queue(matches)?;
-    Some(ReplayOptions { history, queue })
+    Some(Command::Replay { history, queue })
 }
 
 /// The words of `replay`, its name among them.
 #[tactic(auto, using(crate::proofs::Readings::read_is, crate::proofs::Readings::read_refused))]
-pub fn replay_options(alloc: Global, words: &[String]) -> Result<ReplayOptions, WordsFault>
-    ensures ok { IfOk result (λ options. replay_of (map string_bytes words.now) ≡ Some options) }
+pub(crate) fn replay(alloc: Global, words: &[String]) -> Result<Command, WordsFault>
+    ensures ok { IfOk result (λ command. replay_of (map string_bytes words.now) ≡ Some command) }
     ensures refused { result ≡ Err WordsFault.Refused → replay_of (map string_bytes words.now) ≡ None }
 {
     let command = command(alloc)?;

@@ -1,9 +1,6 @@
 //! Words, and what they ask for.
 
-use crate::{
-    Command, GenerateOptions, Input, ReplayOptions, WordsFault, asked, generate_options,
-    replay_options, serve_asked,
-};
+use crate::{Command, Input, WordsFault, asked, serve_asked};
 use gps_fixed::NoMemory;
 use std::alloc::Global;
 use std::test::Fail;
@@ -34,19 +31,23 @@ fn words_ask_for_a_command(rt: HostRuntime) -> Result<(), Fail> {
 
 #[test]
 fn each_command_reads_its_words(rt: HostRuntime) -> Result<(), Fail> {
-    let alloc = rt.alloc();
-    let pseudo = Command::Pseudo { history: 5 };
-    assert!(rt; asked_by(alloc, &["pseudo", "--history", "5"])? == Ok(pseudo));
-    let words = words_of(alloc, &["replay", "--queue=2"])?;
-    let replay = ReplayOptions {
-        history: 16_777_216,
-        queue: 2,
-    };
-    assert!(rt; replay_options(alloc, words.as_slice()) == Ok(replay));
-    let words = words_of(alloc, &["generate", "--seed", "1", "--size", "10"])?;
-    let generate = GenerateOptions { seed: 1, size: 10 };
-    assert!(rt; generate_options(alloc, words.as_slice()) == Ok(generate));
-    assert!(rt; asked_by(alloc, &["lines"])? == Ok(Command::Lines));
+    let rows: &[(&[&str], Command)] = &[
+        (
+            &["pseudo", "--history", "5"],
+            Command::Pseudo { history: 5 },
+        ),
+        (
+            &["replay", "--queue=2"],
+            Command::Replay {
+                history: 16_777_216,
+                queue: 2,
+            },
+        ),
+        (&["lines"], Command::Lines),
+    ];
+    for (words, command) in rows {
+        assert!(rt; asked_by(rt.alloc(), *words)? == Ok(*command));
+    }
     Ok(())
 }
 

@@ -3,3 +3,4 @@ pub mod Decoding
 pub mod LineStatuses
 pub mod LineTexts
 pub mod Statuses
+pub mod ReplayStatuses

@@ -6,7 +6,10 @@ use Rattle.gps_outside.specs.Counts.{Rose, RoseBy}
 use Rattle.gps_outside.specs.Told.{Stream}
 use Rattle.gps_outside.specs.Ticks.{Dial}
 use Rattle.gps_words.specs.declared.command.Command.{Command}
-use Rattle.gps_words.specs.declared.command.Command.TheVariants.{Decode, Pseudo, Lines}
+use Rattle.gps_words.specs.declared.command.Command.TheVariants.{Decode, Pseudo, Replay, Lines}
+use Rattle.gps_replay.specs.Replayed.{IsScript, Replayed}
+use Rattle.line_play.specs.declared.outcome.Outcome.{Outcome as PlayOutcome}
+use Rattle.line_play.specs.Outcomes.{status_of as play_status, HasCause as PlayCause}
 use Rattle.line_counts.specs.declared.outcome.Outcome.{Outcome as LinesOutcome}
 use Rattle.line_counts.specs.Outcomes.{status_of as lines_status, HasCause as LinesCause}
 use Rattle.line_counts.specs.Counted.{Counted, IsWithin as AreLinesWithin}
@@ -29,12 +32,21 @@ DoesLines status source source' faults faults' quiets quiets' clock clock' sink 
     (outcome : LinesOutcome) × (status ≡ lines_status outcome) × LinesCause outcome faults faults' quiets quiets' sunk sunk'
     × Counted outcome source source' sink sink' × (clock ≡ clock')
 
+-- `replay`, whose outlets keep so many items where no line says another number; it asks no clock, and how much a generation holds changes nothing
+abbrev pub DoesReplay : ℕ → ℕ → Option Stream → Option Stream → ℕ → ℕ → ℕ → ℕ → Option Dial → Option Dial
+    → Option (List ℕ) → Option (List ℕ) → ℕ → ℕ → Type 0
+DoesReplay queue status source source' faults faults' quiets quiets' clock clock' sink sink' sunk sunk' =
+    ((outcome : PlayOutcome) × (status ≡ play_status outcome) × PlayCause outcome faults faults' quiets quiets' sunk sunk'
+    × Replayed outcome queue source source' sink sink') × (clock ≡ clock')
+
 abbrev pub Does : Command → ℕ → Option Stream → Option Stream → ℕ → ℕ → ℕ → ℕ → Option Dial → Option Dial
     → Option (List ℕ) → Option (List ℕ) → ℕ → ℕ → Type 0
 Does (Decode history) status source source' faults faults' quiets quiets' clock clock' sink sink' sunk sunk' =
     DoesDecode line_of history status source source' faults faults' quiets quiets' clock clock' sink sink' sunk sunk'
 Does (Pseudo history) status source source' faults faults' quiets quiets' clock clock' sink sink' sunk sunk' =
     DoesDecode sentences_of history status source source' faults faults' quiets quiets' clock clock' sink sink' sunk sunk'
+Does (Replay history queue) status source source' faults faults' quiets quiets' clock clock' sink sink' sunk sunk' =
+    DoesReplay queue status source source' faults faults' quiets quiets' clock clock' sink sink' sunk sunk'
 Does Lines status source source' faults faults' quiets quiets' clock clock' sink sink' sunk sunk' =
     DoesLines status source source' faults faults' quiets quiets' clock clock' sink sink' sunk sunk'
 
@@ -47,10 +59,12 @@ NothingFails faults faults' quiets quiets' sunk sunk' =
 abbrev pub EndsAt : Command → ℕ → Type 0
 EndsAt (Decode history) status = (status ≡ 0) ⊎ ((status ≡ 5) ⊎ (status ≡ 7))
 EndsAt (Pseudo history) status = (status ≡ 0) ⊎ ((status ≡ 5) ⊎ (status ≡ 7))
+EndsAt (Replay history queue) status = (status ≡ 0) ⊎ ((status ≡ 5) ⊎ ((status ≡ 6) ⊎ (status ≡ 7)))
 EndsAt Lines status = (status ≡ 0) ⊎ ((status ≡ 5) ⊎ ((status ≡ 6) ⊎ (status ≡ 7)))
 
 -- the source tells that what is left lies within the limits of the command, and that no line of it is refused
 abbrev pub IsWithinLimits : Command → Option Stream → Type 0
 IsWithinLimits (Decode history) source = IsWithin history source
 IsWithinLimits (Pseudo history) source = IsWithin history source
+IsWithinLimits (Replay history queue) source = IsScript queue source
 IsWithinLimits Lines source = AreLinesWithin source

@@ -1,14 +1,16 @@
 ghost use Rattle.std.specs.Prelude.{◌≡◌, ℕ, ◌≤◌, ◌⊎◌, Some, None, map, string_bytes};
 ghost use Rattle.gps_words.specs.Asked.{asked_of};
+ghost use Rattle.gps_words.specs.Within.{IsInRange};
 ghost use Rattle.gps_words.specs.declared.command.Command.{Command};
 ghost use Rattle.gps_outside.specs.Counts.{Rose};
-ghost use Rattle.gpsrelay.specs.Commands.{Does, DoesDecode, DoesLines, EndsAt, IsWithinLimits, NothingFails};
+ghost use Rattle.gpsrelay.specs.Commands.{Does, DoesDecode, DoesLines, DoesReplay, EndsAt, IsWithinLimits, NothingFails};
 ghost use Rattle.gpsrelay.specs.Outcomes.{HasReadCause};
 ghost use Rattle.gpsrelay.specs.Texts.{line_of, sentences_of};
 
 use crate::decode::{decode, pseudo};
 use crate::outcome::Outcome;
 use gps_outside::{Clock, Sink, Source};
+use gps_replay::replay_core;
 use gps_words::{Command, WordsFault, asked};
 use line_counts::count_lines;
 use std::alloc::Global;
@@ -24,6 +26,7 @@ fn do_command<S: Source, K: Sink, C: Clock>(
     sink: &mut K,
     clock: &mut C,
 ) -> u8
+    requires range { IsInRange command }
     ensures does { Does command result (S.content source.old) (S.content source.new) (S.faults source.old) (S.faults source.new)
         (S.quiets source.old) (S.quiets source.new) (C.stamps clock.old) (C.stamps clock.new)
         (K.written sink.old) (K.written sink.new) (K.faults sink.old) (K.faults sink.new) }
@@ -34,6 +37,7 @@ fn do_command<S: Source, K: Sink, C: Clock>(
     match command {
         Command::Decode { history } => decode(alloc, history, source, sink, clock).status(),
         Command::Pseudo { history } => pseudo(alloc, history, source, sink, clock).status(),
+        Command::Replay { history, queue } => replay_core(alloc, source, sink, history, queue),
         Command::Lines => count_lines(alloc, source, sink).status(),
     }
 }
@@ -69,6 +73,7 @@ fn do_words<S: Source, K: Sink, C: Clock>(
 ///
 /// `decode [--history N]` reads what a receiver sends and writes its fixes and skies as JSON lines, as epochs close.
 /// `pseudo [--history N]` reads the same, and writes two sentences for each fix, for programs that read sentences alone.
+/// `replay [--history N] [--queue N]` plays a script, and writes what a daemon must have answered.
 /// `lines` reads the lines of a session with the daemon, and writes how many are of each class.
 ///
 /// The status is 0 where the input was read to its end and all was written; 2 where the words ask for nothing, and then
@@ -96,6 +101,10 @@ pub fn run<S: Source, K: Sink, C: Clock>(
         (K.written sink.old) (K.written sink.new) (K.faults sink.old) (K.faults sink.new) }
     ensures pseudo { (history : ℕ) → asked_of (map string_bytes words.now) ≡ Some (Command.Pseudo history)
         → DoesDecode sentences_of history result (S.content source.old) (S.content source.new) (S.faults source.old) (S.faults source.new)
+        (S.quiets source.old) (S.quiets source.new) (C.stamps clock.old) (C.stamps clock.new)
+        (K.written sink.old) (K.written sink.new) (K.faults sink.old) (K.faults sink.new) }
+    ensures replay { (history queue : ℕ) → asked_of (map string_bytes words.now) ≡ Some (Command.Replay history queue)
+        → DoesReplay queue result (S.content source.old) (S.content source.new) (S.faults source.old) (S.faults source.new)
         (S.quiets source.old) (S.quiets source.new) (C.stamps clock.old) (C.stamps clock.new)
         (K.written sink.old) (K.written sink.new) (K.faults sink.old) (K.faults sink.new) }
     ensures lines { asked_of (map string_bytes words.now) ≡ Some Command.Lines → DoesLines result (S.content source.old) (S.content source.new) (S.faults source.old) (S.faults source.new)

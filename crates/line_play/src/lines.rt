@@ -105,6 +105,19 @@ impl Lines {
         }
     }
 
+    /// Makes it due that the next line is refused.
+    fn refuse(&mut self) -> Result<Turn, NoMemory>
+        requires room { self.old.count < 2 ^ 64 - 1 }
+        ensures refused { IfOk result (λ turn. turn ≡ Turn.Refused) }
+        ensures due { OnOk result (self.new.due ≡ self.old.due ++ bad_line (self.old.count + 1)) }
+        ensures cutter { self.new.cutter ≡ self.old.cutter }
+        ensures count { self.new.count ≡ self.old.count }
+        ensures limit { self.new.limit ≡ self.old.limit }
+    {
+        push_bad_line(&mut self.due, self.count + 1)?;
+        Ok(Turn::Refused)
+    }
+
     /// Makes what a piece makes due.
     pub(crate) fn take<P: Plays>(&mut self, player: &mut P, piece: &[u8]) -> Result<Turn, NoMemory>
         requires room { self.old.count + length piece.now < 2 ^ 64 - 1 }
@@ -122,10 +135,7 @@ impl Lines {
         self.due.clear();
         match self.run(player, piece)? {
             Turn::Made => Ok(Turn::Made),
-            Turn::Refused => {
-                push_bad_line(&mut self.due, self.count + 1)?;
-                Ok(Turn::Refused)
-            }
+            Turn::Refused => self.refuse(),
         }
     }
 
@@ -158,10 +168,7 @@ impl Lines {
                 player.finish(&mut self.due)?;
                 Ok(Turn::Made)
             }
-            Turn::Refused => {
-                push_bad_line(&mut self.due, self.count + 1)?;
-                Ok(Turn::Refused)
-            }
+            Turn::Refused => self.refuse(),
         }
     }
 }

@@ -1,0 +1,3 @@
+pub mod Run
+pub mod Replayed
+pub mod Scripts

@@ -1,0 +1,9 @@
+//! Scripts: one is read line by line and played on a book in one thread, whatever a generation of the book may hold.
+#![tactic(auto)]
+
+mod replaying;
+mod script;
+
+pub use line_play::Outcome;
+pub use replay_workload::workload;
+pub use replaying::{replay, replay_core};

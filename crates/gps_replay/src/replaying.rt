@@ -1,0 +1,86 @@
+ghost use Rattle.std.specs.Prelude.{◌≡◌, ◌≤◌, ◌⊎◌};
+ghost use Rattle.gps_outside.specs.Counts.{Rose, RoseBy};
+ghost use Rattle.line_play.specs.declared.outcome.Outcome.{Outcome};
+ghost use Rattle.line_play.specs.Outcomes.{HasCause, status_of};
+ghost use Rattle.gps_replay.specs.Replayed.{IsScript, Replayed};
+
+use crate::script::Script;
+use gps_outside::{Sink, Source};
+use line_play::{Outcome, play};
+use std::alloc::Global;
+use text_lines::Limit;
+
+/// The bytes of a line without its line end.
+const MOST_IN_LINE: usize = 4_096;
+
+/// The bytes of a script.
+const MOST_BYTES: u32 = 1_073_741_824;
+
+/// Reads a script and writes the output of its run. A generation of its book holds at most `limit` entries, which changes
+/// nothing of the output; an outlet keeps `queue` items where no line says another number.
+///
+/// A line is played as soon as its end was read, or so much of it that it is too long. At [`Outcome::BadLine`] the line N
+/// was refused, and `bad line N` stands behind what those before it write.
+pub fn replay<S: Source, K: Sink>(
+    alloc: Global,
+    source: &mut S,
+    sink: &mut K,
+    limit: u32,
+    queue: u32,
+) -> Outcome
+    requires some { 1 ≤ limit }
+    requires most { limit ≤ 33554432 }
+    requires least { 1 ≤ queue }
+    requires within { queue ≤ 65536 }
+    ensures replayed { Replayed result queue (S.content source.old) (S.content source.new) (K.written sink.old) (K.written sink.new) }
+    ensures cause { HasCause result (S.faults source.old) (S.faults source.new) (S.quiets source.old) (S.quiets source.new)
+        (K.faults sink.old) (K.faults sink.new) }
+    ensures complete { IsScript queue (S.content source.old)
+        → (Rose (S.faults source.old) (S.faults source.new) → ⊥)
+        → (RoseBy 1000 (S.quiets source.old) (S.quiets source.new) → ⊥)
+        → (Rose (K.faults sink.old) (K.faults sink.new) → ⊥)
+        → (result ≡ Outcome.Done) ⊎ (result ≡ Outcome.NoMemory) }
+    ensures faults_stay { S.faults source.old ≤ S.faults source.new }
+    ensures quiets_stay { S.quiets source.old ≤ S.quiets source.new }
+    ensures sink_faults_stay { K.faults sink.old ≤ K.faults sink.new }
+{
+    let mut script = Script::new(alloc, limit, queue);
+    play(
+        alloc,
+        Limit::Text(MOST_IN_LINE),
+        MOST_BYTES,
+        &mut script,
+        source,
+        sink,
+    )
+}
+
+/// As [`replay`], with its exit status.
+///
+/// 0: the source was read to its end, and all was written. 3: the source failed, or nothing came a thousand times. 4: the
+/// sink failed. 5: more bytes came than a script may have. 6: a line was refused. 7: memory was wanted.
+pub fn replay_core<S: Source, K: Sink>(
+    alloc: Global,
+    source: &mut S,
+    sink: &mut K,
+    limit: u32,
+    queue: u32,
+) -> u8
+    requires some { 1 ≤ limit }
+    requires most { limit ≤ 33554432 }
+    requires least { 1 ≤ queue }
+    requires within { queue ≤ 65536 }
+    ensures replayed { (outcome : Outcome) × (result ≡ status_of outcome)
+        × HasCause outcome (S.faults source.old) (S.faults source.new) (S.quiets source.old) (S.quiets source.new) (K.faults sink.old) (K.faults sink.new)
+        × Replayed outcome queue (S.content source.old) (S.content source.new) (K.written sink.old) (K.written sink.new) }
+    ensures complete { IsScript queue (S.content source.old)
+        → (Rose (S.faults source.old) (S.faults source.new) → ⊥)
+        → (RoseBy 1000 (S.quiets source.old) (S.quiets source.new) → ⊥)
+        → (Rose (K.faults sink.old) (K.faults sink.new) → ⊥)
+        → (result ≡ 0) ⊎ (result ≡ 7) }
+    ensures faults_stay { S.faults source.old ≤ S.faults source.new }
+    ensures quiets_stay { S.quiets source.old ≤ S.quiets source.new }
+    ensures sink_faults_stay { K.faults sink.old ≤ K.faults sink.new }
+{
+    replay(alloc, source, sink, limit, queue).status()
+}

@@ -1,0 +1,72 @@
+ghost use Rattle.std.specs.Prelude.{◌≡◌, ◌≤◌};
+ghost use Rattle.gps_replay.specs.Scripts.{IsReplaying};
+ghost use Rattle.replay_player.specs.States.{new_state};
+
+use gps_fixed::{Bytes, NoMemory};
+use line_play::{Plays, Turn};
+use replay_player::Player;
+use replay_script::event_of;
+use std::alloc::Global;
+
+/// The lines of a script, each played as its event.
+#[derive(Drop)]
+pub(crate) struct Script {
+    alloc: Global,
+    queue: u32,
+    /// None once a line was refused, or memory was wanted.
+    player: Option<Player>,
+}
+
+impl Script {
+    /// No line was played. Takes no memory.
+    pub(crate) fn new(alloc: Global, limit: u32, queue: u32) -> Script
+        requires some { 1 ≤ limit }
+        requires most { limit ≤ 33554432 }
+        requires least { 1 ≤ queue }
+        requires within { queue ≤ 65536 }
+        ensures queue { result.queue ≡ queue }
+        ensures stands { IsReplaying result.queue result.player new_state }
+    {
+        Script {
+            alloc,
+            queue,
+            player: Some(Player::new(alloc, limit)),
+        }
+    }
+}
+
+impl Plays for Script {
+    ghost use Rattle.gps_replay.specs.Run.{rules_of};
+    ghost use Rattle.gps_replay.specs.Scripts.{IsReplaying};
+    ghost use Rattle.replay_player.specs.States.{State as ScriptState};
+
+    ghost State = { ScriptState };
+
+    ghost rules = { λ s. rules_of s.queue };
+
+    ghost stands = { λ s state. IsReplaying s.queue s.player state };
+
+    #[tactic(auto, using(crate::proofs::Turns::no_event, crate::proofs::Turns::refused, crate::proofs::Turns::made))]
+    fn line(&mut self, text: &[u8], out: &mut Bytes) -> Result<Turn, NoMemory> {
+        let Some(event) = event_of(self.alloc, text)? else {
+            return Ok(Turn::Refused);
+        };
+        let Some(player) = self.player.take() else {
+            unreachable!()
+        };
+        match player.play(self.queue, event, out)? {
+            Some(player) => {
+                self.player = Some(player);
+                Ok(Turn::Made)
+            }
+            None => Ok(Turn::Refused),
+        }
+    }
+
+    fn finish(&mut self, out: &mut Bytes) -> Result<(), NoMemory> {
+        match self.player.take() {
+            Some(player) => player.finish(out),
+            None => unreachable!(),
+        }
+    }
+}

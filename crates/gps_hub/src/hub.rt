@@ -1,4 +1,4 @@
-ghost use Rattle.std.specs.Prelude.{◌≡◌, ◌<◌, ◌≤◌, ◌++◌, true, false, [], ◌∷◌, length, IfOk, IfErr, OnOk, OnErr, IfSome, MatchOption, count_by};
+ghost use Rattle.std.specs.Prelude.{◌≡◌, ◌<◌, ◌≤◌, ◌++◌, true, false, [], ◌∷◌, length, is_some, IfOk, IfErr, OnOk, OnErr, IfSome, MatchOption, count_by};
 ghost use Rattle.std.specs.List.{All, list_all};
 ghost use Rattle.book_log.specs.Standing.{has_stopped};
 ghost use Rattle.book_sessions.specs.Roster.{was_watched};
@@ -226,7 +226,9 @@ impl<J: HubNaming, R: Wait + Copy> Hub<J, R> {
     /// Shuts the book where each device has ended or was lost: no session is live then, nor will one be. Else it changes nothing.
     pub fn shut(&mut self) -> bool
         ensures exact { result ≡ list_all (λ line. has_stopped line.stage) self.old.book.log.present.lines }
-        ensures shuts { result ≡ true → ShutsAll self.old.book self.new.book × All IsClosed self.new.book.sessions }
+        ensures shuts { result ≡ true → ShutsAll self.old.book self.new.book }
+        ensures closed { result ≡ true → All IsClosed self.new.book.sessions }
+        ensures all { result ≡ true → All (λ end. is_some end ≡ true) self.new.ends }
         ensures changes { result ≡ true → self.new ≡ record self.old { book = self.new.book; is_shut = true } }
         ensures unchanged { result ≡ false → self.new ≡ self.old }
     {
@@ -260,6 +262,7 @@ impl<J: HubNaming, R: Wait + Copy> Hub<J, R> {
         ensures terms { terms_of result.book result.inlets.items J.terms.wait ≡ J.terms }
         ensures sessions { AreAdmitted door.links result.book.sessions result.sessions.items }
         ensures holds { BookHolds result.book }
+        ensures same { (result.book ≡ self.book) × (result.ends.items ≡ self.ends) }
     {
         self.keeper.agree(&mut door);
         let Hub {

@@ -137,14 +137,17 @@ hub_publish terms h lasts u step book k lt held p =
       lasts_count = k.lasts_count;
       admitted = k.admitted;
       closed = k.closed;
-      over = (k.over.0, record {
-        stands = k.over.1.stands;
-        devices = k.over.1.devices;
-        sessions = k.over.1.sessions;
-        units = λ v x within. one_unit v x (let n = length-set h.book.units u next in omega arith);
-        gate = k.over.1.gate;
-        shut = k.over.1.shut;
-      });
+      over = (
+        k.over.0,
+        record {
+          stands = k.over.1.stands;
+          devices = k.over.1.devices;
+          sessions = k.over.1.sessions;
+          units = λ v x within. one_unit v x (let n = length-set h.book.units u next in omega arith);
+          gate = k.over.1.gate;
+          shut = k.over.1.shut;
+        },
+      );
     }) held
   where
     one_unit : (v : ℕ) (x : UnitView) → v < length h.book.units → UnitFits (k.over.0 ++ h.book.log.log) v (get_or (set h.book.units u p.units.next) v x)
@@ -171,14 +174,17 @@ hub_done terms h lasts k =
       lasts_count = k.lasts_count;
       admitted = k.admitted;
       closed = k.closed;
-      over = (k.over.0, record {
-        stands = k.over.1.stands;
-        devices = k.over.1.devices;
-        sessions = k.over.1.sessions;
-        units = k.over.1.units;
-        gate = inl (inr refl);
-        shut = k.over.1.shut;
-      });
+      over = (
+        k.over.0,
+        record {
+          stands = k.over.1.stands;
+          devices = k.over.1.devices;
+          sessions = k.over.1.sessions;
+          units = k.over.1.units;
+          gate = inl (inr refl);
+          shut = k.over.1.shut;
+        },
+      );
     }
 
 -- ---- the shut
@@ -264,18 +270,21 @@ hub_shut terms h lasts book k held all shuts =
         inputs_are = k.admitted.inputs_are;
       };
       closed = λ _. all_closed count log old new keeps;
-      over = (forgotten, record {
-        stands = k.over.1.stands;
-        devices = k.over.1.devices;
-        sessions = zip_keep F B F
-            (λ a b x r f. record { run = shut_run log DaemonEnd a.session.closing f.run; account = r.0 f.run [] (input_bytes x.got) f.account; cause = r.1.cause x f.cause })
-            old new h.inputs (zip_both A (ShutKeeps count log) B (λ a b c o. (c, o)) old new accounts keeps) k.over.1.sessions;
-        units = k.over.1.units;
-        gate = ⊎_elim
-            (λ (m : MayGoOn (parts_of h)). inl (subst (λ (n : ℕ). (h.wait ≤ n) ⊎ (h.door.done ≡ true)) (sym (zip_watched (ShutKeeps count log) (λ a b o. o.watched) old new keeps)) m))
-            (λ (e : log ≡ []). inr e) k.over.1.gate;
-        shut = λ _. stop;
-      });
+      over = (
+        forgotten,
+        record {
+          stands = k.over.1.stands;
+          devices = k.over.1.devices;
+          sessions = zip_keep F B F
+              (λ a b x r f. record { run = shut_run log DaemonEnd a.session.closing f.run; account = r.0 f.run [] (input_bytes x.got) f.account; cause = r.1.cause x f.cause })
+              old new h.inputs (zip_both A (ShutKeeps count log) B (λ a b c o. (c, o)) old new accounts keeps) k.over.1.sessions;
+          units = k.over.1.units;
+          gate = ⊎_elim
+              (λ (m : MayGoOn (parts_of h)). inl (subst (λ (n : ℕ). (h.wait ≤ n) ⊎ (h.door.done ≡ true)) (sym (zip_watched (ShutKeeps count log) (λ a b o. o.watched) old new keeps)) m))
+              (λ (e : log ≡ []). inr e) k.over.1.gate;
+          shut = λ _. stop;
+        },
+      );
     }) shuts held
   where
     shut_zip : (count : ℕ) (log : List Entry) (xs ys : List Attendance) → AllStop count log → AllZip (Shuts h.book.log.length DaemonEnd) xs ys → AllZip (ShutKeeps count log) xs ys
@@ -315,18 +324,21 @@ hub_admit terms h lasts book outlet cap x k held admits none =
         inputs_are = map-append (λ (t : Taking Piece). t.lane) h.inputs (x ∷ []) ∙ ap (λ l. l ++ x.lane ∷ []) k.admitted.inputs_are ∙ sym (map-append (λ (l : Link). l.input) h.door.links (link ∷ []));
       };
       closed = λ e. absurd (cc);
-      over = (forgotten, record {
-        stands = k.over.1.stands;
-        devices = k.over.1.devices;
-        sessions = zip_push (SessionFits h.book.names forgotten h.book.log.log) h.book.sessions h.inputs newcomer x
-            (record { run = opened_run log; account = subst (λ (b : List ℕ). Account h.book.names forgotten h.book.log.log newcomer (opened_run log) [] b) (sym (ap input_bytes none)) account; cause = tt })
-            k.over.1.sessions;
-        units = k.over.1.units;
-        gate = ⊎_elim
-            (λ (m : MayGoOn (parts_of h)). inl (⊎_elim (λ (e : h.wait ≤ count_by was_watched h.book.sessions). let more = push_watched h.book.sessions newcomer in inl (omega arith)) (λ (e : h.door.done ≡ true). inr e) m))
-            (λ (e : log ≡ []). inr e) k.over.1.gate;
-        shut = λ e. absurd (cc);
-      });
+      over = (
+        forgotten,
+        record {
+          stands = k.over.1.stands;
+          devices = k.over.1.devices;
+          sessions = zip_push (SessionFits h.book.names forgotten h.book.log.log) h.book.sessions h.inputs newcomer x
+              (record { run = opened_run log; account = subst (λ (b : List ℕ). Account h.book.names forgotten h.book.log.log newcomer (opened_run log) [] b) (sym (ap input_bytes none)) account; cause = tt })
+              k.over.1.sessions;
+          units = k.over.1.units;
+          gate = ⊎_elim
+              (λ (m : MayGoOn (parts_of h)). inl (⊎_elim (λ (e : h.wait ≤ count_by was_watched h.book.sessions). let more = push_watched h.book.sessions newcomer in inl (omega arith)) (λ (e : h.door.done ≡ true). inr e) m))
+              (λ (e : log ≡ []). inr e) k.over.1.gate;
+          shut = λ e. absurd (cc);
+        },
+      );
     }) admits held
 
 -- ---- the beginning and the end
@@ -363,30 +375,35 @@ hub_new terms book inlets wait held unused is count none =
       lasts_count = map_length fresh_lasts inlets ∙ count;
       admitted = record { outlets = ap (map (λ (a : Attendance). a.session.name)) unused.sessions; caps = ap (map (λ (a : Attendance). a.session.cap)) unused.sessions; inputs_are = refl };
       closed = λ e. absurd (cc);
-      over = ([], record {
-        stands = unused.opening;
-        devices = λ d x end last lt.
-            let within : d < length inlets = omega arith in
-            let P : List Entry × Option DeviceEnd × Lasts → Type 0 = λ t. DeviceKeeps t.0 d (get_or inlets d x) t.1 t.2 in
-            subst P (λ i. (sym unused.log i, sym (get_or-map no_end inlets d x end within) i, sym (get_or-map fresh_lasts inlets d x last within) i)) (fresh_keeps d (get_or inlets d x) (none d x within));
-        sessions = subst (λ (l : List Attendance). AllZip (SessionFits book.names [] book.log.log) l []) (sym unused.sessions) tt;
-        units = λ u x lt. subst (λ (l : List Entry). UnitFits l u (get_or book.units u x)) (sym unused.log) (unused.units u x lt ∙ sym (ap (samples_of u) (nothing_after [])));
-        gate = inr unused.log;
-        shut = λ e. absurd (cc);
-      });
+      over = (
+        [],
+        record {
+          stands = unused.opening;
+          devices = λ d x end last lt.
+              let within : d < length inlets = omega arith in
+              let P : List Entry × Option DeviceEnd × Lasts → Type 0 = λ t. DeviceKeeps t.0 d (get_or inlets d x) t.1 t.2 in
+              subst P (λ i. (sym unused.log i, sym (get_or-map no_end inlets d x end within) i, sym (get_or-map fresh_lasts inlets d x last within) i)) (fresh_keeps d (get_or inlets d x) (none d x within));
+          sessions = subst (λ (l : List Attendance). AllZip (SessionFits book.names [] book.log.log) l []) (sym unused.sessions) tt;
+          units = λ u x lt. subst (λ (l : List Entry). UnitFits l u (get_or book.units u x)) (sym unused.log) (unused.units u x lt ∙ sym (ap (samples_of u) (nothing_after [])));
+          gate = inr unused.log;
+          shut = λ e. absurd (cc);
+        },
+      );
     }
 
 pub hub_agrees : (terms : Terms) (h : HubView) (lasts : List Lasts) → HubKeeps terms h lasts → DaemonHub (parts_of h)
-hub_agrees terms h lasts k =
-    (k.over.0, record {
-      stands = k.over.1.stands;
-      count = k.count;
-      ends_count = k.ends_count;
-      devices = λ d x end lt. (k.over.1.devices d x end (fresh_lasts x) lt).fits;
-      sessions = k.over.1.sessions;
-      units = k.over.1.units;
-      gate = k.over.1.gate;
-    })
+hub_agrees terms h lasts k = (
+  k.over.0,
+  record {
+    stands = k.over.1.stands;
+    count = k.count;
+    ends_count = k.ends_count;
+    devices = λ d x end lt. (k.over.1.devices d x end (fresh_lasts x) lt).fits;
+    sessions = k.over.1.sessions;
+    units = k.over.1.units;
+    gate = k.over.1.gate;
+  },
+)
 
 -- ---- whether the devices wait
 
@@ -407,3 +424,16 @@ stopped_goes terms h lasts d end k lt stopped =
     no_stop (Some DeviceEnded) e l s = absurd (cc)
     no_stop (Some DeviceFault) e l s = absurd (cc)
     no_stop (Some DeviceNoMemory) e l s = absurd (cc)
+
+-- each device has stopped where each line of the book says so
+pub all_stopped : (terms : Terms) (h : HubView) (lasts : List Lasts) → HubKeeps terms h lasts → list_all (λ (line : LineState). has_stopped line.stage) h.book.log.present.lines ≡ true
+    → All (λ (end : Option DeviceEnd). is_some end ≡ true) h.ends
+all_stopped terms h lasts k all d end lt =
+    let x : Lanes = record { bytes = record { lane = no_table; got = [] }; edges = None } in
+    let within : d < length h.book.names = let n = k.ends_count in omega arith in
+    let fits = (k.over.1.devices d x end (fresh_lasts x) within).fits in
+    stopped_end (get_or h.ends d end) ((λ i. sym fits.ended i || sym fits.lost i) ∙ stop_there h.book k.over.0 k.holds k.over.1.stands all d within)
+  where
+    stopped_end : (o : Option DeviceEnd) → (is_end o || is_loss o) ≡ true → is_some o ≡ true
+    stopped_end None e = absurd (cc)
+    stopped_end (Some found) e = refl

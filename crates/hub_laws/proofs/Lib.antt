@@ -7,3 +7,4 @@ pub mod Lists
 pub mod Hubs
 pub mod Arms
 pub mod Calls
+pub mod Beginning

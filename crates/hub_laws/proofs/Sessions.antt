@@ -127,16 +127,16 @@ heard_step exact old new s piece x held lt is_open hears =
       stays_closed = λ free shut. not_closed (slice_index_or old.sessions s free).session.closing (is_open free) shut;
       lane = refl;
       fits = λ before stands free f.
-      let other = hears.session before stands in
-      let same : other.0 ≡ one.0 = set_same old.sessions s other.0 one.0 lt (sym other.1 ∙ one.1) in
-      let inputs = subst (λ (b : Attendance). Inputs exact (known_in (length old.names) (before ++ old.log.log)) old.names old.log.length piece (slice_index_or old.sessions s free) b) same (other.2 free) in
-      let account = inputs_extend exact old.names before old.log.log old.log.length piece (slice_index_or old.sessions s free) one.0 f.run [] (input_bytes x.got) (place_is old before held stands) (is_open free) inputs f.account in
-      let run = answered_run (before ++ old.log.log) (put_of exact old.names (before ++ old.log.log) old.log.length piece (slice_index_or old.sessions s free) one.0 inputs) one.0.session.closing f.run in
-      record {
-        run = run;
-        account = subst (λ (b : List ℕ). Account old.names before old.log.log one.0 run [] b) (sym (input_more x.got (Input piece))) account;
-        cause = stops_for one.0.session.closing (length old.names) old.log.length (length inputs.requests - inputs.count) (before ++ old.log.log) (with_got (Input piece) x) one.0.session inputs.stops;
-      };
+          let other = hears.session before stands in
+          let same : other.0 ≡ one.0 = set_same old.sessions s other.0 one.0 lt (sym other.1 ∙ one.1) in
+          let inputs = subst (λ (b : Attendance). Inputs exact (known_in (length old.names) (before ++ old.log.log)) old.names old.log.length piece (slice_index_or old.sessions s free) b) same (other.2 free) in
+          let account = inputs_extend exact old.names before old.log.log old.log.length piece (slice_index_or old.sessions s free) one.0 f.run [] (input_bytes x.got) (place_is old before held stands) (is_open free) inputs f.account in
+          let run = answered_run (before ++ old.log.log) (put_of exact old.names (before ++ old.log.log) old.log.length piece (slice_index_or old.sessions s free) one.0 inputs) one.0.session.closing f.run in
+          record {
+            run = run;
+            account = subst (λ (b : List ℕ). Account old.names before old.log.log one.0 run [] b) (sym (input_more x.got (Input piece))) account;
+            cause = stops_for one.0.session.closing (length old.names) old.log.length (length inputs.requests - inputs.count) (before ++ old.log.log) (with_got (Input piece) x) one.0.session inputs.stops;
+          };
     }
 
 -- it was closed at the last piece of its lane, or where the book refused a piece
@@ -155,16 +155,16 @@ hung_step old new s why piece x held is_open may hangs =
       stays_closed = λ free shut. not_closed (slice_index_or old.sessions s free).session.closing (is_open free) shut;
       lane = refl;
       fits = λ before stands free f.
-      let becomes = (one.2 free).becomes in
-      let is_closed : is_some one.0.session.closing ≡ true = ap (λ (a : Attendance). is_some a.session.closing) becomes in
-      let account = closings_account old.names before old.log.log old.log.length why (slice_index_or old.sessions s free) one.0 f.run [] (input_bytes x.got) (place_is old before held stands) (is_open free) (one.2 free) f.account in
-      let run = closed_run (before ++ old.log.log) why f.run in
-      record {
-        run = run;
-        account = subst (λ (b : List ℕ). Account old.names before old.log.log one.0 run [] b) (sym (input_more x.got piece)) (closed_hears old.names before old.log.log one.0 run [] (input_bytes x.got) (input_part piece) is_closed account);
-        cause = subst (λ (a : Attendance). ClosesFor (length old.names) (before ++ old.log.log) (with_got piece x) a.session a.session.closing) (sym becomes)
-            (may (length old.names) (before ++ old.log.log) (closed old.log.length why (slice_index_or old.sessions s free)).session);
-      };
+          let becomes = (one.2 free).becomes in
+          let is_closed : is_some one.0.session.closing ≡ true = ap (λ (a : Attendance). is_some a.session.closing) becomes in
+          let account = closings_account old.names before old.log.log old.log.length why (slice_index_or old.sessions s free) one.0 f.run [] (input_bytes x.got) (place_is old before held stands) (is_open free) (one.2 free) f.account in
+          let run = closed_run (before ++ old.log.log) why f.run in
+          record {
+            run = run;
+            account = subst (λ (b : List ℕ). Account old.names before old.log.log one.0 run [] b) (sym (input_more x.got piece)) (closed_hears old.names before old.log.log one.0 run [] (input_bytes x.got) (input_part piece) is_closed account);
+            cause = subst (λ (a : Attendance). ClosesFor (length old.names) (before ++ old.log.log) (with_got piece x) a.session a.session.closing) (sym becomes)
+                (may (length old.names) (before ++ old.log.log) (closed old.log.length why (slice_index_or old.sessions s free)).session);
+          };
     }
 
 nobody : Attendance
@@ -200,13 +200,13 @@ useless_step book s piece x lt is_open none =
       stays_closed = λ free closed. ap (λ (a : Attendance). is_some a.session.closing) (is free) ∙ closed;
       lane = refl;
       fits = λ before stands free f.
-      let P : Attendance → Type 0 = λ a. SessionFits book.names before book.log.log a (with_got piece x) in
-      subst P (sym (is free)) (record {
-        run = f.run;
-        account = subst (λ (b : List ℕ). Account book.names before book.log.log (get_or book.sessions s free) f.run [] b)
-            (sym (input_more x.got piece ∙ ap (λ l. input_bytes x.got ++ l) none ∙ append-nil (input_bytes x.got))) f.account;
-        cause = open_cause (get_or book.sessions s free).session.closing (length book.names) (before ++ book.log.log) (with_got piece x) (get_or book.sessions s free).session (is_open free);
-      });
+          let P : Attendance → Type 0 = λ a. SessionFits book.names before book.log.log a (with_got piece x) in
+          subst P (sym (is free)) (record {
+            run = f.run;
+            account = subst (λ (b : List ℕ). Account book.names before book.log.log (get_or book.sessions s free) f.run [] b)
+                (sym (input_more x.got piece ∙ ap (λ l. input_bytes x.got ++ l) none ∙ append-nil (input_bytes x.got))) f.account;
+            cause = open_cause (get_or book.sessions s free).session.closing (length book.names) (before ++ book.log.log) (with_got piece x) (get_or book.sessions s free).session (is_open free);
+          });
     }
 
 -- nothing came of it
@@ -224,8 +224,8 @@ still_step book s x lt =
       stays_closed = λ free shut. ap (λ (a : Attendance). is_some a.session.closing) (is free) ∙ shut;
       lane = refl;
       fits = λ before stands free f.
-      let P : Attendance → Type 0 = λ a. SessionFits book.names before book.log.log a x in
-      subst P (sym (is free)) f;
+          let P : Attendance → Type 0 = λ a. SessionFits book.names before book.log.log a x in
+          subst P (sym (is free)) f;
     }
 
 -- what the last piece of its lane says of its closing

@@ -27,7 +27,7 @@ invariant_of-self-in-Ok-open g c =
     c.admit.ensures.keeper ∙ (λ i. admitting (link_of (c.of.ensures i).lane (c.of.ensures i).cap (c.of-2.ensures i).lane) c.self.inside.keeper) in
     let P : List (Taking Piece) × Admissions → Type 0 = λ t. HubKeeps g.J.HubNaming.terms (record h { book = c.open.new.book; inputs = t.0; door = t.1 }) c.self.inside.lasts.items in (
       subst P (λ i. (sym inputs i, sym door i))
-      (opened_keeps g.J.HubNaming.terms h c.self.inside.lasts.items admits.0 c.open.new.book c.args.outlet.lane c.args.outlet.cap c.args.input c.self.invariant.0 admits.1 c.show.ensures.holds admits.2 admits.3 c.requires.input),
+          (opened_keeps g.J.HubNaming.terms h c.self.inside.lasts.items admits.0 c.open.new.book c.args.outlet.lane c.args.outlet.cap c.args.input c.self.invariant.0 admits.1 c.show.ensures.holds admits.2 admits.3 c.requires.input),
       c.self.invariant.1 ∙ sym (ap (λ (a : Admissions). a.done) door),
     )
 

@@ -64,11 +64,11 @@ invariant_of-self g c =
     let new = c.pump-pumped.new in
     let P : ℕ → Type 0 = λ n. HubKeeps g.J.HubNaming.terms (record (seen_after g c) { book = new.book; inlets = set c.self.inside.inlets.items n new.inlets; ends = set c.self.inside.ends.items n new.end }) (set c.self.inside.lasts.items n new.lasts) in (
       subst P (sym c.from-at.ensures)
-      (hub_device g.J.HubNaming.terms (seen_after g c) c.self.inside.lasts.items c.args.d new.book x new.inlets e new.end l new.lasts c.self.invariant.0 (within_after g c)
-      (subst (λ (n : ℕ). get_or c.self.inside.inlets.items n x ≡ x) c.from-at.ensures (sym c.index_mut.ensures.value))
-      (there_after g c)
-      (subst (λ (n : ℕ). get_or c.self.inside.lasts.items n l ≡ l) c.from-at.ensures (sym c.index_mut-2.ensures.value))
-      (may_after g c) c.show.ensures.holds (looked_names c.pump-pumped.result x new.inlets new.end c.pump-pumped.ensures.answer) c.pump-pumped.ensures.step),
+          (hub_device g.J.HubNaming.terms (seen_after g c) c.self.inside.lasts.items c.args.d new.book x new.inlets e new.end l new.lasts c.self.invariant.0 (within_after g c)
+          (subst (λ (n : ℕ). get_or c.self.inside.inlets.items n x ≡ x) c.from-at.ensures (sym c.index_mut.ensures.value))
+          (there_after g c)
+          (subst (λ (n : ℕ). get_or c.self.inside.lasts.items n l ≡ l) c.from-at.ensures (sym c.index_mut-2.ensures.value))
+          (may_after g c) c.show.ensures.holds (looked_names c.pump-pumped.result x new.inlets new.end c.pump-pumped.ensures.answer) c.pump-pumped.ensures.step),
       c.self.invariant.1,
     )
 

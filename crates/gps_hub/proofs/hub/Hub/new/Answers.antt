@@ -12,6 +12,6 @@ invariant_of-hub g c =
     let P : List (Option DeviceEnd) × List (Taking Piece) × Admissions × List Lasts → Type 0 =
     λ t. HubKeeps g.J.HubNaming.terms (record { book = c.args.book; inlets = c.args.inlets.items; ends = t.0; inputs = t.1; door = t.2; wait = c.args.wait; is_shut = false }) t.3 in (
       subst P (λ i. (sym c.in-Ok-no_ends.ensures i, sym c.new.ensures.items i, sym c.open-keeper.ensures.keeper i, sym c.in-Ok.ensures i))
-      (hub_new g.J.HubNaming.terms c.args.book c.args.inlets.items c.args.wait c.show.ensures.holds c.requires.unused c.requires.terms c.requires.count c.requires.nothing_got),
+          (hub_new g.J.HubNaming.terms c.args.book c.args.inlets.items c.args.wait c.show.ensures.holds c.requires.unused c.requires.terms c.requires.count c.requires.nothing_got),
       sym (ap (λ (a : Admissions). a.done) c.open-keeper.ensures.keeper),
     )

@@ -23,3 +23,6 @@ returns-clause-sessions g c =
 
 pub returns-clause-holds : goal.returns-clause-holds
 returns-clause-holds g c = c.self.invariant.0.holds
+
+pub returns-clause-same : goal.returns-clause-same
+returns-clause-same g c = (ap (λ (v : HubView). v.book) c.self.view_is, ap (λ (v : HubView). v.ends) c.self.view_is)

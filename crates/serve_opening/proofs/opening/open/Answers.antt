@@ -1,0 +1,7 @@
+use Rattle.serve_opening.specs.Opening.{places_in}
+use Rattle.serve_opening.proofs.Asking.{stopped_early}
+use Rattle.serve_opening.proofs.opening.open.Goals as goal
+
+pub returns-in-Err-clause-asked : goal.returns-in-Err-clause-asked
+returns-in-Err-clause-asked g c = stopped_early c.args.inputs.items (places_in c.args.edges.items) (g.W.World.asked c.args.world.now) (g.W.World.asked c.open_inputs.new.world) c.args.listen
+    c.requires.address c.in-Err.ensures.asked

@@ -1,0 +1,186 @@
+ghost use Rattle.std.specs.Prelude.{◌≡◌, ◌≤◌, ◌<◌, ◌+◌, ◌++◌, ◌⊎◌, [], ◌∷◌, None, Some, length, IfOk, OnOk, IfErr, Ok, Err};
+ghost use Rattle.std.specs.Option.{option_to_list};
+ghost use Rattle.serve_opening.specs.Opening.{AsksFor, FaultsStay, HasCause, OpenAsks, places_in, world_faults};
+
+use gps_fixed::Bytes;
+use gps_world::{Opened, Place, World};
+use std::alloc::Global;
+
+/// Why nothing is served.
+#[derive(Clone, Copy, Debug, PartialEq, Eq)]
+pub enum Stop {
+    /// An input could not be opened.
+    Input,
+    /// Listening failed.
+    Listen,
+    NoMemory,
+}
+
+/// What was opened.
+#[derive(Drop)]
+pub struct Outside<W: World> {
+    pub inputs: Vec<W::In>,
+    pub edges: Vec<Option<W::In>>,
+    pub gate: W::Gate,
+    pub clock: W::Now,
+}
+
+fn open_place<W: World>(world: &mut W, place: Place) -> Result<W::In, Stop>
+    requires { length (W.asked world.old).places < 16 }
+    ensures cause { HasCause result (world_faults (W.input_faults world.old) (W.listen_faults world.old)) (world_faults (W.input_faults world.new) (W.listen_faults world.new)) }
+    ensures faults_stay { FaultsStay (world_faults (W.input_faults world.old) (W.listen_faults world.old)) (world_faults (W.input_faults world.new) (W.listen_faults world.new)) }
+    ensures places { (W.asked world.new).places ≡ (W.asked world.old).places ++ place ∷ [] }
+    ensures address { (W.asked world.new).address ≡ (W.asked world.old).address }
+{
+    match world.input(place) {
+        Opened::Ready(source) => Ok(source),
+        Opened::Failed => Err(Stop::Input),
+    }
+}
+
+fn open_one<W: World>(world: &mut W, place: Place, opened: &mut Vec<W::In>) -> Result<(), Stop>
+    requires { length (W.asked world.old).places < 16 }
+    ensures cause { HasCause result (world_faults (W.input_faults world.old) (W.listen_faults world.old)) (world_faults (W.input_faults world.new) (W.listen_faults world.new)) }
+    ensures faults_stay { FaultsStay (world_faults (W.input_faults world.old) (W.listen_faults world.old)) (world_faults (W.input_faults world.new) (W.listen_faults world.new)) }
+    ensures places { (W.asked world.new).places ≡ (W.asked world.old).places ++ place ∷ [] }
+    ensures address { (W.asked world.new).address ≡ (W.asked world.old).address }
+    ensures count { OnOk result (length opened.new.items ≡ length opened.old.items + 1) }
+{
+    match open_place(world, place) {
+        Ok(source) => match opened.push(source) {
+            Ok(()) => Ok(()),
+            Err(_) => Err(Stop::NoMemory),
+        },
+        Err(stop) => Err(stop),
+    }
+}
+
+fn open_inputs<W: World>(
+    world: &mut W,
+    places: Vec<Place>,
+    room: Vec<W::In>,
+) -> Result<Vec<W::In>, Stop>
+    requires few { length (W.asked world.old).places + length places.items ≤ 16 }
+    requires empty { room.items ≡ [] }
+    ensures cause { HasCause result (world_faults (W.input_faults world.old) (W.listen_faults world.old)) (world_faults (W.input_faults world.new) (W.listen_faults world.new)) }
+    ensures faults_stay { FaultsStay (world_faults (W.input_faults world.old) (W.listen_faults world.old)) (world_faults (W.input_faults world.new) (W.listen_faults world.new)) }
+    ensures asked { AsksFor result (W.asked world.old) (W.asked world.new) places.items }
+    ensures count { IfOk result (λ opened. length opened.items ≡ length places.items) }
+{
+    let mut opened = room;
+    'places: for place in places {
+        match open_one(world, place, &mut opened) {
+            Ok(()) => {}
+            Err(stop) => return Err(stop),
+        }
+    }
+    Ok(opened)
+}
+
+fn open_edge<W: World>(world: &mut W, place: Option<Place>) -> Result<Option<W::In>, Stop>
+    requires { length (W.asked world.old).places + length (option_to_list place) ≤ 16 }
+    ensures cause { HasCause result (world_faults (W.input_faults world.old) (W.listen_faults world.old)) (world_faults (W.input_faults world.new) (W.listen_faults world.new)) }
+    ensures faults_stay { FaultsStay (world_faults (W.input_faults world.old) (W.listen_faults world.old)) (world_faults (W.input_faults world.new) (W.listen_faults world.new)) }
+    ensures places { (W.asked world.new).places ≡ (W.asked world.old).places ++ option_to_list place }
+    ensures address { (W.asked world.new).address ≡ (W.asked world.old).address }
+{
+    match place {
+        Some(place) => match open_place(world, place) {
+            Ok(source) => Ok(Some(source)),
+            Err(stop) => Err(stop),
+        },
+        None => Ok(None),
+    }
+}
+
+fn open_next<W: World>(
+    world: &mut W,
+    place: Option<Place>,
+    opened: &mut Vec<Option<W::In>>,
+) -> Result<(), Stop>
+    requires { length (W.asked world.old).places + length (option_to_list place) ≤ 16 }
+    ensures cause { HasCause result (world_faults (W.input_faults world.old) (W.listen_faults world.old)) (world_faults (W.input_faults world.new) (W.listen_faults world.new)) }
+    ensures faults_stay { FaultsStay (world_faults (W.input_faults world.old) (W.listen_faults world.old)) (world_faults (W.input_faults world.new) (W.listen_faults world.new)) }
+    ensures places { (W.asked world.new).places ≡ (W.asked world.old).places ++ option_to_list place }
+    ensures address { (W.asked world.new).address ≡ (W.asked world.old).address }
+    ensures count { OnOk result (length opened.new.items ≡ length opened.old.items + 1) }
+{
+    match open_edge(world, place) {
+        Ok(source) => match opened.push(source) {
+            Ok(()) => Ok(()),
+            Err(_) => Err(Stop::NoMemory),
+        },
+        Err(stop) => Err(stop),
+    }
+}
+
+fn open_edges<W: World>(
+    world: &mut W,
+    places: Vec<Option<Place>>,
+    room: Vec<Option<W::In>>,
+) -> Result<Vec<Option<W::In>>, Stop>
+    requires few { length (W.asked world.old).places + length (places_in places.items) ≤ 16 }
+    requires empty { room.items ≡ [] }
+    ensures cause { HasCause result (world_faults (W.input_faults world.old) (W.listen_faults world.old)) (world_faults (W.input_faults world.new) (W.listen_faults world.new)) }
+    ensures faults_stay { FaultsStay (world_faults (W.input_faults world.old) (W.listen_faults world.old)) (world_faults (W.input_faults world.new) (W.listen_faults world.new)) }
+    ensures asked { AsksFor result (W.asked world.old) (W.asked world.new) (places_in places.items) }
+    ensures count { IfOk result (λ opened. length opened.items ≡ length places.items) }
+{
+    let mut opened = room;
+    'places: for place in places {
+        match open_next(world, place, &mut opened) {
+            Ok(()) => {}
+            Err(stop) => return Err(stop),
+        }
+    }
+    Ok(opened)
+}
+
+fn open_door<W: World>(world: &mut W, address: Bytes) -> Result<W::Gate, Stop>
+    requires { (W.asked world.old).address ≡ None }
+    ensures cause { HasCause result (world_faults (W.input_faults world.old) (W.listen_faults world.old)) (world_faults (W.input_faults world.new) (W.listen_faults world.new)) }
+    ensures faults_stay { FaultsStay (world_faults (W.input_faults world.old) (W.listen_faults world.old)) (world_faults (W.input_faults world.new) (W.listen_faults world.new)) }
+    ensures places { (W.asked world.new).places ≡ (W.asked world.old).places }
+    ensures address { (W.asked world.new).address ≡ Some address }
+{
+    match world.listen(address) {
+        Opened::Ready(gate) => Ok(gate),
+        Opened::Failed => Err(Stop::Listen),
+    }
+}
+
+/// Opens the inputs in the order of the devices, then the places of edges, and then the door; it ends at the first that fails.
+pub fn open<W: World>(
+    alloc: Global,
+    world: &mut W,
+    inputs: Vec<Place>,
+    edges: Vec<Option<Place>>,
+    listen: Bytes,
+) -> Result<Outside<W>, Stop>
+    requires few { length (W.asked world.old).places + (length inputs.items + length (places_in edges.items)) ≤ 16 }
+    requires address { (W.asked world.old).address ≡ None }
+    ensures cause { HasCause result (world_faults (W.input_faults world.old) (W.listen_faults world.old)) (world_faults (W.input_faults world.new) (W.listen_faults world.new)) }
+    ensures faults_stay { FaultsStay (world_faults (W.input_faults world.old) (W.listen_faults world.old)) (world_faults (W.input_faults world.new) (W.listen_faults world.new)) }
+    ensures asked { OpenAsks result (W.asked world.old) (W.asked world.new) (inputs.items ++ places_in edges.items) listen }
+    ensures inputs { IfOk result (λ outside. length outside.inputs.items ≡ length inputs.items) }
+    ensures edges { IfOk result (λ outside. length outside.edges.items ≡ length edges.items) }
+{
+    match open_inputs(world, inputs, Vec::new(alloc)) {
+        Ok(inputs) => match open_edges(world, edges, Vec::new(alloc)) {
+            Ok(edges) => match open_door(world, listen) {
+                Ok(gate) => {
+                    let clock = world.clock();
+                    Ok(Outside {
+                        inputs,
+                        edges,
+                        gate,
+                        clock,
+                    })
+                }
+                Err(stop) => Err(stop),
+            },
+            Err(stop) => Err(stop),
+        },
+        Err(stop) => Err(stop),
+    }
+}

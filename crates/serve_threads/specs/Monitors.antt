@@ -1,0 +1,14 @@
+-- What a unit's monitor did. This project's own.
+use Rattle.std.specs.Prelude.{◌≡◌, ℕ, ◌*◌, ◌≤◌, Bool, true, List, length}
+use Rattle.shm_segment.specs.declared.view.Numbered.{Numbered}
+use Rattle.shm_segment.specs.Seats.{SegmentId}
+use Rattle.shm_monitor.specs.Watching.{Watching}
+use Rattle.serve_workers.specs.Watching.{Climbs, IsBeginning, each_once}
+
+-- It kept the pairs that it took with a new number, and made all its readings where it says so.
+pub record Watched (segment : SegmentId) (tries : ℕ) (whole : Bool) (monitor : Watching) (taken : List Numbered) : Type 0 where
+  pub segment_is : monitor.segment ≡ segment
+  pub first : IsBeginning taken (each_once monitor.taken)
+  pub climbs : Climbs taken
+  pub all : whole ≡ true → taken ≡ each_once monitor.taken
+  pub loads : whole ≡ true → 2 * tries ≤ length monitor.kept

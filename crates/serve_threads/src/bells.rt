@@ -1,0 +1,119 @@
+use gps_fixed::NoMemory;
+use gps_lane::Bell;
+use std::alloc::Global;
+use std::sync::atomic::{AtomicBool, Ordering};
+
+/// The bells of a device's readers.
+#[derive(Drop)]
+pub struct DeviceBells {
+    pub bytes: Bell,
+    pub edges: Bell,
+}
+
+/// The bells of the daemon's own threads.
+#[derive(Drop)]
+pub struct Bells {
+    pub pump: Bell,
+    pub door: Bell,
+    pub publisher: Bell,
+    pub devices: Vec<DeviceBells>,
+    pub monitors: Vec<Bell>,
+    // Where a number has no bell; no thread sleeps on it.
+    spare: DeviceBells,
+}
+
+impl DeviceBells {
+    const fn new() -> DeviceBells {
+        DeviceBells {
+            bytes: Bell::new(),
+            edges: Bell::new(),
+        }
+    }
+}
+
+impl Bells {
+    pub fn new(alloc: Global, devices: usize) -> Result<Bells, NoMemory> {
+        let mut bells = Bells {
+            pump: Bell::new(),
+            door: Bell::new(),
+            publisher: Bell::new(),
+            devices: Vec::new(alloc),
+            monitors: Vec::new(alloc),
+            spare: DeviceBells::new(),
+        };
+        for _ in 0..devices {
+            bells.devices.push(DeviceBells::new())?;
+            bells.monitors.push(Bell::new())?;
+            bells.monitors.push(Bell::new())?;
+        }
+        Ok(bells)
+    }
+
+    pub fn device(&self, device: usize) -> &DeviceBells {
+        match self.devices.get(device) {
+            Some(bells) => bells,
+            None => &self.spare,
+        }
+    }
+
+    pub fn monitor(&self, unit: usize) -> &Bell {
+        match self.monitors.get(unit) {
+            Some(bell) => bell,
+            None => &self.spare.bytes,
+        }
+    }
+
+    /// There is room in the lanes of the devices.
+    pub fn ring_devices(&self) {
+        for device in self.devices.as_slice() {
+            device.bytes.ring();
+            device.edges.ring();
+        }
+    }
+
+    /// Nothing more will come.
+    pub fn close(&self) {
+        for device in self.devices.as_slice() {
+            device.bytes.close();
+            device.edges.close();
+        }
+        for monitor in self.monitors.as_slice() {
+            monitor.close();
+        }
+        self.publisher.close();
+        self.door.close();
+    }
+}
+
+/// The bells of a session's two threads, and whether they have ended.
+#[derive(Drop)]
+pub struct SessionBells {
+    pub reader: Bell,
+    pub writer: Bell,
+    gone: AtomicBool,
+}
+
+impl SessionBells {
+    pub const fn new() -> SessionBells {
+        SessionBells {
+            reader: Bell::new(),
+            writer: Bell::new(),
+            gone: AtomicBool::new(false),
+        }
+    }
+
+    /// Nothing more will come.
+    pub fn close(&self) {
+        self.reader.close();
+        self.writer.close();
+    }
+
+    /// Its threads end.
+    pub fn leave(&self) {
+        self.gone.store(true, Ordering::SeqCst);
+    }
+
+    pub fn is_gone(&self) -> bool {
+        self.gone.load(Ordering::SeqCst)
+    }
+}

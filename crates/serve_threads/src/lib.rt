@@ -1,0 +1,15 @@
+//! The works that the threads of the running daemon do, each with what its result promises: the readers of devices and edges, the two threads
+//! of a session, and monitors. This project's own.
+#![tactic(auto)]
+
+mod bells;
+mod monitors;
+mod reading;
+mod session;
+mod work;
+
+pub use bells::{Bells, DeviceBells, SessionBells};
+pub use monitors::{WatchDone, Watcher, Watching, start_watcher, watchers};
+pub use reading::{DeviceReading, EdgeReading, ReaderDone, start_device, start_edges};
+pub use session::{Attending, Link, SessionRun, WriterDone, start_session};
+pub use work::{Work, start};

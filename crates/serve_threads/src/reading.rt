@@ -1,0 +1,169 @@
+ghost use Rattle.std.specs.Prelude.{◌≡◌};
+ghost use Rattle.serve_pieces.specs.Carried.{device_part, input_part};
+ghost use Rattle.serve_workers.specs.Readings.{IsDevicePiece, IsInputPiece};
+ghost use Rattle.serve_threads.specs.Reading.{Reads, ReadsLines, counts};
+
+use crate::work::{Work, start};
+use gps_lane::{Bell, Tx};
+use gps_outside::{Clock, Source};
+use serve_pieces::{Ending, Piece};
+use serve_workers::{Dials, SharedClock, read_device, read_edges, read_session};
+use std::alloc::Global;
+use std::marker::PhantomData;
+use std::snapshot::Snapshot;
+use std::sync::{Mutex, Wait};
+use std::thread::{Promise, Scope};
+
+/// What a reader hands back: its source, its end of the lane, and how the source ended, where it was not told to end before.
+#[derive(Drop)]
+pub struct ReaderDone<S: Source, R> {
+    pub source: S,
+    pub pieces: Tx<Piece, R>,
+    pub ending: Option<Ending>,
+}
+
+/// A device reader promises that it put what it took from this source into this lane.
+#[derive(Drop)]
+pub struct DeviceReading<S: Source, R, D: Dials> {
+    pub source: Snapshot<S>,
+    pub pieces: Snapshot<Tx<Piece, R>>,
+    pub dials: PhantomData<D>,
+}
+
+impl<S: Source, R, D: Dials> Promise<ReaderDone<S, R>> for DeviceReading<S, R, D> {
+    ghost use Rattle.serve_pieces.specs.Carried.{device_part};
+    ghost use Rattle.serve_workers.specs.Readings.{IsDevicePiece};
+    ghost use Rattle.serve_threads.specs.Reading.{Reads, counts};
+
+    ghost kept_by = { λ p r. Reads device_part (IsDevicePiece D.may) r.ending p.pieces.value r.pieces (S.content p.source.value) (S.content r.source) (counts (S.faults p.source.value) (S.quiets p.source.value)) (counts (S.faults r.source) (S.quiets r.source)) };
+}
+
+/// An edge reader promises that it put the lines that it took from this source into this lane.
+#[derive(Drop)]
+pub struct EdgeReading<S: Source, R> {
+    pub source: Snapshot<S>,
+    pub pieces: Snapshot<Tx<Piece, R>>,
+}
+
+impl<S: Source, R> Promise<ReaderDone<S, R>> for EdgeReading<S, R> {
+    ghost use Rattle.serve_threads.specs.Reading.{ReadsLines, counts};
+
+    ghost kept_by = { λ p r. ReadsLines r.ending p.pieces.value r.pieces (S.content p.source.value) (S.content r.source) (counts (S.faults p.source.value) (S.quiets p.source.value)) (counts (S.faults r.source) (S.quiets r.source)) };
+}
+
+/// Reads a device to its end.
+pub fn device_reader<S: Source, C: Clock, D: Dials, R: Wait + Copy>(
+    rt: &R,
+    alloc: Global,
+    source: S,
+    clock: &Mutex<SharedClock<C, D>>,
+    pieces: Tx<Piece, R>,
+    own: &Bell,
+    pump: &Bell,
+) -> ReaderDone<S, R>
+    ensures { Reads device_part (IsDevicePiece D.may) result.ending pieces result.pieces (S.content source) (S.content result.source) (counts (S.faults source) (S.quiets source)) (counts (S.faults result.source) (S.quiets result.source)) }
+{
+    let mut source = source;
+    let mut pieces = pieces;
+    let ending = read_device(rt, alloc, &mut source, clock, &mut pieces, own, pump);
+    ReaderDone {
+        source,
+        pieces,
+        ending,
+    }
+}
+
+/// Reads a session's requests to their end.
+pub fn session_reader<S: Source, R: Wait + Copy>(
+    rt: &R,
+    alloc: Global,
+    source: S,
+    pieces: Tx<Piece, R>,
+    own: &Bell,
+    pump: &Bell,
+) -> ReaderDone<S, R>
+    ensures { Reads input_part IsInputPiece result.ending pieces result.pieces (S.content source) (S.content result.source) (counts (S.faults source) (S.quiets source)) (counts (S.faults result.source) (S.quiets result.source)) }
+{
+    let mut source = source;
+    let mut pieces = pieces;
+    let ending = read_session(rt, alloc, &mut source, &mut pieces, own, pump);
+    ReaderDone {
+        source,
+        pieces,
+        ending,
+    }
+}
+
+/// Starts the reader of a device.
+pub fn start_device<
+    's,
+    E,
+    S: Source + Send + 's,
+    C: Clock + Send + 's,
+    D: Dials + Send + Sync + 's,
+    R: Wait + Copy + Send + Sync + 's,
+>(
+    rt: R,
+    alloc: Global,
+    scope: &'s Scope<'s, E>,
+    source: S,
+    clock: &'s Mutex<SharedClock<C, D>>,
+    pieces: Tx<Piece, R>,
+    own: &'s Bell,
+    pump: &'s Bell,
+) -> Work<ReaderDone<S, R>, DeviceReading<S, R, D>>
+    ensures source { result.source.value ≡ source }
+    ensures pieces { result.pieces.value ≡ pieces }
+{
+    let promise = DeviceReading {
+        source: Snapshot::of(&source),
+        pieces: Snapshot::of(&pieces),
+        dials: PhantomData,
+    };
+    start(scope, promise, move || {
+        device_reader(&rt, alloc, source, clock, pieces, own, pump)
+    })
+}
+
+/// Reads the edges of a device to their end.
+pub fn edge_reader<S: Source, R: Wait + Copy>(
+    rt: &R,
+    alloc: Global,
+    source: S,
+    pieces: Tx<Piece, R>,
+    own: &Bell,
+    pump: &Bell,
+) -> ReaderDone<S, R>
+    ensures { ReadsLines result.ending pieces result.pieces (S.content source) (S.content result.source) (counts (S.faults source) (S.quiets source)) (counts (S.faults result.source) (S.quiets result.source)) }
+{
+    let mut source = source;
+    let mut pieces = pieces;
+    let ending = read_edges(rt, alloc, &mut source, &mut pieces, own, pump);
+    ReaderDone {
+        source,
+        pieces,
+        ending,
+    }
+}
+
+/// Starts the reader of a device's edges.
+pub fn start_edges<'s, E, S: Source + Send + 's, R: Wait + Copy + Send + Sync + 's>(
+    rt: R,
+    alloc: Global,
+    scope: &'s Scope<'s, E>,
+    source: S,
+    pieces: Tx<Piece, R>,
+    own: &'s Bell,
+    pump: &'s Bell,
+) -> Work<ReaderDone<S, R>, EdgeReading<S, R>>
+    ensures source { result.source.value ≡ source }
+    ensures pieces { result.pieces.value ≡ pieces }
+{
+    let promise = EdgeReading {
+        source: Snapshot::of(&source),
+        pieces: Snapshot::of(&pieces),
+    };
+    start(scope, promise, move || {
+        edge_reader(&rt, alloc, source, pieces, own, pump)
+    })
+}

@@ -1,0 +1,156 @@
+ghost use Rattle.std.specs.Prelude.{◌≡◌};
+ghost use Rattle.serve_threads.specs.Sessions.{SessionRuns, Wrote};
+
+use crate::bells::SessionBells;
+use crate::reading::{ReaderDone, session_reader};
+use crate::work::{Work, start};
+use gps_lane::{Bell, Rx, Tx};
+use gps_outside::{Sink, Source};
+use serve_pieces::Piece;
+use serve_workers::{SessionEnd, write_items};
+use session_core::Item;
+use std::alloc::Global;
+use std::snapshot::Snapshot;
+use std::sync::{Arc, Wait};
+use std::thread::{Promise, Scope, Threads};
+
+/// What a writer hands back.
+#[derive(Drop)]
+pub struct WriterDone<K: Sink, R> {
+    pub sink: K,
+    pub items: Rx<Item, R>,
+    pub end: SessionEnd,
+}
+
+/// What the two threads of a session hand back.
+#[derive(Drop)]
+pub struct SessionRun<S: Source, K: Sink, R> {
+    pub reader: ReaderDone<S, R>,
+    pub writer: WriterDone<K, R>,
+}
+
+/// What a session's threads work with.
+#[derive(Drop)]
+pub struct Link<S: Source, K: Sink, R> {
+    pub source: S,
+    pub sink: K,
+    pub pieces: Tx<Piece, R>,
+    pub items: Rx<Item, R>,
+}
+
+/// A writer promises that it wrote to this sink what it got of this lane.
+#[derive(Drop)]
+pub struct Writing<K: Sink, R> {
+    pub sink: Snapshot<K>,
+    pub items: Snapshot<Rx<Item, R>>,
+}
+
+impl<K: Sink, R> Promise<WriterDone<K, R>> for Writing<K, R> {
+    ghost use Rattle.serve_threads.specs.Sessions.{Wrote};
+
+    ghost kept_by = { λ p r. Wrote r.end p.items.value r.items (K.written p.sink.value) (K.written r.sink) (K.faults p.sink.value) (K.faults r.sink) };
+}
+
+/// A session's threads promise that both did their work on this link.
+#[derive(Drop)]
+pub struct Attending<S: Source, K: Sink, R> {
+    pub link: Snapshot<Link<S, K, R>>,
+}
+
+impl<S: Source, K: Sink, R> Promise<SessionRun<S, K, R>> for Attending<S, K, R> {
+    ghost use Rattle.serve_threads.specs.Sessions.{SessionRuns};
+
+    ghost kept_by = { λ p r. SessionRuns S.content S.faults S.quiets K.written K.faults p.link.value r };
+}
+
+fn session_writer<K: Sink, R: Wait + Copy>(
+    rt: &R,
+    alloc: Global,
+    items: Rx<Item, R>,
+    sink: K,
+    bells: &SessionBells,
+) -> WriterDone<K, R>
+    ensures { Wrote result.end items result.items (K.written sink) (K.written result.sink) (K.faults sink) (K.faults result.sink) }
+{
+    let mut items = items;
+    let mut sink = sink;
+    let end = write_items(rt, alloc, &mut items, &bells.writer, &mut sink);
+    WriterDone { sink, items, end }
+}
+
+fn start_writer<'s, E, K: Sink + Send + 's, R: Wait + Copy + Send + Sync + 's>(
+    rt: R,
+    alloc: Global,
+    scope: &'s Scope<'s, E>,
+    items: Rx<Item, R>,
+    sink: K,
+    bells: Arc<SessionBells>,
+) -> Work<WriterDone<K, R>, Writing<K, R>>
+    ensures sink { result.sink.value ≡ sink }
+    ensures items { result.items.value ≡ items }
+{
+    let promise = Writing {
+        sink: Snapshot::of(&sink),
+        items: Snapshot::of(&items),
+    };
+    start(scope, promise, move || {
+        session_writer(&rt, alloc, items, sink, &bells)
+    })
+}
+
+/// The work of a session: its writer in a thread of its own, its reader here.
+pub fn attend<
+    's,
+    E,
+    S: Source + Send + 's,
+    K: Sink + Send + 's,
+    R: Threads + Wait + Copy + Send + Sync + 's,
+>(
+    rt: R,
+    alloc: Global,
+    scope: &'s Scope<'s, E>,
+    link: Link<S, K, R>,
+    bells: Arc<SessionBells>,
+    writers: Arc<SessionBells>,
+    pump: &'s Bell,
+) -> SessionRun<S, K, R>
+    ensures { SessionRuns S.content S.faults S.quiets K.written K.faults link result }
+{
+    let Link {
+        source,
+        sink,
+        pieces,
+        items,
+    } = link;
+    let writer = start_writer(rt, alloc, scope, items, sink, writers);
+    let reader = session_reader(&rt, alloc, source, pieces, &bells.reader, pump);
+    let writer = writer.join(&rt);
+    bells.leave();
+    SessionRun { reader, writer }
+}
+
+/// Starts the threads of a session.
+pub fn start_session<
+    's,
+    E,
+    S: Source + Send + 's,
+    K: Sink + Send + 's,
+    R: Threads + Wait + Copy + Send + Sync + 's,
+>(
+    rt: R,
+    alloc: Global,
+    scope: &'s Scope<'s, E>,
+    link: Link<S, K, R>,
+    bells: Arc<SessionBells>,
+    writers: Arc<SessionBells>,
+    pump: &'s Bell,
+) -> Work<SessionRun<S, K, R>, Attending<S, K, R>>
+    ensures { result.link.value ≡ link }
+{
+    let promise = Attending {
+        link: Snapshot::of(&link),
+    };
+    start(scope, promise, move || {
+        attend(rt, alloc, scope, link, bells, writers, pump)
+    })
+}

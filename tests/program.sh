@@ -19,7 +19,7 @@ run() {
     status=$?
 }
 
-usage='usage: gpsrelay decode|replay|pseudo|lines'
+usage='usage: gpsrelay decode|replay|generate|pseudo|lines'
 sentence='$GPRMC,123519,A,4807.038,N,01131.000,E,022.4,084.4,230394,003.1,W*6A'
 line='{"class":"TPV","device":"stdin","mode":2,"time":"1994-03-23T12:35:19.000Z","lat":48.117300000,"lon":11.516666667,"track":84.4000,"speed":11.524}'
 later='$GPGGA,123520,4807.038,N,01131.000,E,1,08,0.9,545.4,M,46.9,M,,*4D'
@@ -52,7 +52,7 @@ check 'one byte more than the history: no line' '' "$(cat "$place/out")"
 run decode --history 70
 check 'as many bytes as the history: status' 0 "$status"
 
-for words in '' 'frob' 'decode --history 0' 'decode --history x' 'decode --help' 'decode more' 'pseudo more' 'lines more' 'lines --history 5' 'replay --queue 0' 'generate' 'serve'; do
+for words in '' 'frob' 'decode --history 0' 'decode --history x' 'decode --help' 'decode more' 'pseudo more' 'lines more' 'lines --history 5' 'replay --queue 0' 'generate' 'generate --seed 1' 'generate --seed 1 --size 0' 'serve'; do
     run $words
     check "refused words '$words': status" 2 "$status"
     check "refused words '$words': nothing on standard output" '' "$(cat "$place/out")"

@@ -1,5 +1,5 @@
 #!/usr/bin/env bash
-# The sample script, played by the built program.
+# The sample script and the made one, played by the built program.
 # Use: replay.sh PROGRAM, from anywhere. Prints a line for each check, and ends with 1 if one fails.
 set -u
 program=$(readlink -f "${1:?the path of the built program}")
@@ -59,5 +59,13 @@ refused 'a line that is refused' 44
 refused 'a line of 4,097 bytes without its end' 44
 (cat "$script"; printf '#%4095s\r\n' ''; echo 'frob') >"$place/in"
 refused 'a line of 4,096 bytes, and then one that is refused' 45
+
+# generate is replay of the script that it makes.
+printf '%s\n' 's0 drained daemonend 46' 's1 drained daemonend 62' 's2 drained daemonend 40' \
+    'u0 published 10 count 20 left 0' 'u1 published 9 count 18 left 0' \
+    'u2 published 10 count 20 left 0' 'u3 published 9 count 18 left 0' >"$place/wanted"
+: >"$place/in"
+run generate --seed 1 --size 10
+same 'ten seconds that are made' "$place/wanted"
 
 exit $failed

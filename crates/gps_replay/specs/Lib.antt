@@ -1,3 +1,5 @@
 pub mod Run
+pub mod Closings
+pub mod Generated
 pub mod Replayed
 pub mod Scripts

@@ -1,9 +1,15 @@
 //! Scripts: one is read line by line and played on a book in one thread, whatever a generation of the book may hold.
 #![tactic(auto)]
 
+mod generating;
+mod held;
+mod quiet;
 mod replaying;
 mod script;
+#[cfg(test)]
+mod tests;
 
+pub use generating::generate;
 pub use line_play::Outcome;
 pub use replay_workload::workload;
 pub use replaying::{replay, replay_core};

@@ -1,6 +1,7 @@
-ghost use Rattle.std.specs.Prelude.{◌≡◌, ◌≤◌};
+ghost use Rattle.std.specs.Prelude.{◌≡◌, ◌≤◌, ◌++◌, OnOk};
 ghost use Rattle.gps_replay.specs.Scripts.{IsReplaying};
-ghost use Rattle.replay_player.specs.States.{new_state};
+ghost use Rattle.replay_player.specs.Ends.{closings_at_end};
+ghost use Rattle.replay_player.specs.States.{State, new_state};
 
 use gps_fixed::{Bytes, NoMemory};
 use line_play::{Plays, Turn};
@@ -31,6 +32,18 @@ impl Script {
             alloc,
             queue,
             player: Some(Player::new(alloc, limit)),
+        }
+    }
+
+    /// Adds the closing lines of the script's end, without the items that are left.
+    pub(crate) fn finish_quietly(&mut self, out: &mut Bytes) -> Result<(), NoMemory>
+        requires known { (state : State) × IsReplaying self.old.queue self.old.player state }
+        ensures writes { (state : State) → IsReplaying self.old.queue self.old.player state
+            → OnOk result (out.new ≡ out.old ++ closings_at_end state) }
+    {
+        match self.player.take() {
+            Some(player) => player.finish_quietly(out),
+            None => unreachable!(),
         }
     }
 }

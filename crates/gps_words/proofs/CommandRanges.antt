@@ -6,6 +6,7 @@ use Rattle.clap.specs.Simple.{App, matches_of}
 use Rattle.clap.specs.Walk.{Row, Text, first_of}
 use Rattle.gps_words.specs.Asked.{asked_of, kind_named, read_as}
 use Rattle.gps_words.specs.Decode.{decode_app, decode_in, decode_of, history_in}
+use Rattle.gps_words.specs.Generate.{generate_app, generate_in, generate_of, seed_in, size_in}
 use Rattle.gps_words.specs.Lines.{lines_app, lines_in, lines_of}
 use Rattle.gps_words.specs.Numbers.{digits_after, is_number_text, number_in}
 use Rattle.gps_words.specs.Options.{are_taken, read_by}
@@ -15,7 +16,7 @@ use Rattle.gps_words.specs.Within.{IsHistory, IsInRange, IsQueue}
 use Rattle.gps_words.specs.declared.choice.Kind.{Kind}
 use Rattle.gps_words.specs.declared.choice.Kind.TheVariants as kind
 use Rattle.gps_words.specs.declared.command.Command.{Command}
-use Rattle.gps_words.specs.declared.command.Command.TheVariants.{Decode, Pseudo, Replay, Lines}
+use Rattle.gps_words.specs.declared.command.Command.TheVariants.{Decode, Pseudo, Replay, Generate, Lines}
 use Rattle.gps_words.proofs.Within.{chosen, chosen_some, number_range}
 
 some_is : {X : Type 0} (x y : X) → Some x ≡ Some y → x ≡ y
@@ -26,6 +27,15 @@ history_range rows h is = number_range 16_777_216 1 33_554_432 (first_of (codes 
 
 queue_range : (rows : List Row) (q : ℕ) → queue_in rows ≡ Some q → IsQueue q
 queue_range rows q is = number_range 4_096 1 65_536 (first_of (codes "queue") rows) q (omega arith) (omega arith) is
+
+size_range : (text : Option (List ℕ)) (n : ℕ) → option_and_then (number_in 1 10_000) text ≡ Some n → (1 ≤ n) × (n ≤ 10_000)
+size_range None n is = absurd (cc)
+size_range (Some text) n is =
+    let m = digits_after 0 text in
+    let c = chosen (is_number_text text && nat_le 1 m && nat_le m 10_000) m n is in
+    let p = and_parts (is_number_text text && nat_le 1 m) (nat_le m 10_000) c.0 in
+    let q = and_parts (is_number_text text) (nat_le 1 m) p.0 in
+    (omega (arith, leb-true 1 m q.1, c.1), omega (arith, leb-true m 10_000 p.1, c.1))
 
 -- a command of one number, or of two
 by_one : (make : ℕ → Command) (o : Option ℕ) (c : Command) → ((n : ℕ) → o ≡ Some n → IsInRange (make n)) → option_map make o ≡ Some c → IsInRange c
@@ -55,6 +65,12 @@ replayed words c is =
     read replay_app replay_in words c
     (λ rows at. by_two (λ h q. Replay h q) (history_in rows) (queue_in rows) c (λ h q f g. (history_range rows h f, queue_range rows q g)) at) is
 
+generated : (words : List Text) (c : Command) → generate_of words ≡ Some c → IsInRange c
+unfolding generate_in
+generated words c is =
+    read generate_app generate_in words c
+    (λ rows at. by_two (λ s n. Generate s n) (seed_in rows) (size_in rows) c (λ s n f g. size_range (first_of (codes "size") rows) n g) at) is
+
 counted : (words : List Text) (c : Command) → lines_of words ≡ Some c → IsInRange c
 counted words c is = read lines_app lines_in words c (λ rows at. subst (λ d. IsInRange d) (some_is Lines c at) tt) is
 
@@ -63,6 +79,7 @@ by_kind None words c is = absurd (cc)
 by_kind (Some kind.Decode) words c is = decoded words c is
 by_kind (Some kind.Pseudo) words c is = pseudo_done words c is
 by_kind (Some kind.Replay) words c is = replayed words c is
+by_kind (Some kind.Generate) words c is = generated words c is
 by_kind (Some kind.Lines) words c is = counted words c is
 
 pub in_range : (words : List Text) (c : Command) → asked_of words ≡ Some c → IsInRange c

@@ -8,11 +8,12 @@ use Rattle.gps_words.specs.Numbers.{digits_after}
 use Rattle.gps_fixed.specs.Scaled.{whole_of}
 use Rattle.gps_fixed.specs.Numeral.{numeral}
 use Rattle.gps_words.specs.Devices.{devices_in, devices_of, edges_end_names, edges_for, halves, is_address, is_port, last_colon, target_in, target_of, word_in, words_in}
+use Rattle.gps_words.specs.Generate.{generate_in}
 use Rattle.gps_words.specs.Options.{read_by}
 use Rattle.gps_words.specs.Replay.{replay_in}
 use Rattle.gps_words.specs.Serve.{Serve, numbers_in, serve_asked_of, serve_in}
 use Rattle.gps_words.specs.declared.command.Command.{Command}
-use Rattle.gps_words.specs.declared.command.Command.TheVariants.{Decode, Lines, Replay}
+use Rattle.gps_words.specs.declared.command.Command.TheVariants.{Decode, Generate, Lines, Replay}
 use Rattle.gps_words.specs.declared.device.Input.TheVariants.{File, Tcp}
 use Rattle.gps_words.specs.declared.serve.ServeNumbers.{ServeNumbers}
 
@@ -97,6 +98,14 @@ short_help = refl
 stray_word : decode_with (codes "stdin" ∷ []) ≡ None
 unfolding clap_on_literals kind_named read_by digits_after
 stray_word = refl
+
+generated : asked_of (codes "generate" ∷ codes "--seed" ∷ codes "0" ∷ codes "--size=10000" ∷ []) ≡ Some (Generate 0 10_000)
+unfolding clap_on_literals kind_named read_by digits_after generate_in
+generated = refl
+
+no_size : asked_of (codes "generate" ∷ codes "--seed" ∷ codes "1" ∷ []) ≡ None
+unfolding clap_on_literals kind_named read_by digits_after generate_in
+no_size = refl
 
 replayed : asked_of (codes "replay" ∷ codes "--queue" ∷ codes "65536" ∷ []) ≡ Some (Replay 16_777_216 65_536)
 unfolding clap_on_literals kind_named read_by digits_after replay_in

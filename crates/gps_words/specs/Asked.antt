@@ -5,6 +5,7 @@ use Rattle.std.specs.Prelude.{List, [], ◌∷◌, Option, Some, None, codes, if
 use Rattle.std.specs.Str.{bytes_eq}
 use Rattle.clap.specs.Walk.{Text}
 use Rattle.gps_words.specs.Decode.{decode_of}
+use Rattle.gps_words.specs.Generate.{generate_of}
 use Rattle.gps_words.specs.Lines.{lines_of}
 use Rattle.gps_words.specs.Pseudo.{pseudo_of}
 use Rattle.gps_words.specs.Replay.{replay_of}
@@ -18,14 +19,16 @@ kind_named word =
     if bytes_eq word (codes "decode") then Some kind.Decode
     else (if bytes_eq word (codes "pseudo") then Some kind.Pseudo
     else (if bytes_eq word (codes "replay") then Some kind.Replay
+    else (if bytes_eq word (codes "generate") then Some kind.Generate
     else (if bytes_eq word (codes "lines") then Some kind.Lines
-    else None)))
+    else None))))
 
 abbrev pub read_as : Option Kind → List Text → Option Command
 read_as None words = None
 read_as (Some kind.Decode) words = decode_of words
 read_as (Some kind.Pseudo) words = pseudo_of words
 read_as (Some kind.Replay) words = replay_of words
+read_as (Some kind.Generate) words = generate_of words
 read_as (Some kind.Lines) words = lines_of words
 
 abbrev pub asked_of : List Text → Option Command

@@ -2,7 +2,7 @@
 use Rattle.std.specs.Prelude.{◌≡◌, ℕ, ◌≤◌, length}
 use Rattle.gps_words.specs.Serve.{Serve}
 use Rattle.gps_words.specs.declared.command.Command.{Command}
-use Rattle.gps_words.specs.declared.command.Command.TheVariants.{Decode, Pseudo, Replay, Lines}
+use Rattle.gps_words.specs.declared.command.Command.TheVariants.{Decode, Pseudo, Replay, Generate, Lines}
 
 -- one input and one place of edges, or none, for each device, and each number in its range
 pub record IsWithin (s : Serve) : Type 0 where
@@ -26,4 +26,5 @@ abbrev pub IsInRange : Command → Type 0
 IsInRange (Decode history) = IsHistory history
 IsInRange (Pseudo history) = IsHistory history
 IsInRange (Replay history queue) = IsHistory history × IsQueue queue
+IsInRange (Generate seed size) = (1 ≤ size) × (size ≤ 10_000)
 IsInRange Lines = Unit {0}

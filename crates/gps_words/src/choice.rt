@@ -3,6 +3,7 @@ ghost use Rattle.gps_words.specs.Asked.{asked_of, kind_named};
 ghost use Rattle.gps_words.specs.Within.{IsInRange};
 
 use crate::decode::decode;
+use crate::generate::generate;
 use crate::lines::lines;
 use crate::pseudo::pseudo;
 use crate::replay::replay;
@@ -15,6 +16,7 @@ pub(crate) enum Kind {
     Decode,
     Pseudo,
     Replay,
+    Generate,
     Lines,
 }
 
@@ -29,6 +31,8 @@ fn kind_named(word: &str) -> Option<Kind>
         Some(Kind::Pseudo)
     } else if word == "replay" {
         Some(Kind::Replay)
+    } else if word == "generate" {
+        Some(Kind::Generate)
     } else if word == "lines" {
         Some(Kind::Lines)
     } else {
@@ -46,6 +50,7 @@ fn read(alloc: Global, words: &[String]) -> Result<Command, WordsFault>
             Some(Kind::Decode) => decode(alloc, words),
             Some(Kind::Pseudo) => pseudo(alloc, words),
             Some(Kind::Replay) => replay(alloc, words),
+            Some(Kind::Generate) => generate(alloc, words),
             Some(Kind::Lines) => lines(alloc, words),
             None => Err(WordsFault::Refused),
         },

@@ -7,6 +7,7 @@ mod command;
 mod decode;
 mod device;
 mod devices;
+mod generate;
 mod lines;
 mod numbers;
 mod options;

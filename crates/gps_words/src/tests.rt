@@ -43,6 +43,10 @@ fn each_command_reads_its_words(rt: HostRuntime) -> Result<(), Fail> {
                 queue: 2,
             },
         ),
+        (
+            &["generate", "--seed", "1", "--size", "10"],
+            Command::Generate { seed: 1, size: 10 },
+        ),
         (&["lines"], Command::Lines),
     ];
     for (words, command) in rows {

@@ -1,10 +1,12 @@
 -- What each command does, for a status that words have.
-use Rattle.std.proofs.Common.{◌≡◌, ℕ, List, Option, Some, None, ◌⊎◌, inl, inr, refl, sym, ◌∙◌, ap, subst, arith}
+use Rattle.std.proofs.Common.{◌≡◌, ℕ, List, [], length, Option, Some, None, ◌⊎◌, inl, inr, refl, sym, ◌∙◌, ap, subst, arith}
 use Rattle.gps_outside.specs.Counts.{Rose}
 use Rattle.gps_outside.specs.Told.{Stream}
+use Rattle.gps_outside.proofs.Writing.{appends_none, part_of}
+use Rattle.text_lines.specs.Lines.{lines as lines_in_text, open_line}
 use Rattle.gps_outside.specs.Ticks.{Dial}
 use Rattle.gps_words.specs.declared.command.Command.{Command}
-use Rattle.gps_words.specs.declared.command.Command.TheVariants.{Decode, Pseudo, Replay, Lines}
+use Rattle.gps_words.specs.declared.command.Command.TheVariants.{Decode, Pseudo, Replay, Generate, Lines}
 use Rattle.line_counts.specs.declared.outcome.Outcome.TheVariants as lines
 use Rattle.gpsrelay.specs.declared.outcome.Outcome.TheVariants.{NoMemory}
 use Rattle.gpsrelay.specs.Commands.{Does, EndsAt, IsWithinLimits, NothingFails}
@@ -13,15 +15,30 @@ use Rattle.gpsrelay.specs.Texts.{line_of, sentences_of}
 use Rattle.gpsrelay.proofs.Decoding as decoding
 use Rattle.gpsrelay.proofs.Statuses as device
 use Rattle.gpsrelay.proofs.LineStatuses as counted
-use Rattle.gpsrelay.proofs.ReplayStatuses as replayed
+use Rattle.gpsrelay.proofs.PlayStatuses as played
 use Rattle.line_play.specs.declared.outcome.Outcome.TheVariants as play
+use Rattle.line_play.proofs.Complete.{completes as replays}
+use Rattle.replay_workload.specs.Workload.{workload_of}
+use Rattle.gps_replay.specs.Closings.{closing_rules}
+use Rattle.gps_replay.specs.Generated.{default_queue, made}
+use Rattle.gps_replay.specs.Replayed.{Replayed, most_bytes}
+use Rattle.gps_replay.specs.Run.{rules_of}
+use Rattle.gps_replay.proofs.Making.{nothing_played}
+
+nothing_replayed : (queue : ℕ) (source : Option Stream) (sink : Option (List ℕ)) → Replayed play.NoMemory queue source source sink sink
+unfolding lines_in_text open_line
+nothing_replayed queue source sink = record {
+  bytes = [];
+  ends = inl (inl (omega arith, decoding.passes_none source), part_of [] [] sink sink (appends_none sink));
+}
 
 -- want of memory before anything is done
 pub nothing_done : (command : Command) (status : ℕ) → status ≡ 7 → (source : Option Stream) (faults quiets : ℕ) (clock : Option Dial) (sink : Option (List ℕ)) (sunk : ℕ)
     → Does command status source source faults faults quiets quiets clock clock sink sink sunk sunk
 nothing_done (Decode history) status is source faults quiets clock sink sunk = (NoMemory, is, tt, decoding.nothing_done line_of history source clock sink)
 nothing_done (Pseudo history) status is source faults quiets clock sink sunk = (NoMemory, is, tt, decoding.nothing_done sentences_of history source clock sink)
-nothing_done (Replay history queue) status is source faults quiets clock sink sunk = ((play.NoMemory, is, tt, replayed.nothing_played queue source sink), refl)
+nothing_done (Replay history queue) status is source faults quiets clock sink sunk = (play.NoMemory, is, tt, nothing_replayed queue source sink, refl)
+nothing_done (Generate seed size) status is source faults quiets clock sink sunk = (play.NoMemory, is, tt, nothing_played seed size sink, refl, refl, refl, refl)
 nothing_done Lines status is source faults quiets clock sink sunk = (lines.NoMemory, is, tt, counted.nothing_counted source sink, refl)
 
 module _ (status : ℕ) (source source' : Option Stream) (faults faults' quiets quiets' : ℕ) (clock clock' : Option Dial) (sink sink' : Option (List ℕ)) (sunk sunk' : ℕ) where
@@ -31,19 +48,22 @@ module _ (status : ℕ) (source source' : Option Stream) (faults faults' quiets 
   pub not_refused : (command : Command) → IsDone command → status ≡ 2 → ⊥
   not_refused (Decode history) done e = device.not_refused done.0 (sym done.1 ∙ e)
   not_refused (Pseudo history) done e = device.not_refused done.0 (sym done.1 ∙ e)
-  not_refused (Replay history queue) done e = replayed.not_refused done.0.0 (sym done.0.1 ∙ e)
+  not_refused (Replay history queue) done e = played.not_refused done.0 (sym done.1 ∙ e)
+  not_refused (Generate seed size) done e = played.not_refused done.0 (sym done.1 ∙ e)
   not_refused Lines done e = counted.not_refused done.0 (sym done.1 ∙ e)
 
   read_cause : (command : Command) → IsDone command → status ≡ 3 → HasReadCause faults faults' quiets quiets'
   read_cause (Decode history) done e = device.read_cause done.0 faults faults' quiets quiets' sunk sunk' done.2 (sym done.1 ∙ e)
   read_cause (Pseudo history) done e = device.read_cause done.0 faults faults' quiets quiets' sunk sunk' done.2 (sym done.1 ∙ e)
-  read_cause (Replay history queue) done e = replayed.read_cause done.0.0 faults faults' quiets quiets' sunk sunk' done.0.2 (sym done.0.1 ∙ e)
+  read_cause (Replay history queue) done e = played.read_cause done.0 faults faults' quiets quiets' sunk sunk' done.2 (sym done.1 ∙ e)
+  read_cause (Generate seed size) done e = absurd (played.made_no_read_fault done.0 sunk sunk' done.2 (sym done.1 ∙ e))
   read_cause Lines done e = counted.read_cause done.0 faults faults' quiets quiets' sunk sunk' done.2 (sym done.1 ∙ e)
 
   write_cause : (command : Command) → IsDone command → status ≡ 4 → Rose sunk sunk'
   write_cause (Decode history) done e = device.write_cause done.0 faults faults' quiets quiets' sunk sunk' done.2 (sym done.1 ∙ e)
   write_cause (Pseudo history) done e = device.write_cause done.0 faults faults' quiets quiets' sunk sunk' done.2 (sym done.1 ∙ e)
-  write_cause (Replay history queue) done e = replayed.write_cause done.0.0 faults faults' quiets quiets' sunk sunk' done.0.2 (sym done.0.1 ∙ e)
+  write_cause (Replay history queue) done e = played.write_cause done.0 faults faults' quiets quiets' sunk sunk' done.2 (sym done.1 ∙ e)
+  write_cause (Generate seed size) done e = played.made_write_cause done.0 sunk sunk' done.2 (sym done.1 ∙ e)
   write_cause Lines done e = counted.write_cause done.0 faults faults' quiets quiets' sunk sunk' done.2 (sym done.1 ∙ e)
 
   pub ends : (command : Command) → IsDone command → NothingFails faults faults' quiets quiets' sunk sunk' → EndsAt command status
@@ -52,7 +72,9 @@ module _ (status : ℕ) (source source' : Option Stream) (faults faults' quiets 
   ends (Pseudo history) done sound =
       subst (λ s. EndsAt (Pseudo history) s) (sym done.1) (device.ends_by_itself done.0 faults faults' quiets quiets' sunk sunk' done.2 sound.0 sound.1 sound.2)
   ends (Replay history queue) done sound =
-      subst (λ s. EndsAt (Replay history queue) s) (sym done.0.1) (replayed.ends_by_itself done.0.0 faults faults' quiets quiets' sunk sunk' done.0.2 sound.0 sound.1 sound.2)
+      subst (λ s. EndsAt (Replay history queue) s) (sym done.1) (played.ends_by_itself done.0 faults faults' quiets quiets' sunk sunk' done.2 sound.0 sound.1 sound.2)
+  ends (Generate seed size) done sound =
+      subst (λ s. EndsAt (Generate seed size) s) (sym done.1) (played.made_ends done.0 sunk sunk' done.2 sound.2)
   ends Lines done sound =
       subst (λ s. EndsAt Lines s) (sym done.1) (counted.ends_by_itself done.0 faults faults' quiets quiets' sunk sunk' done.2 sound.0 sound.1 sound.2)
 
@@ -65,8 +87,12 @@ module _ (status : ℕ) (source source' : Option Stream) (faults faults' quiets 
       subst (λ s. (s ≡ 0) ⊎ (s ≡ 7)) (sym done.1)
       (device.completes sentences_of done.0 history source source' clock clock' sink sink' faults faults' quiets quiets' sunk sunk' done.3 done.2 within sound.0 sound.1 sound.2)
   completes (Replay history queue) done within sound =
-      subst (λ s. (s ≡ 0) ⊎ (s ≡ 7)) (sym done.0.1)
-      (replayed.completes done.0.0 queue source source' sink sink' faults faults' quiets quiets' sunk sunk' done.0.3 done.0.2 within sound.0 sound.1 sound.2)
+      subst (λ s. (s ≡ 0) ⊎ (s ≡ 7)) (sym done.1)
+      (played.is_done done.0 (replays done.0 (rules_of queue) most_bytes source source' sink sink' faults faults' quiets quiets' sunk sunk' done.3 done.2 within sound.0 sound.1 sound.2))
+  completes (Generate seed size) done within sound =
+      subst (λ s. (s ≡ 0) ⊎ (s ≡ 7)) (sym done.1)
+      (played.is_done done.0 (replays done.0 (closing_rules default_queue) (length (workload_of seed size)) (Some (made seed size)) done.3.after sink sink' 0 0 0 0 sunk sunk'
+      done.3.played (played.as_played done.0 sunk sunk' done.2) (omega arith, within) (λ rose. omega (arith, rose)) (λ rose. omega (arith, rose)) sound.2))
   completes Lines done within sound =
       subst (λ s. (s ≡ 0) ⊎ (s ≡ 7)) (sym done.1)
       (counted.completes done.0 source source' sink sink' faults faults' quiets quiets' sunk sunk' done.3 done.2 within sound.0 sound.1 sound.2)

@@ -6,13 +6,14 @@ use Rattle.gps_outside.specs.Counts.{Rose, RoseBy}
 use Rattle.gps_outside.specs.Told.{Stream}
 use Rattle.gps_outside.specs.Ticks.{Dial}
 use Rattle.gps_words.specs.declared.command.Command.{Command}
-use Rattle.gps_words.specs.declared.command.Command.TheVariants.{Decode, Pseudo, Replay, Lines}
-use Rattle.gps_replay.specs.Replayed.{IsScript, Replayed}
-use Rattle.line_play.specs.declared.outcome.Outcome.{Outcome as PlayOutcome}
-use Rattle.line_play.specs.Outcomes.{status_of as play_status, HasCause as PlayCause}
+use Rattle.gps_words.specs.declared.command.Command.TheVariants.{Decode, Pseudo, Replay, Generate, Lines}
 use Rattle.line_counts.specs.declared.outcome.Outcome.{Outcome as LinesOutcome}
 use Rattle.line_counts.specs.Outcomes.{status_of as lines_status, HasCause as LinesCause}
 use Rattle.line_counts.specs.Counted.{Counted, IsWithin as AreLinesWithin}
+use Rattle.line_play.specs.declared.outcome.Outcome.{Outcome as PlayOutcome}
+use Rattle.line_play.specs.Outcomes.{status_of as play_status, HasCause as PlayCause}
+use Rattle.gps_replay.specs.Replayed.{IsScript, Replayed}
+use Rattle.gps_replay.specs.Generated.{Generated, GeneratedCause, IsPlayable}
 use Rattle.gpsrelay.specs.declared.outcome.Outcome.{Outcome}
 use Rattle.gpsrelay.specs.Outcomes.{status_of, HasCause}
 use Rattle.gpsrelay.specs.Decode.{Decoded, IsWithin}
@@ -32,12 +33,20 @@ DoesLines status source source' faults faults' quiets quiets' clock clock' sink 
     (outcome : LinesOutcome) × (status ≡ lines_status outcome) × LinesCause outcome faults faults' quiets quiets' sunk sunk'
     × Counted outcome source source' sink sink' × (clock ≡ clock')
 
--- `replay`, whose outlets keep so many items where no line says another number; it asks no clock, and how much a generation holds changes nothing
+-- `replay`, which asks no clock
 abbrev pub DoesReplay : ℕ → ℕ → Option Stream → Option Stream → ℕ → ℕ → ℕ → ℕ → Option Dial → Option Dial
     → Option (List ℕ) → Option (List ℕ) → ℕ → ℕ → Type 0
 DoesReplay queue status source source' faults faults' quiets quiets' clock clock' sink sink' sunk sunk' =
-    ((outcome : PlayOutcome) × (status ≡ play_status outcome) × PlayCause outcome faults faults' quiets quiets' sunk sunk'
-    × Replayed outcome queue source source' sink sink') × (clock ≡ clock')
+    (outcome : PlayOutcome) × (status ≡ play_status outcome) × PlayCause outcome faults faults' quiets quiets' sunk sunk'
+    × Replayed outcome queue source source' sink sink' × (clock ≡ clock')
+
+-- `generate`, which reads no source and asks no clock
+abbrev pub DoesGenerate : ℕ → ℕ → ℕ → Option Stream → Option Stream → ℕ → ℕ → ℕ → ℕ → Option Dial → Option Dial
+    → Option (List ℕ) → Option (List ℕ) → ℕ → ℕ → Type 0
+DoesGenerate seed size status source source' faults faults' quiets quiets' clock clock' sink sink' sunk sunk' =
+    (outcome : PlayOutcome) × (status ≡ play_status outcome) × GeneratedCause outcome sunk sunk'
+    × Generated outcome seed size sink sink'
+    × (source ≡ source') × (faults ≡ faults') × (quiets ≡ quiets') × (clock ≡ clock')
 
 abbrev pub Does : Command → ℕ → Option Stream → Option Stream → ℕ → ℕ → ℕ → ℕ → Option Dial → Option Dial
     → Option (List ℕ) → Option (List ℕ) → ℕ → ℕ → Type 0
@@ -47,6 +56,8 @@ Does (Pseudo history) status source source' faults faults' quiets quiets' clock 
     DoesDecode sentences_of history status source source' faults faults' quiets quiets' clock clock' sink sink' sunk sunk'
 Does (Replay history queue) status source source' faults faults' quiets quiets' clock clock' sink sink' sunk sunk' =
     DoesReplay queue status source source' faults faults' quiets quiets' clock clock' sink sink' sunk sunk'
+Does (Generate seed size) status source source' faults faults' quiets quiets' clock clock' sink sink' sunk sunk' =
+    DoesGenerate seed size status source source' faults faults' quiets quiets' clock clock' sink sink' sunk sunk'
 Does Lines status source source' faults faults' quiets quiets' clock clock' sink sink' sunk sunk' =
     DoesLines status source source' faults faults' quiets quiets' clock clock' sink sink' sunk sunk'
 
@@ -60,11 +71,14 @@ abbrev pub EndsAt : Command → ℕ → Type 0
 EndsAt (Decode history) status = (status ≡ 0) ⊎ ((status ≡ 5) ⊎ (status ≡ 7))
 EndsAt (Pseudo history) status = (status ≡ 0) ⊎ ((status ≡ 5) ⊎ (status ≡ 7))
 EndsAt (Replay history queue) status = (status ≡ 0) ⊎ ((status ≡ 5) ⊎ ((status ≡ 6) ⊎ (status ≡ 7)))
+EndsAt (Generate seed size) status = (status ≡ 0) ⊎ ((status ≡ 6) ⊎ (status ≡ 7))
 EndsAt Lines status = (status ≡ 0) ⊎ ((status ≡ 5) ⊎ ((status ≡ 6) ⊎ (status ≡ 7)))
 
--- the source tells that what is left lies within the limits of the command, and that no line of it is refused
+-- the source tells that what is left lies within the limits of the command, and that no line of it is refused; of a made script, that no line of
+-- it is refused
 abbrev pub IsWithinLimits : Command → Option Stream → Type 0
 IsWithinLimits (Decode history) source = IsWithin history source
 IsWithinLimits (Pseudo history) source = IsWithin history source
 IsWithinLimits (Replay history queue) source = IsScript queue source
+IsWithinLimits (Generate seed size) source = IsPlayable seed size
 IsWithinLimits Lines source = AreLinesWithin source

@@ -64,7 +64,7 @@ fn main(rt: HostRuntime) -> ExitCode {
     let status = status_of_call(rt);
     if status == run::REFUSED {
         // A standard error that is closed or full changes no status.
-        let _ = eprintln!(rt; "usage: gpsrelay decode|replay|pseudo|lines");
+        let _ = eprintln!(rt; "usage: gpsrelay decode|replay|generate|pseudo|lines");
     }
     ExitCode::from(status)
 }

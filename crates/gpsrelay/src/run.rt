@@ -3,14 +3,14 @@ ghost use Rattle.gps_words.specs.Asked.{asked_of};
 ghost use Rattle.gps_words.specs.Within.{IsInRange};
 ghost use Rattle.gps_words.specs.declared.command.Command.{Command};
 ghost use Rattle.gps_outside.specs.Counts.{Rose};
-ghost use Rattle.gpsrelay.specs.Commands.{Does, DoesDecode, DoesLines, DoesReplay, EndsAt, IsWithinLimits, NothingFails};
+ghost use Rattle.gpsrelay.specs.Commands.{Does, DoesDecode, DoesGenerate, DoesLines, DoesReplay, EndsAt, IsWithinLimits, NothingFails};
 ghost use Rattle.gpsrelay.specs.Outcomes.{HasReadCause};
 ghost use Rattle.gpsrelay.specs.Texts.{line_of, sentences_of};
 
 use crate::decode::{decode, pseudo};
 use crate::outcome::Outcome;
 use gps_outside::{Clock, Sink, Source};
-use gps_replay::replay_core;
+use gps_replay::{generate, replay};
 use gps_words::{Command, WordsFault, asked};
 use line_counts::count_lines;
 use std::alloc::Global;
@@ -26,7 +26,7 @@ fn do_command<S: Source, K: Sink, C: Clock>(
     sink: &mut K,
     clock: &mut C,
 ) -> u8
-    requires range { IsInRange command }
+    requires { IsInRange command }
     ensures does { Does command result (S.content source.old) (S.content source.new) (S.faults source.old) (S.faults source.new)
         (S.quiets source.old) (S.quiets source.new) (C.stamps clock.old) (C.stamps clock.new)
         (K.written sink.old) (K.written sink.new) (K.faults sink.old) (K.faults sink.new) }
@@ -37,7 +37,10 @@ fn do_command<S: Source, K: Sink, C: Clock>(
     match command {
         Command::Decode { history } => decode(alloc, history, source, sink, clock).status(),
         Command::Pseudo { history } => pseudo(alloc, history, source, sink, clock).status(),
-        Command::Replay { history, queue } => replay_core(alloc, source, sink, history, queue),
+        Command::Replay { history, queue } => {
+            replay(alloc, source, sink, history, queue).status()
+        }
+        Command::Generate { seed, size } => generate(alloc, seed, size, sink).status(),
         Command::Lines => count_lines(alloc, source, sink).status(),
     }
 }
@@ -73,7 +76,8 @@ fn do_words<S: Source, K: Sink, C: Clock>(
 ///
 /// `decode [--history N]` reads what a receiver sends and writes its fixes and skies as JSON lines, as epochs close.
 /// `pseudo [--history N]` reads the same, and writes two sentences for each fix, for programs that read sentences alone.
-/// `replay [--history N] [--queue N]` plays a script, and writes what a daemon must have answered.
+/// `replay [--history N] [--queue N]` plays a script in one thread, and writes what clients take and what monitors read;
+/// `generate --seed N --size N` plays a made one, and writes its closing lines alone.
 /// `lines` reads the lines of a session with the daemon, and writes how many are of each class.
 ///
 /// The status is 0 where the input was read to its end and all was written; 2 where the words ask for nothing, and then
@@ -105,6 +109,10 @@ pub fn run<S: Source, K: Sink, C: Clock>(
         (K.written sink.old) (K.written sink.new) (K.faults sink.old) (K.faults sink.new) }
     ensures replay { (history queue : ℕ) → asked_of (map string_bytes words.now) ≡ Some (Command.Replay history queue)
         → DoesReplay queue result (S.content source.old) (S.content source.new) (S.faults source.old) (S.faults source.new)
+        (S.quiets source.old) (S.quiets source.new) (C.stamps clock.old) (C.stamps clock.new)
+        (K.written sink.old) (K.written sink.new) (K.faults sink.old) (K.faults sink.new) }
+    ensures generate { (seed size : ℕ) → asked_of (map string_bytes words.now) ≡ Some (Command.Generate seed size)
+        → DoesGenerate seed size result (S.content source.old) (S.content source.new) (S.faults source.old) (S.faults source.new)
         (S.quiets source.old) (S.quiets source.new) (C.stamps clock.old) (C.stamps clock.new)
         (K.written sink.old) (K.written sink.new) (K.faults sink.old) (K.faults sink.new) }
     ensures lines { asked_of (map string_bytes words.now) ≡ Some Command.Lines → DoesLines result (S.content source.old) (S.content source.new) (S.faults source.old) (S.faults source.new)

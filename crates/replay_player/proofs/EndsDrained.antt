@@ -159,7 +159,7 @@ pub none_drained : (s : StageView) (out : List ℕ) → DrainedSoFar s s 0 out o
 none_drained s out = λ state plays.
     record { stands = record { now = state; plays = plays; alike = record { names = refl; firsts = refl; log = refl } }; left = refl; written = refl }
 
-drop_at : {A : Type 0} (n : ℕ) (xs : List A) (x : A) → slice_get xs n ≡ Some x → drop n xs ≡ x ∷ drop (n + 1) xs
+pub drop_at : {A : Type 0} (n : ℕ) (xs : List A) (x : A) → slice_get xs n ≡ Some x → drop n xs ≡ x ∷ drop (n + 1) xs
 drop_at n [] x is = absurd (cc)
 drop_at zero (y ∷ xs) x is = let e : y ≡ x = cc in ap (λ z. z ∷ xs) e
 drop_at (suc n) (y ∷ xs) x is = let e : suc n + 1 ≡ suc (n + 1) = omega arith in drop_at n xs x is ∙ ap (λ k. x ∷ drop k (y ∷ xs)) (sym e)
@@ -209,7 +209,7 @@ one_more_drained s now next n out out' out'' below so_far step = λ state plays.
           ∙ was.written;
     }
 
-drop_all : {A : Type 0} (n : ℕ) (xs : List A) → length xs ≤ n → drop n xs ≡ []
+pub drop_all : {A : Type 0} (n : ℕ) (xs : List A) → length xs ≤ n → drop n xs ≡ []
 drop_all zero [] few = refl
 drop_all zero (x ∷ xs) few = absurd (omega (arith, few))
 drop_all (suc n) [] few = refl

@@ -2,7 +2,7 @@
 use Rattle.std.proofs.Common.{◌≡◌, ◌∙◌, ℕ, Bool, true, false, cond, List, [], ◌∷◌, ◌++◌, fold, length, replicate, refl, sym, ap, subst, Result, Ok, Err, OnOk}
 use Rattle.std.specs.List.{range_with_len}
 use Rattle.book_log.specs.Entries.{ended, stops_in}
-use Rattle.replay_player.specs.Ends.{all_ended, ended_at, last_lines, shut, written_at_end}
+use Rattle.replay_player.specs.Ends.{all_ended, closing_lines, closings_at_end, ended_at, last_lines, shut, written_at_end}
 use Rattle.replay_player.specs.Playing.{declared_state, state_of}
 use Rattle.replay_player.specs.States.{State, came, most_units}
 
@@ -25,4 +25,10 @@ pub written_same : (names : List (List ℕ)) (firsts : List ℕ)
     → written_at_end (state_of names [] firsts [] (replicate most_units 0) []) ≡ written_at_end (declared_state names firsts)
 written_same names firsts =
     ap (λ s. last_lines (shut s))
+    (all_more (range_with_len 0 (length names)) (state_of names [] firsts [] (replicate most_units 0) []) (declared_state names firsts) refl)
+
+pub closed_same : (names : List (List ℕ)) (firsts : List ℕ)
+    → closings_at_end (state_of names [] firsts [] (replicate most_units 0) []) ≡ closings_at_end (declared_state names firsts)
+closed_same names firsts =
+    ap (λ s. closing_lines (shut s))
     (all_more (range_with_len 0 (length names)) (state_of names [] firsts [] (replicate most_units 0) []) (declared_state names firsts) refl)

@@ -17,3 +17,4 @@ pub mod EndsDrained
 pub mod EndsPublished
 pub mod EndsWhole
 pub mod Finishing
+pub mod EndsClosed

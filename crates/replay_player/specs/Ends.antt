@@ -56,3 +56,17 @@ last_lines state =
 
 abbrev pub written_at_end : State → List ℕ
 written_at_end state = last_lines (shut (all_ended state))
+
+-- the closing lines of all sessions alone, from number s on
+unfoldable pub all_closed : List (List ℕ) → List Entry → ℕ → List Client → List ℕ
+all_closed names log s [] = []
+all_closed names log s (c ∷ more) = end_line s c.run.closing (counted (items_of names log c)) ++ all_closed names log (s + 1) more
+
+-- the closing lines: those of sessions and those of units
+abbrev pub closing_lines : State → List ℕ
+closing_lines state =
+    all_closed state.names state.log 0 state.clients ++ flat_map (published state) (range_with_len 0 (units_in state))
+
+-- what the end of a script writes besides the items that are left
+abbrev pub closings_at_end : State → List ℕ
+closings_at_end state = closing_lines (shut (all_ended state))

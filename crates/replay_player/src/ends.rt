@@ -5,7 +5,7 @@ ghost use Rattle.std.specs.List.{flat_map, range_with_len};
 ghost use Rattle.replay_monitors.specs.Stored.{is_store};
 ghost use Rattle.replay_player.specs.Clients.{Client, items_of};
 ghost use Rattle.replay_player.specs.Ending.{Drains, DrainsOne, HaveStopped, IsServed, PublishesOne, Shows, stores_left};
-ghost use Rattle.replay_player.specs.Ends.{all_ended, counted, end_line, ended_at, published, shut, written_at_end};
+ghost use Rattle.replay_player.specs.Ends.{all_closed, all_ended, closings_at_end, counted, end_line, ended_at, published, shut, written_at_end};
 ghost use Rattle.replay_player.specs.Playing.{Plays};
 ghost use Rattle.replay_player.specs.States.{State, units_in};
 
@@ -128,6 +128,27 @@ impl Stage {
             self.publish_unit(u, out)?;
         }
         Ok(())
+    }
+
+    /// Writes the closing lines of all sessions.
+    fn close_lines(&self, out: &mut Bytes) -> Result<(), NoMemory>
+        ensures lines { (state : State) → Plays self.now state
+            → OnOk result (out.new ≡ out.old ++ all_closed state.names state.log 0 state.clients) }
+    {
+        'sessions: for s in 0..self.book.opened() {
+            self.write_closing(s, out)?;
+        }
+        Ok(())
+    }
+
+    /// What happens at a script's end, and its closing lines alone, without the items that are left.
+    pub fn end_quietly(&mut self, out: &mut Bytes) -> Result<(), NoMemory>
+        ensures writes { (state : State) → Plays self.old state → OnOk result (out.new ≡ out.old ++ closings_at_end state) }
+    {
+        self.end_devices()?;
+        self.close_sessions();
+        self.close_lines(out)?;
+        self.publish(out)
     }
 
     /// What happens at a script's end, and what it writes.

@@ -3,7 +3,7 @@
 ghost use Rattle.std.specs.Prelude.{◌≡◌, ◌≤◌, ◌++◌, OnOk, List, [], replicate};
 ghost use Rattle.replay_script.specs.Events.{Fits};
 ghost use Rattle.replay_player.specs.Effects.{effect};
-ghost use Rattle.replay_player.specs.Ends.{written_at_end};
+ghost use Rattle.replay_player.specs.Ends.{closings_at_end, written_at_end};
 ghost use Rattle.replay_player.specs.Players.{Played, Stands};
 ghost use Rattle.replay_player.specs.Playing.{Plays, declared_state};
 ghost use Rattle.replay_player.specs.States.{State, new_state};
@@ -107,6 +107,34 @@ impl Player {
             Player::Playing(stage) => finish_on(stage, out),
         }
     }
+}
+
+impl Player {
+    /// Does what happens at a script's end, and adds its closing lines alone, without the items that are left.
+    pub fn finish_quietly(self, out: &mut Bytes) -> Result<(), NoMemory>
+        requires known { (state : State) × Stands self state }
+        ensures writes { (state : State) → Stands self state → OnOk result (out.new ≡ out.old ++ closings_at_end state) }
+    {
+        match self {
+            Player::Declaring(declarations) => close_first(declarations, out),
+            Player::Playing(stage) => close_on(stage, out),
+        }
+    }
+}
+
+/// On a stage.
+fn close_on(mut stage: Stage, out: &mut Bytes) -> Result<(), NoMemory>
+    ensures { (state : State) → Plays stage state → OnOk result (out.new ≡ out.old ++ closings_at_end state) }
+{
+    stage.end_quietly(out)
+}
+
+/// Where no event came, on the stage of the declarations.
+fn close_first(declarations: Declarations, out: &mut Bytes) -> Result<(), NoMemory>
+    ensures { OnOk result (out.new ≡ out.old ++ closings_at_end (declared_state declarations.names declarations.firsts)) }
+{
+    let stage = declarations.begin()?;
+    close_on(stage, out)
 }
 
 /// On a stage.

@@ -1,4 +1,4 @@
-use Rattle.gps_words.specs.declared.command.Command.TheVariants.{Decode, Pseudo, Replay, Lines}
+use Rattle.gps_words.specs.declared.command.Command.TheVariants.{Decode, Pseudo, Replay, Generate, Lines}
 use Rattle.gpsrelay.proofs.Commands.{completes, ends, read_fault, write_fault}
 use Rattle.gpsrelay.proofs.run.run.Goals as goal
 
@@ -10,6 +10,9 @@ returns-clause-pseudo g c = λ history asked. c.do_words-status.ensures.does (Ps
 
 pub returns-clause-replay : goal.returns-clause-replay
 returns-clause-replay g c = λ history queue asked. c.do_words-status.ensures.does (Replay history queue) asked
+
+pub returns-clause-generate : goal.returns-clause-generate
+returns-clause-generate g c = λ seed size asked. c.do_words-status.ensures.does (Generate seed size) asked
 
 pub returns-clause-lines : goal.returns-clause-lines
 returns-clause-lines g c = λ asked. c.do_words-status.ensures.does Lines asked

@@ -1,0 +1,68 @@
+-- What the play of a made script comes to.
+use Rattle.std.proofs.Common.{◌≡◌, ℕ, ◌+◌, ◌<◌, ◌≤◌, List, [], ◌++◌, length, Option, Some, None, inl, inr, refl, sym, ap, ◌∙◌, subst, arith, append-nil, length-append}
+use Rattle.gps_outside.specs.Counts.{Rose, RoseBy}
+use Rattle.gps_outside.specs.Told.{Stream, Goes, Appends, AppendsPart, Passes}
+use Rattle.gps_outside.proofs.Writing.{appends_none, part_of}
+use Rattle.text_lines.specs.Lines.{lines, open_line}
+use Rattle.line_play.specs.declared.outcome.Outcome.{Outcome}
+use Rattle.line_play.specs.declared.outcome.Outcome.TheVariants.{Done, ReadFault, TooQuiet, WriteFault, Full, BadLine, NoMemory}
+use Rattle.line_play.specs.Outcomes.{HasCause}
+use Rattle.line_play.specs.Played.{Played}
+use Rattle.replay_workload.specs.Workload.{workload_of}
+use Rattle.gps_replay.specs.Closings.{closing_rules, closings}
+use Rattle.gps_replay.specs.Generated.{Generated, GeneratedCause, default_queue, made}
+
+-- where all was done, the whole script was read
+all_read : (script : List ℕ) (after : Option Stream) (most : ℕ) (sink sink' : Option (List ℕ))
+    → Played Done (closing_rules default_queue) most (Some (record { taken = []; left = script })) after sink sink'
+    → Goes (Appends (closings default_queue script)) sink sink'
+all_read script None most sink sink' played = absurd played.ends.0.1
+all_read script (Some stream) most sink sink' played =
+    subst (λ b. Goes (Appends (closings default_queue b)) sink sink') (sym played.ends.0.1.all) played.ends.2
+
+pub generated : (outcome : Outcome) (script : List ℕ) (most : ℕ) (after : Option Stream) (sink sink' : Option (List ℕ))
+    → most ≡ length script
+    → Played outcome (closing_rules default_queue) most (Some (record { taken = []; left = script })) after sink sink'
+    → (seed size : ℕ) → script ≡ workload_of seed size → Generated outcome seed size sink sink'
+generated outcome script most after sink sink' is played seed size of = record {
+  after = after;
+  played = subst (λ s. Played outcome (closing_rules default_queue) (length s) (Some (record { taken = []; left = s })) after sink sink') of
+      (subst (λ m. Played outcome (closing_rules default_queue) m (Some (record { taken = []; left = script })) after sink sink') is played);
+  whole = λ done. subst (λ s. Goes (Appends (closings default_queue s)) sink sink') of
+      (all_read script after most sink sink' (subst (λ o. Played o (closing_rules default_queue) most (Some (record { taken = []; left = script })) after sink sink') done played));
+}
+
+no_more : (script : List ℕ) (after : Option Stream) (most : ℕ) (sink sink' : Option (List ℕ)) → most ≡ length script
+    → Played Full (closing_rules default_queue) most (Some (record { taken = []; left = script })) after sink sink' → ⊥
+no_more script None most sink sink' is played = played.ends.1
+no_more script (Some stream) most sink sink' is played =
+    let passed = played.ends.1 in
+    let left : length script ≡ length (played.bytes ++ passed.0) + length stream.left = ap length passed.1.1.next ∙ length-append (played.bytes ++ passed.0) stream.left in
+    let both = length-append played.bytes passed.0 in
+    let some : 0 < length passed.0 = passed.1.0 in
+    let full = played.ends.0 in
+    omega (arith, left, both, some, full, is)
+
+pub caused : (outcome : Outcome) (script : List ℕ) (most : ℕ) (after : Option Stream) (sink sink' : Option (List ℕ)) (sunk sunk' : ℕ)
+    → most ≡ length script
+    → Played outcome (closing_rules default_queue) most (Some (record { taken = []; left = script })) after sink sink'
+    → HasCause outcome 0 0 0 0 sunk sunk' → GeneratedCause outcome sunk sunk'
+caused Done script most after sink sink' sunk sunk' is played cause = tt
+caused ReadFault script most after sink sink' sunk sunk' is played cause = omega (arith, cause)
+caused TooQuiet script most after sink sink' sunk sunk' is played cause = omega (arith, cause)
+caused WriteFault script most after sink sink' sunk sunk' is played cause = cause
+caused Full script most after sink sink' sunk sunk' is played cause = no_more script after most sink sink' is played
+caused BadLine script most after sink sink' sunk sunk' is played cause = tt
+caused NoMemory script most after sink sink' sunk sunk' is played cause = tt
+
+-- want of memory before the first line
+pub nothing_played : (seed size : ℕ) (sink : Option (List ℕ)) → Generated NoMemory seed size sink sink
+unfolding lines open_line
+nothing_played seed size sink = record {
+  after = Some (made seed size);
+  played = record {
+    bytes = [];
+    ends = inl (inl (omega arith, record { next = refl; joins = refl }), part_of [] [] sink sink (appends_none sink));
+  };
+  whole = λ done. absurd (cc);
+}

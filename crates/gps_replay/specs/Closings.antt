@@ -1,0 +1,22 @@
+-- The closing lines of a script's run, alone. This project's own.
+use Rattle.std.specs.Prelude.{ℕ, List, [], option_map}
+use Rattle.line_play.specs.Rules.{Rules, Effect}
+use Rattle.line_play.specs.Courses.{output_of}
+use Rattle.replay_player.specs.Ends.{closings_at_end}
+use Rattle.replay_player.specs.States.{State}
+use Rattle.gps_replay.specs.Run.{rules_of}
+
+-- a line does what it does, and writes nothing
+abbrev pub silent : Effect State → Effect State
+silent e = record e { written = [] }
+
+-- the same lines, of whose output the closing lines alone are written
+abbrev pub quietened : Rules State → Rules State
+quietened rules = record rules { effect = λ state text. option_map silent (rules.effect state text); end_writes = closings_at_end }
+
+abbrev pub closing_rules : ℕ → Rules State
+closing_rules queue = quietened (rules_of queue)
+
+-- the closing lines of the run of a whole script
+abbrev pub closings : ℕ → List ℕ → List ℕ
+closings queue script = output_of (closing_rules queue) script

@@ -1,0 +1,54 @@
+ghost use Rattle.std.specs.Prelude.{◌≡◌, ◌≤◌};
+ghost use Rattle.gps_replay.specs.Scripts.{IsReplaying};
+ghost use Rattle.replay_player.specs.States.{new_state};
+
+use crate::script::Script;
+use gps_fixed::{Bytes, NoMemory};
+use line_play::{Plays, Turn};
+use std::alloc::Global;
+
+/// The lines of a script, of whose output the closing lines alone are written.
+#[derive(Drop)]
+pub(crate) struct Quiet {
+    script: Script,
+    unwritten: Bytes,
+}
+
+impl Quiet {
+    /// No line was played. Takes no memory.
+    pub(crate) fn new(alloc: Global, limit: u32, queue: u32) -> Quiet
+        requires some { 1 ≤ limit }
+        requires most { limit ≤ 33554432 }
+        requires least { 1 ≤ queue }
+        requires within { queue ≤ 65536 }
+        ensures queue { result.script.queue ≡ queue }
+        ensures stands { IsReplaying result.script.queue result.script.player new_state }
+    {
+        Quiet {
+            script: Script::new(alloc, limit, queue),
+            unwritten: Bytes::new(alloc),
+        }
+    }
+}
+
+impl Plays for Quiet {
+    ghost use Rattle.gps_replay.specs.Closings.{closing_rules};
+    ghost use Rattle.gps_replay.specs.Scripts.{IsReplaying};
+    ghost use Rattle.replay_player.specs.States.{State as ScriptState};
+
+    ghost State = { ScriptState };
+
+    ghost rules = { λ q. closing_rules q.script.queue };
+
+    ghost stands = { λ q state. IsReplaying q.script.queue q.script.player state };
+
+    #[tactic(auto, using(crate::proofs::Silent::silently, crate::proofs::Silent::rules_same))]
+    fn line(&mut self, text: &[u8], _out: &mut Bytes) -> Result<Turn, NoMemory> {
+        self.unwritten.clear();
+        self.script.line(text, &mut self.unwritten)
+    }
+
+    fn finish(&mut self, out: &mut Bytes) -> Result<(), NoMemory> {
+        self.script.finish_quietly(out)
+    }
+}

@@ -6,8 +6,6 @@ mod held;
 mod quiet;
 mod replaying;
 mod script;
-#[cfg(test)]
-mod tests;
 
 pub use generating::generate;
 pub use line_play::Outcome;

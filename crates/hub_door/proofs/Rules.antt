@@ -71,9 +71,9 @@ notes seat v s h at =
       hub = h.hub;
       all = h.all;
       fits = λ j u found.
-      ⊎_elim (λ (x : get_elem? (set s.views seat v) j ≡ some u). fits_set h.hub h.all s.views seat v h.fits (h.fits seat v at) j u x)
-      (λ (x : noted v.list ≡ u). subst (λ (y : DoorView). Fits h.hub h.all j y) x (note_fits h.hub h.all v.list j (h.fits seat v at).begins))
-      (at_snoc (set s.views seat v) (noted v.list) u j found);
+          ⊎_elim (λ (x : get_elem? (set s.views seat v) j ≡ some u). fits_set h.hub h.all s.views seat v h.fits (h.fits seat v at) j u x)
+          (λ (x : noted v.list ≡ u). subst (λ (y : DoorView). Fits h.hub h.all j y) x (note_fits h.hub h.all v.list j (h.fits seat v at).begins))
+          (at_snoc (set s.views seat v) (noted v.list) u j found);
     }
 
 -- the join of a note

@@ -1,5 +1,5 @@
 -- What the play of a made script comes to.
-use Rattle.std.proofs.Common.{◌≡◌, ℕ, ◌+◌, ◌<◌, ◌≤◌, List, [], ◌++◌, length, Option, Some, None, inl, inr, refl, sym, ap, ◌∙◌, subst, arith, append-nil, length-append}
+use Rattle.std.proofs.Common.{◌≡◌, ℕ, ◌+◌, ◌<◌, ◌≤◌, ◌⊎◌, List, [], ◌++◌, length, Option, Some, None, inl, inr, refl, sym, ap, ◌∙◌, subst, arith, append-nil, length-append}
 use Rattle.gps_outside.specs.Counts.{Rose, RoseBy}
 use Rattle.gps_outside.specs.Told.{Stream, Goes, Appends, AppendsPart, Passes}
 use Rattle.gps_outside.proofs.Writing.{appends_none, part_of}
@@ -7,10 +7,13 @@ use Rattle.text_lines.specs.Lines.{lines, open_line}
 use Rattle.line_play.specs.declared.outcome.Outcome.{Outcome}
 use Rattle.line_play.specs.declared.outcome.Outcome.TheVariants.{Done, ReadFault, TooQuiet, WriteFault, Full, BadLine, NoMemory}
 use Rattle.line_play.specs.Outcomes.{HasCause}
+use Rattle.line_play.specs.Courses.{whole_course}
 use Rattle.line_play.specs.Played.{Played}
+use Rattle.line_play.proofs.Complete.{completes}
 use Rattle.replay_workload.specs.Workload.{workload_of}
 use Rattle.gps_replay.specs.Closings.{closing_rules, closings}
 use Rattle.gps_replay.specs.Generated.{Generated, GeneratedCause, default_queue, made}
+use Rattle.gps_replay.proofs.Playable.{playable}
 
 -- where all was done, the whole script was read
 all_read : (script : List ℕ) (after : Option Stream) (most : ℕ) (sink sink' : Option (List ℕ))
@@ -43,17 +46,32 @@ no_more script (Some stream) most sink sink' is played =
     let full = played.ends.0 in
     omega (arith, left, both, some, full, is)
 
+none_refused : (script : List ℕ) (after : Option Stream) (most : ℕ) (sink sink' : Option (List ℕ)) → most ≡ length script
+    → Played BadLine (closing_rules default_queue) most (Some (record { taken = []; left = script })) after sink sink'
+    → (seed size : ℕ) → size ≤ 10_000 → script ≡ workload_of seed size → ⊥
+none_refused script after most sink sink' is played seed size few of =
+    let whole : (whole_course (closing_rules default_queue) script).refused ≡ None =
+    ap (λ s. (whole_course (closing_rules default_queue) s).refused) of ∙ playable seed size few in
+    let ended : (BadLine ≡ Done) ⊎ (BadLine ≡ NoMemory) =
+    completes BadLine (closing_rules default_queue) most (Some (record { taken = []; left = script })) after sink sink' 0 0 0 0 0 0 played tt
+    (omega (arith, is), whole) (λ rose. omega (arith, rose)) (λ rose. omega (arith, rose)) (λ rose. omega (arith, rose)) in
+    elim ended [
+      | inl done ↦ cc
+      | inr wanted ↦ cc
+    ]
+
 pub caused : (outcome : Outcome) (script : List ℕ) (most : ℕ) (after : Option Stream) (sink sink' : Option (List ℕ)) (sunk sunk' : ℕ)
     → most ≡ length script
     → Played outcome (closing_rules default_queue) most (Some (record { taken = []; left = script })) after sink sink'
-    → HasCause outcome 0 0 0 0 sunk sunk' → GeneratedCause outcome sunk sunk'
-caused Done script most after sink sink' sunk sunk' is played cause = tt
-caused ReadFault script most after sink sink' sunk sunk' is played cause = omega (arith, cause)
-caused TooQuiet script most after sink sink' sunk sunk' is played cause = omega (arith, cause)
-caused WriteFault script most after sink sink' sunk sunk' is played cause = cause
-caused Full script most after sink sink' sunk sunk' is played cause = no_more script after most sink sink' is played
-caused BadLine script most after sink sink' sunk sunk' is played cause = tt
-caused NoMemory script most after sink sink' sunk sunk' is played cause = tt
+    → HasCause outcome 0 0 0 0 sunk sunk'
+    → (seed size : ℕ) → size ≤ 10_000 → script ≡ workload_of seed size → GeneratedCause outcome sunk sunk'
+caused Done script most after sink sink' sunk sunk' is played cause seed size few of = tt
+caused ReadFault script most after sink sink' sunk sunk' is played cause seed size few of = omega (arith, cause)
+caused TooQuiet script most after sink sink' sunk sunk' is played cause seed size few of = omega (arith, cause)
+caused WriteFault script most after sink sink' sunk sunk' is played cause seed size few of = cause
+caused Full script most after sink sink' sunk sunk' is played cause seed size few of = no_more script after most sink sink' is played
+caused BadLine script most after sink sink' sunk sunk' is played cause seed size few of = none_refused script after most sink sink' is played seed size few of
+caused NoMemory script most after sink sink' sunk sunk' is played cause seed size few of = tt
 
 -- want of memory before the first line
 pub nothing_played : (seed size : ℕ) (sink : Option (List ℕ)) → Generated NoMemory seed size sink sink

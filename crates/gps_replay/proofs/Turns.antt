@@ -1,5 +1,5 @@
 -- What a line of a script comes to.
-use Rattle.std.proofs.Common.{◌≡◌, ℕ, ◌≤◌, List, ◌++◌, Option, Some, None, Result, Ok, Err, option_and_then, option_map, refl, sym, ◌∙◌, ap}
+use Rattle.std.proofs.Common.{◌≡◌, ℕ, ◌≤◌, List, ◌++◌, Option, Some, None, Result, Ok, Err, option_and_then, option_map, refl, sym, ◌∙◌, ap, subst}
 use Rattle.line_play.specs.declared.plays.Turn.TheVariants.{Made, Refused}
 use Rattle.line_play.specs.Turns.{Turns}
 use Rattle.replay_script.specs.declared.event.Event.{Event}
@@ -25,9 +25,10 @@ pub refused : (queue : ℕ) (state : State) (text out out' : List ℕ) (event : 
 refused queue state text out out' event stands is played =
     (by_event queue state text (Some event) (sym is) ∙ ap (option_map of_line) played.0, played.1)
 
-pub made : (queue : ℕ) (state : State) (text out out' : List ℕ) (event : Event) (player : Player) → Some event ≡ event_in text
-    → 1 ≤ queue → queue ≤ 65_536
+pub made : (queue : ℕ) (state : State) (text out out' : List ℕ) (event : Event) (player : Player) (place : Option Player) → Some event ≡ event_in text
+    → place ≡ Some player → 1 ≤ queue → queue ≤ 65_536
     → Played (Ok (Some player)) (effect queue state event) out out'
-    → Turns (Ok Made) (rules_of queue) state text (IsReplaying queue (Some player)) out out'
-made queue state text out out' event player is least most played =
+    → Turns (Ok Made) (rules_of queue) state text (IsReplaying queue place) out out'
+made queue state text out out' event player place is put least most played =
+    subst (λ p. Turns (Ok Made) (rules_of queue) state text (IsReplaying queue p) out out') (sym put)
     (of_line played.0, by_event queue state text (Some event) (sym is) ∙ ap (option_map of_line) played.1, (least, most, played.2), played.3)

@@ -1,10 +1,9 @@
 -- What a made script promises of the bytes that are written. This project's own.
-use Rattle.std.specs.Prelude.{◌≡◌, ℕ, List, [], length, Option, Some, None}
+use Rattle.std.specs.Prelude.{◌≡◌, ℕ, List, [], length, Option, Some}
 use Rattle.gps_outside.specs.Counts.{Rose}
 use Rattle.gps_outside.specs.Told.{Stream, Goes, Appends}
 use Rattle.line_play.specs.declared.outcome.Outcome.{Outcome}
 use Rattle.line_play.specs.declared.outcome.Outcome.TheVariants.{Done, ReadFault, TooQuiet, WriteFault, Full, BadLine, NoMemory}
-use Rattle.line_play.specs.Courses.{whole_course}
 use Rattle.line_play.specs.Played.{Played}
 use Rattle.replay_workload.specs.Workload.{workload_of}
 use Rattle.gps_replay.specs.Closings.{closing_rules, closings}
@@ -23,16 +22,12 @@ pub record Generated (outcome : Outcome) (seed size : ℕ) (sink sink' : Option 
   pub played : Played outcome (closing_rules default_queue) (length (workload_of seed size)) (Some (made seed size)) after sink sink'
   pub whole : outcome ≡ Done → Goes (Appends (closings default_queue (workload_of seed size))) sink sink'
 
--- the sink's count before and after; no source fails, and the script is read to its end
+-- the sink's count before and after; no source fails, the script is read to its end, and no line of it is refused
 abbrev pub GeneratedCause : Outcome → ℕ → ℕ → Type 0
 GeneratedCause Done before after = Unit {0}
 GeneratedCause ReadFault before after = ⊥
 GeneratedCause TooQuiet before after = ⊥
 GeneratedCause WriteFault before after = Rose before after
 GeneratedCause Full before after = ⊥
-GeneratedCause BadLine before after = Unit {0}
+GeneratedCause BadLine before after = ⊥
 GeneratedCause NoMemory before after = Unit {0}
-
--- no line of the made script is refused
-abbrev pub IsPlayable : ℕ → ℕ → Type 0
-IsPlayable seed size = (whole_course (closing_rules default_queue) (workload_of seed size)).refused ≡ None

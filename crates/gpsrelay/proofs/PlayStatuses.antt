@@ -61,7 +61,7 @@ made_no_read_fault ReadFault sunk sunk' cause e = cause
 made_no_read_fault TooQuiet sunk sunk' cause e = cause
 made_no_read_fault WriteFault sunk sunk' cause e = omega (arith, e)
 made_no_read_fault Full sunk sunk' cause e = cause
-made_no_read_fault BadLine sunk sunk' cause e = omega (arith, e)
+made_no_read_fault BadLine sunk sunk' cause e = cause
 made_no_read_fault NoMemory sunk sunk' cause e = omega (arith, e)
 
 pub made_write_cause : (outcome : Outcome) (sunk sunk' : ℕ) → GeneratedCause outcome sunk sunk' → status_of outcome ≡ 4 → Rose sunk sunk'
@@ -70,25 +70,15 @@ made_write_cause ReadFault sunk sunk' cause e = absurd cause
 made_write_cause TooQuiet sunk sunk' cause e = absurd cause
 made_write_cause WriteFault sunk sunk' cause e = cause
 made_write_cause Full sunk sunk' cause e = absurd cause
-made_write_cause BadLine sunk sunk' cause e = absurd (omega (arith, e))
+made_write_cause BadLine sunk sunk' cause e = absurd cause
 made_write_cause NoMemory sunk sunk' cause e = absurd (omega (arith, e))
 
 pub made_ends : (outcome : Outcome) (sunk sunk' : ℕ) → GeneratedCause outcome sunk sunk' → (Rose sunk sunk' → ⊥)
-    → (status_of outcome ≡ 0) ⊎ ((status_of outcome ≡ 6) ⊎ (status_of outcome ≡ 7))
+    → (status_of outcome ≡ 0) ⊎ (status_of outcome ≡ 7)
 made_ends Done sunk sunk' cause unbroken = inl refl
 made_ends ReadFault sunk sunk' cause unbroken = absurd cause
 made_ends TooQuiet sunk sunk' cause unbroken = absurd cause
 made_ends WriteFault sunk sunk' cause unbroken = absurd (unbroken cause)
 made_ends Full sunk sunk' cause unbroken = absurd cause
-made_ends BadLine sunk sunk' cause unbroken = inr (inl refl)
-made_ends NoMemory sunk sunk' cause unbroken = inr (inr refl)
-
--- its play as one over a source that does not fail
-pub as_played : (outcome : Outcome) (sunk sunk' : ℕ) → GeneratedCause outcome sunk sunk' → HasCause outcome 0 0 0 0 sunk sunk'
-as_played Done sunk sunk' cause = tt
-as_played ReadFault sunk sunk' cause = absurd cause
-as_played TooQuiet sunk sunk' cause = absurd cause
-as_played WriteFault sunk sunk' cause = cause
-as_played Full sunk sunk' cause = absurd cause
-as_played BadLine sunk sunk' cause = tt
-as_played NoMemory sunk sunk' cause = tt
+made_ends BadLine sunk sunk' cause unbroken = absurd cause
+made_ends NoMemory sunk sunk' cause unbroken = inr refl

@@ -13,7 +13,7 @@ use Rattle.line_counts.specs.Counted.{Counted, IsWithin as AreLinesWithin}
 use Rattle.line_play.specs.declared.outcome.Outcome.{Outcome as PlayOutcome}
 use Rattle.line_play.specs.Outcomes.{status_of as play_status, HasCause as PlayCause}
 use Rattle.gps_replay.specs.Replayed.{IsScript, Replayed}
-use Rattle.gps_replay.specs.Generated.{Generated, GeneratedCause, IsPlayable}
+use Rattle.gps_replay.specs.Generated.{Generated, GeneratedCause}
 use Rattle.gpsrelay.specs.declared.outcome.Outcome.{Outcome}
 use Rattle.gpsrelay.specs.Outcomes.{status_of, HasCause}
 use Rattle.gpsrelay.specs.Decode.{Decoded, IsWithin}
@@ -71,14 +71,13 @@ abbrev pub EndsAt : Command → ℕ → Type 0
 EndsAt (Decode history) status = (status ≡ 0) ⊎ ((status ≡ 5) ⊎ (status ≡ 7))
 EndsAt (Pseudo history) status = (status ≡ 0) ⊎ ((status ≡ 5) ⊎ (status ≡ 7))
 EndsAt (Replay history queue) status = (status ≡ 0) ⊎ ((status ≡ 5) ⊎ ((status ≡ 6) ⊎ (status ≡ 7)))
-EndsAt (Generate seed size) status = (status ≡ 0) ⊎ ((status ≡ 6) ⊎ (status ≡ 7))
+EndsAt (Generate seed size) status = (status ≡ 0) ⊎ (status ≡ 7)
 EndsAt Lines status = (status ≡ 0) ⊎ ((status ≡ 5) ⊎ ((status ≡ 6) ⊎ (status ≡ 7)))
 
--- the source tells that what is left lies within the limits of the command, and that no line of it is refused; of a made script, that no line of
--- it is refused
+-- the source tells that what is left lies within the limits of the command, and that no line of it is refused; a made script is always within them
 abbrev pub IsWithinLimits : Command → Option Stream → Type 0
 IsWithinLimits (Decode history) source = IsWithin history source
 IsWithinLimits (Pseudo history) source = IsWithin history source
 IsWithinLimits (Replay history queue) source = IsScript queue source
-IsWithinLimits (Generate seed size) source = IsPlayable seed size
+IsWithinLimits (Generate seed size) source = Unit {0}
 IsWithinLimits Lines source = AreLinesWithin source

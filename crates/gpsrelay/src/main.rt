@@ -4,6 +4,8 @@
 
 mod decode;
 mod outcome;
+#[cfg(test)]
+mod replay_tests;
 mod run;
 #[cfg(test)]
 mod tests;

@@ -86,8 +86,8 @@ fn do_words<S: Source, K: Sink, C: Clock>(
 ///
 /// `decode` and `pseudo` ask the clock once after each read that gave bytes. Where neither the source nor the sink fails and
 /// fewer than a thousand reads bring nothing, the status is one of the others of the command; and 0 or 7 where the source
-/// tells that no more is left than is allowed, and that no line is refused. What is said of the bytes and the stamps holds
-/// where the source, the sink and the clock tell their content.
+/// tells that no more is left than is allowed, and that no line is refused, and of `generate` always. What is said of the
+/// bytes and the stamps holds where the source, the sink and the clock tell their content.
 pub fn run<S: Source, K: Sink, C: Clock>(
     alloc: Global,
     words: &[String],

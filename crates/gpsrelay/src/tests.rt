@@ -6,16 +6,19 @@ use gps_outside::{AtEnd, MemoryClock, MemorySink, MemorySource, ReadPlan, WriteP
 use std::alloc::Global;
 use std::test::Fail;
 
-const RMC: &[u8] = b"$GPRMC,123519,A,4807.038,N,01131.000,E,022.4,084.4,230394,003.1,W*6A\r\n";
+pub(crate) const RMC: &[u8] =
+    b"$GPRMC,123519,A,4807.038,N,01131.000,E,022.4,084.4,230394,003.1,W*6A\r\n";
 
-const GGA: &[u8] = b"$GPGGA,123519,4807.038,N,01131.000,E,1,08,0.9,545.4,M,46.9,M,,*47\r\n";
+pub(crate) const GGA: &[u8] =
+    b"$GPGGA,123519,4807.038,N,01131.000,E,1,08,0.9,545.4,M,46.9,M,,*47\r\n";
 
-const ZDA: &[u8] = b"$GPZDA,235959,31,12,2024,00,00*4C\r\n";
+pub(crate) const ZDA: &[u8] = b"$GPZDA,235959,31,12,2024,00,00*4C\r\n";
 
 const BEFORE_MIDNIGHT: &[u8] =
     b"$GPGGA,235959,4807.038,N,01131.000,E,1,08,0.9,545.4,M,46.9,M,,*4B\r\n";
 
-const MIDNIGHT: &[u8] = b"$GPGGA,000000,4807.038,N,01131.000,E,1,08,0.9,545.4,M,46.9,M,,*4A\r\n";
+pub(crate) const MIDNIGHT: &[u8] =
+    b"$GPGGA,000000,4807.038,N,01131.000,E,1,08,0.9,545.4,M,46.9,M,,*4A\r\n";
 
 const PVT: &[u8] =
     b"\xB5\x62\x01\x07\x5C\x00\x00\x00\x00\x00\xE8\x07\x06\x01\x0C\x00\x00\x07\x00\x00\x00\x00\x00\x00\x00\x00\x03\x01\x00\x08\x00\xE1\xF5\x05\x00\x38\x9C\x1C\x20\xA1\x07\x00\x88\xE9\x06\x00\x00\x00\x00\x00\x00\x00\x00\x00\x00\x00\x00\x00\x00\x00\x00\x00\x18\xFC\xFF\xFF\xDC\x05\x00\x00\x40\x54\x89\x00\x00\x00\x00\x00\x00\x00\x00\x00\x96\x00\x00\x00\x00\x00\x00\x00\x00\x00\x00\x00\x00\x00\x00\x00\x29\x4D";
@@ -31,7 +34,7 @@ const MIDNIGHT_LINE: &[u8] =
 const PVT_LINE: &[u8] =
     b"{\"class\":\"TPV\",\"device\":\"stdin\",\"mode\":3,\"time\":\"2024-06-01T12:00:00.000Z\",\"lat\":48.000000000,\"lon\":10.000000000,\"altHAE\":500.000,\"altMSL\":453.000,\"geoidSep\":47.000,\"track\":90.0000,\"speed\":1.500,\"climb\":1.000}\r\n";
 
-type Parts<'a> = &'a [&'a [u8]];
+pub(crate) type Parts<'a> = &'a [&'a [u8]];
 
 fn joined(alloc: Global, parts: Parts<'_>) -> Result<Vec<u8>, NoMemory> {
     let mut bytes = Vec::new(alloc);
@@ -51,11 +54,11 @@ fn words_of(alloc: Global, texts: &[&str]) -> Result<Vec<String>, NoMemory> {
 
 /// What stands outside: the source's bytes and how it gives them, and how the sink takes them.
 #[derive(Drop)]
-struct Outside<'a> {
-    input: Parts<'a>,
-    reads: &'a [ReadPlan],
-    at_end: AtEnd,
-    writes: &'a [WritePlan],
+pub(crate) struct Outside<'a> {
+    pub(crate) input: Parts<'a>,
+    pub(crate) reads: &'a [ReadPlan],
+    pub(crate) at_end: AtEnd,
+    pub(crate) writes: &'a [WritePlan],
 }
 
 /// The status of these words, and the bytes that were written.
@@ -69,14 +72,15 @@ fn ran(alloc: Global, words: &[&str], outside: &Outside<'_>) -> Result<(u8, Vec<
     Ok((status, sink.written().to_vec(alloc)?))
 }
 
-/// Whether `decode` gives this status and writes these lines.
-fn gives(
+/// Whether these words give this status and write these lines.
+pub(crate) fn gives(
     alloc: Global,
+    words: &[&str],
     outside: &Outside<'_>,
     status: u8,
     lines: Parts<'_>,
 ) -> Result<bool, NoMemory> {
-    let (ended, written) = ran(alloc, &["decode"], outside)?;
+    let (ended, written) = ran(alloc, words, outside)?;
     let wanted = joined(alloc, lines)?;
     Ok(ended == status && written.as_slice() == wanted.as_slice())
 }
@@ -89,7 +93,7 @@ fn writes(alloc: Global, input: Parts<'_>, lines: Parts<'_>) -> Result<bool, NoM
         at_end: AtEnd::End,
         writes: &[],
     };
-    gives(alloc, &outside, 0, lines)
+    gives(alloc, &["decode"], &outside, 0, lines)
 }
 
 #[test]
@@ -268,7 +272,7 @@ fn a_failed_read_closes_no_epoch(rt: HostRuntime) -> Result<(), Fail> {
         ),
     ];
     for (outside, status, lines) in rows {
-        assert!(rt; gives(rt.alloc(), outside, *status, *lines)?);
+        assert!(rt; gives(rt.alloc(), &["decode"], outside, *status, *lines)?);
     }
     Ok(())
 }
@@ -298,7 +302,7 @@ fn a_failed_write_ends_the_run(rt: HostRuntime) -> Result<(), Fail> {
         ),
     ];
     for (outside, status, lines) in rows {
-        assert!(rt; gives(rt.alloc(), outside, *status, *lines)?);
+        assert!(rt; gives(rt.alloc(), &["decode"], outside, *status, *lines)?);
     }
     Ok(())
 }
@@ -328,7 +332,7 @@ fn reads_may_be_small_or_bring_nothing(rt: HostRuntime) -> Result<(), Fail> {
         ),
     ];
     for (outside, status, lines) in rows {
-        assert!(rt; gives(rt.alloc(), outside, *status, *lines)?);
+        assert!(rt; gives(rt.alloc(), &["decode"], outside, *status, *lines)?);
     }
     Ok(())
 }
@@ -350,7 +354,7 @@ fn the_thousandth_quiet_ends_the_run(rt: HostRuntime) -> Result<(), Fail> {
             at_end: AtEnd::End,
             writes: &[],
         };
-        assert!(rt; gives(rt.alloc(), &outside, *status, *lines)?);
+        assert!(rt; gives(rt.alloc(), &["decode"], &outside, *status, *lines)?);
     }
     Ok(())
 }

@@ -1,0 +1,114 @@
+#!/usr/bin/env python3
+"""Measures how `gpsrelay replay` grows with its script.
+
+Use: replay_speed.py PROGRAM [ROUNDS]
+
+It makes four scripts in a folder of its own and plays them by turns, ROUNDS times (3 where it is left out): one of about
+100 MB of two receivers, three clients and a monitor (once more with small generations), the first half of it, and 2 MB of
+a receiver's bytes in lines of 512 and in lines of one. Each figure is the least processor time of the rounds, and the
+greatest memory, of which some 16 MB are this script's, from before the program begins.
+"""
+
+import datetime
+import functools
+import operator
+import os
+import subprocess
+import sys
+import tempfile
+
+START = 1717243200
+OPENING = [
+    "device a", "device b", "monitor 0 0",
+    "open 0", 'say 0 ?WATCH={"json":true};',
+    "open 1", 'say 1 ?WATCH={"nmea":true,"device":"b"};',
+    "open 2", 'say 2 ?WATCH={"pps":true};',
+]
+TAKING = ["store 0 13", "store 1 13", "store 2 13", "store 3 13", "load 0 12", "take 0 64", "take 1 64", "take 2 64"]
+
+
+def sentence(body):
+    return f"${body}*{functools.reduce(operator.xor, body.encode()):02X}"
+
+
+def sentences(t):
+    at = datetime.datetime.fromtimestamp(START + t, datetime.timezone.utc)
+    tod, day, part = at.strftime("%H%M%S"), at.strftime("%d%m%y"), f"{t * 7919 % 100000:05}"
+    return [sentence(body) for body in [
+        f"GPRMC,{tod},A,4807.{part},N,01131.{part},E,0.50,84.40,{day},,,A",
+        "GPVTG,84.40,T,,M,0.50,N,0.93,K,A",
+        f"GPGGA,{tod},4807.{part},N,01131.{part},E,1,04,0.90,545.4,M,46.9,M,,",
+        "GPGSA,A,3,01,02,12,14,,,,,,,,,2.50,1.30,2.10",
+        "GPGSV,1,1,04,01,40,083,46,02,17,308,41,12,07,344,39,14,22,228,45",
+        f"GPGLL,4807.{part},N,01131.{part},E,{tod},A,A",
+    ]]
+
+
+def second(t):
+    at = START + t
+    for device in 0, 1:
+        yield f"edge {device} assert {at}.000000000#{t + 1}"
+    for device in 0, 1:
+        for line in sentences(t):
+            yield f"text {device} {at}.100000000 {line}"
+    yield from TAKING
+
+
+def write_seconds(path, size):
+    """Writes whole seconds until the script has `size` bytes."""
+    with open(path, "w", encoding="ascii") as script:
+        script.write("\n".join(OPENING) + "\n")
+        t = 0
+        while script.tell() < size:
+            script.write("".join(line + "\n" for u in range(t, t + 100) for line in second(u)))
+            t += 100
+
+
+def write_bytes(path, size, width):
+    """Writes so many bytes of one receiver, `width` of them a line."""
+    stream = bytearray()
+    t = 0
+    while len(stream) < size:
+        stream += "".join(line + "\r\n" for line in sentences(t)).encode()
+        t += 1
+    with open(path, "w", encoding="ascii") as script:
+        script.write("device a\nopen 0 65536\nsay 0 ?WATCH={\"json\":true};\n")
+        for at in range(0, size, width):
+            script.write(f"bytes 0 {START}.100000000 {stream[at:min(at + width, size)].hex()}\n")
+
+
+def played(program, path, words=()):
+    """The processor time of a run in seconds, and its memory in MB."""
+    with open(path, "rb") as script:
+        child = subprocess.Popen([program, "replay", *words], stdin=script, stdout=subprocess.DEVNULL)
+        _, status, usage = os.wait4(child.pid, 0)
+    if status != 0:
+        sys.exit(f"{path}: status {os.waitstatus_to_exitcode(status)}")
+    return usage.ru_utime + usage.ru_stime, usage.ru_maxrss / 1024
+
+
+def main():
+    program, rounds = sys.argv[1], int(sys.argv[2]) if len(sys.argv) > 2 else 3
+    with tempfile.TemporaryDirectory() as place:
+        paths = {name: os.path.join(place, name) for name in ("whole", "half", "long", "single")}
+        write_seconds(paths["whole"], 100_000_000)
+        write_seconds(paths["half"], 50_000_000)
+        write_bytes(paths["long"], 2_000_000, 512)
+        write_bytes(paths["single"], 2_000_000, 1)
+        plays = [(name, path, ()) for name, path in paths.items()]
+        plays.append(("small generations", paths["whole"], ("--history", "1000")))
+        runs = {name: [] for name, _, _ in plays}
+        for _ in range(rounds):
+            for name, path, words in plays:
+                runs[name].append(played(program, path, words))
+        least = {}
+        for name, path, _ in plays:
+            least[name] = min(time for time, _ in runs[name])
+            memory = max(memory for _, memory in runs[name])
+            print(f"{name:17} {os.path.getsize(path) / 1e6:6.1f} MB {least[name]:7.2f} s {memory:6.1f} MB of memory")
+        print(f"whole by half  {least['whole'] / least['half']:.2f}")
+        print(f"single by long {least['single'] / least['long']:.2f}")
+
+
+if __name__ == "__main__":
+    main()

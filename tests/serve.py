@@ -254,7 +254,7 @@ def bad_clients():
     status, out = daemon.wait()
     check("bad clients: status", 0, status)
     check("bad clients: the one that reset hung up or could not be written to", True,
-          re.search(rb"^s4 (drained|writefault) (hungup|readfault) \d+$", out, re.M) is not None or out)
+          re.search(rb"^s4 (drained (hungup|readfault)|writefault [a-z]+) \d+$", out, re.M) is not None or out)
 
 
 def crowd():

@@ -17,8 +17,9 @@ use Rattle.serve_pieces.specs.declared.piece.Piece.{Piece}
 use Rattle.session_core.specs.Naming.{OutletName, of_table}
 use Rattle.hub_laws.specs.Keeping.{HubKeeps, Lasts}
 use Rattle.hub_laws.specs.Parts.{AreAdmitted, HubView, Terms}
-use Rattle.hub_laws.proofs.Calls.{ended_there, hub_admit, hub_shut}
+use Rattle.hub_laws.proofs.Calls.{hub_admit}
 use Rattle.hub_laws.proofs.Hubs.{map_length}
+use Rattle.hub_laws.proofs.Shutting.{ended_there, hub_shut}
 use Rattle.gps_hub.specs.Admitting.{RefusesLink, ShutIf}
 
 -- each device of a book that was shut has stopped

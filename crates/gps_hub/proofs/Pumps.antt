@@ -2,9 +2,12 @@
 use Rattle.std.proofs.Common.{◌≡◌, ◌<◌, ◌≤◌, ℕ, zero, suc, Bool, true, false, List, [], ◌∷◌, ◌++◌, length, get_or, set, Option, Some, None, refl, sym, ap, ◌∙◌, subst, inl, inr, ◌⊎◌, ⊎_elim, arith, get_or-set_same}
 use Rattle.std.specs.Prelude.{is_some, option_map, MatchOption}
 use Rattle.std.proofs.lemmas.List.{get_or_default, set-get_or}
+use Rattle.book_sessions.specs.Attendance.{Attendance}
 use Rattle.book_sessions.specs.Roster.{IsOpenAt}
 use Rattle.gps_lane.specs.Ends.{Taking}
 use Rattle.report_book.specs.BookView.{BookView}
+use Rattle.report_book.specs.Moves.{HangsUp}
+use Rattle.session_core.specs.declared.mark.Close.{Close}
 use Rattle.serve_pieces.specs.declared.piece.Piece.{Piece}
 use Rattle.hub_laws.specs.declared.ends.DeviceEnd.{DeviceEnd}
 use Rattle.hub_laws.specs.DaemonHub.{MayGoOn}
@@ -12,7 +15,7 @@ use Rattle.hub_laws.specs.Parts.{HubView, Lanes, names_of, parts_of}
 use Rattle.hub_laws.specs.Steps.{with_bytes, with_edge, with_got}
 use Rattle.gps_hub.specs.declared.pumped.Pumped.{Pumped}
 use Rattle.gps_hub.specs.declared.pumped.Pumped.TheVariants.{Fed, Empty, Waiting, Done, Refused}
-use Rattle.gps_hub.specs.Pumping.{DevicePumped, GoesOn, GotInput, GotOne, Looked, LookedAt, SessionPumped}
+use Rattle.gps_hub.specs.Pumping.{ClosedBy, DevicePumped, GoesOn, GotInput, GotOne, Looked, LookedAt, SessionPumped}
 
 pub none_of : {X : Type 0} (o : Option X) → false ≡ is_some o → o ≡ None
 none_of None e = refl
@@ -77,7 +80,7 @@ module _ (h : HubView) (s : ℕ) (book : BookView) (x y : Taking Piece) (lt : s 
   input_there one free =
       subst (λ (t : Taking Piece × Taking Piece). GotInput t.0 t.1) (λ i. ((sym here ∙ get_or_default h.inputs s x free lt) i, sym (get_or-set_same h.inputs s y free lt) i)) one
 
-  pub session_pumped : (r : Pumped) → IsOpenAt s h.book.sessions → LookedAt r x y → (r ≡ Empty → book ≡ h.book) → SessionPumped r s h (record h { book = book; inputs = set h.inputs s y })
+  pub session_pumped : (r : Pumped) → IsOpenAt s h.book.sessions → LookedAt r x y book s → (r ≡ Empty → book ≡ h.book) → SessionPumped r s h (record h { book = book; inputs = set h.inputs s y })
   session_pumped Fed goes looked empty = (goes, input_there looked)
   session_pumped Empty goes looked empty = (
     goes,
@@ -93,4 +96,12 @@ module _ (h : HubView) (s : ℕ) (book : BookView) (x y : Taking Piece) (lt : s 
   )
   session_pumped (Waiting watched) goes looked empty = absurd looked
   session_pumped Done goes looked empty = absurd looked
-  session_pumped (Refused fault) goes looked empty = (goes, input_there looked.0, looked.1)
+  session_pumped (Refused fault) goes looked empty = (goes, input_there looked.0, looked.1, looked.2)
+
+-- a session that was hung up is closed for that reason
+pub hung_closed : (s : ℕ) (why : Close) (old new : BookView) → s < length old.sessions → HangsUp s why old new → (free : Attendance) → ClosedBy why (get_or new.sessions s free)
+hung_closed s why old new lt hangs free = (
+  old.log.length,
+  ap (λ (l : List Attendance). (get_or l s free).session.closing) hangs.session.1
+      ∙ ap (λ (a : Attendance). a.session.closing) (get_or-set_same old.sessions s hangs.session.0 free lt ∙ (hangs.session.2 free).becomes),
+)

@@ -5,7 +5,10 @@ use Rattle.book_sessions.specs.Roster.{IsOpenAt, was_watched}
 use Rattle.gps_lane.specs.Ends.{Taking}
 use Rattle.report_book.specs.declared.fault.BookFault.{BookFault}
 use Rattle.report_book.specs.declared.fault.BookFault.TheVariants.{NoMemory}
+use Rattle.report_book.specs.BookView.{BookView}
 use Rattle.serve_pieces.specs.declared.piece.Piece.{Piece}
+use Rattle.session_core.specs.declared.mark.Close.{Close}
+use Rattle.session_core.specs.declared.mark.Close.TheVariants.{NoMemory as CloseNoMemory}
 use Rattle.hub_laws.specs.declared.ends.DeviceEnd.{DeviceEnd}
 use Rattle.hub_laws.specs.declared.ends.DeviceEnd.TheVariants.{NoMemory as LostNoMemory}
 use Rattle.hub_laws.specs.DaemonHub.{MayGoOn}
@@ -62,21 +65,25 @@ DevicePumped (Refused fault) d old new =
 abbrev pub GotInput : Taking Piece → Taking Piece → Type 0
 GotInput x y = (piece : Piece) × (y ≡ with_got piece x)
 
--- what became of a piece of a session's input
-abbrev pub TookInput : Pumped → Type 0
-TookInput Fed = Unit {0}
-TookInput Empty = ⊥
-TookInput (Waiting watched) = ⊥
-TookInput Done = ⊥
-TookInput (Refused fault) = fault ≡ NoMemory
+-- a session was closed for this reason
+abbrev pub ClosedBy : Close → Attendance → Type 0
+ClosedBy why a = (place : ℕ) × (a.session.closing ≡ Some (place, why))
+
+-- what became of a piece of a session's input: one that was refused has closed the session
+abbrev pub TookInput : Pumped → BookView → ℕ → Type 0
+TookInput Fed book s = Unit {0}
+TookInput Empty book s = ⊥
+TookInput (Waiting watched) book s = ⊥
+TookInput Done book s = ⊥
+TookInput (Refused fault) book s = (fault ≡ NoMemory) × ((free : Attendance) → ClosedBy CloseNoMemory (slice_index_or book.sessions s free))
 
 -- what a look at an open session answers
-abbrev pub LookedAt : Pumped → Taking Piece → Taking Piece → Type 0
-LookedAt Fed x y = GotInput x y
-LookedAt Empty x y = y ≡ x
-LookedAt (Waiting watched) x y = ⊥
-LookedAt Done x y = ⊥
-LookedAt (Refused fault) x y = GotInput x y × (fault ≡ NoMemory)
+abbrev pub LookedAt : Pumped → Taking Piece → Taking Piece → BookView → ℕ → Type 0
+LookedAt Fed x y book s = GotInput x y
+LookedAt Empty x y book s = y ≡ x
+LookedAt (Waiting watched) x y book s = ⊥
+LookedAt Done x y book s = ⊥
+LookedAt (Refused fault) x y book s = GotInput x y × (fault ≡ NoMemory) × ((free : Attendance) → ClosedBy CloseNoMemory (slice_index_or book.sessions s free))
 
 -- a session is closed
 abbrev pub IsClosedAt : HubView → ℕ → Type 0
@@ -85,7 +92,7 @@ IsClosedAt h s = (free : Attendance) → is_some (slice_index_or h.book.sessions
 abbrev pub IsOpenIn : HubView → ℕ → Type 0
 IsOpenIn h s = IsOpenAt s h.book.sessions
 
--- Done exactly where the session is closed. Else a piece is got of its lane, or none is there.
+-- Done exactly where the session is closed. Else a piece is got of its lane, or none is there. Where the book refuses it, the session is closed.
 abbrev pub SessionPumped : Pumped → ℕ → HubView → HubView → Type 0
 SessionPumped (Waiting watched) s old new = ⊥
 SessionPumped Done s old new = IsClosedAt old s × (new ≡ old)
@@ -93,3 +100,4 @@ SessionPumped Empty s old new = IsOpenIn old s × (new ≡ old)
 SessionPumped Fed s old new = IsOpenIn old s × ((x : Taking Piece) → GotInput (get_or old.inputs s x) (get_or new.inputs s x))
 SessionPumped (Refused fault) s old new =
     IsOpenIn old s × ((x : Taking Piece) → GotInput (get_or old.inputs s x) (get_or new.inputs s x)) × (fault ≡ NoMemory)
+    × ((free : Attendance) → ClosedBy CloseNoMemory (slice_index_or new.book.sessions s free))

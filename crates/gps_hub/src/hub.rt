@@ -86,6 +86,7 @@ impl<J: HubNaming, R: Wait + Copy> Hub<J, R> {
         requires table { doors.table ≡ J.table }
         requires ledger { doors.ledger ≡ J.name }
         requires parts { doors.parts ≡ J.parts }
+        requires whole { doors.parts ≡ J.whole }
         requires unused { IsUnused book }
         requires count { length inlets.items ≡ length book.names }
         requires nothing_got { All NothingGot inlets.items }
@@ -239,6 +240,21 @@ impl<J: HubNaming, R: Wait + Copy> Hub<J, R> {
         self.book.show();
         self.is_shut = true;
         true
+    }
+
+    /// How many devices there are.
+    pub fn devices(&self) -> u8
+        ensures { result ≡ length self.now.inlets }
+    {
+        self.inlets.len() as u8
+    }
+
+    /// How many units there are.
+    pub fn units(&self) -> u8
+        ensures { result ≡ length self.now.book.units }
+    {
+        let devices = self.inlets.len() as u8;
+        2 * devices
     }
 
     pub fn book(&self) -> &Book<Tx<Item, R>>

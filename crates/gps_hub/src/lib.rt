@@ -11,6 +11,8 @@ mod naming;
 mod parted;
 mod pumped;
 mod session;
+#[cfg(test)]
+mod tests;
 mod watching;
 
 pub use hub::Hub;

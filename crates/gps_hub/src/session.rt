@@ -47,7 +47,7 @@ fn hear<R: Wait + Copy>(book: &mut Book<Tx<Item, R>>, s: u32, bytes: &Chunk) -> 
     requires within { s < length book.old.sessions }
     requires open_one { IsOpenAt s book.old.sessions }
     ensures step { (x : Taking Piece) → SessionStep s book.old book.new x (with_got (Input bytes.now) x) }
-    ensures answer { TookInput result }
+    ensures answer { TookInput result book.new s }
 {
     book.show();
     match book.input(s, bytes.as_slice()) {
@@ -74,7 +74,7 @@ fn take_input<R: Wait + Copy>(book: &mut Book<Tx<Item, R>>, s: u32, piece: Piece
     requires within { s < length book.old.sessions }
     requires open_one { IsOpenAt s book.old.sessions }
     ensures step { (x : Taking Piece) → SessionStep s book.old book.new x (with_got piece x) }
-    ensures answer { TookInput result }
+    ensures answer { TookInput result book.new s }
 {
     match piece {
         Piece::Input(bytes) => hear(book, s, &bytes),
@@ -97,7 +97,7 @@ pub(crate) fn pump<R: Wait + Copy>(
     requires within { s < length book.old.sessions }
     requires open_one { IsOpenAt s book.old.sessions }
     ensures step { SessionStep s book.old book.new input.old input.new }
-    ensures answer { LookedAt result input.old input.new }
+    ensures answer { LookedAt result input.old input.new book.new s }
     ensures empty { result ≡ Pumped.Empty → book.new ≡ book.old }
 {
     match input.pop() {

@@ -17,6 +17,19 @@ const READ_WAIT: u64 = 500;
 /// How many milliseconds one write to a link waits for room.
 const WRITE_WAIT: u64 = 1_000;
 
+/// What accept(2) of Linux answers where the system or this process has no file or no room left (ENOMEM, ENFILE, EMFILE, ENOBUFS), where a
+/// firewall refuses the link (EPERM), or where the link's network failed before it was handed on.
+const PASSING: [i32; 13] = [1, 12, 23, 24, 64, 71, 92, 95, 100, 101, 105, 112, 113];
+
+/// Whether the next link may come all the same.
+fn is_passing(error: &io::Error) -> bool {
+    let passes = match error.raw_os_error() {
+        Some(code) => PASSING.contains(&code),
+        None => false,
+    };
+    passes || is_quiet(error) || error.kind() == ErrorKind::ConnectionAborted
+}
+
 /// Both directions of a TCP stream. Small pieces are sent at once; a read that waits for half a second is quiet, and a
 /// write that waits for a second is a fault, so no peer holds the thread that serves it.
 pub fn directions_of(stream: TcpStream) -> io::Result<(RealSource, RealSink)>
@@ -31,7 +44,8 @@ pub fn directions_of(stream: TcpStream) -> io::Result<(RealSource, RealSink)>
 
 /// A TCP listener as a door. It counts its faults and quiets, and tells no links.
 ///
-/// Where no link waits for a tenth of a second it is quiet, and so it is where a link breaks off before it is handed on.
+/// Where no link waits for a tenth of a second it is quiet; so it is where a link breaks off before it is handed on, and where no file or room
+/// is left for it: the door stays open for those that come later.
 #[derive(Drop)]
 pub struct RealDoor {
     listener: TcpListener,
@@ -89,7 +103,7 @@ impl Door for RealDoor {
         match self.next_link() {
             Ok((source, sink)) => DoorStep::Link(source, sink),
             Err(error) => {
-                if is_quiet(&error) || error.kind() == ErrorKind::ConnectionAborted {
+                if is_passing(&error) {
                     self.quiets = self.quiets.saturating_add(1);
                     DoorStep::Quiet
                 } else {

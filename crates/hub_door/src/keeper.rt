@@ -1,7 +1,7 @@
 ghost use Rattle.std.specs.Prelude.{◌≡◌};
 ghost use Rattle.hub_door.specs.Admissions.{admitting, entered, entry_of, finished, link_of};
 
-use crate::naming::DoorNaming;
+use crate::naming::{Cut, DoorNaming};
 use crate::plays::{Entering, Finishes};
 use crate::seat::DoorSeat;
 use crate::steps::{add, compare, renew};
@@ -17,6 +17,7 @@ pub struct Keeper<J: DoorNaming> {
     pub(crate) word: DoorWord,
     pub(crate) seat: TableSeat,
     pub(crate) ledger: Book<J>,
+    pub(crate) cut: Cut<J>,
 }
 
 impl<J: DoorNaming> Model for Keeper<J> {
@@ -38,7 +39,13 @@ impl<J: DoorNaming> Keeper<J> {
         ensures keeper { self.new ≡ self.old }
         ensures door { door.new ≡ door.old }
     {
-        let Keeper { word, seat, ledger } = self;
+        let Keeper {
+            word,
+            seat,
+            ledger,
+            cut,
+        } = self;
+        cut.show();
         ledger.audit(&mut door.share);
         compare(word, seat, &mut door.note);
     }
@@ -48,7 +55,13 @@ impl<J: DoorNaming> Keeper<J> {
         ensures keeper { self.new ≡ entered E.entry self.old }
         ensures door { door.new ≡ entered E.entry door.old }
     {
-        let Keeper { word, seat, ledger } = self;
+        let Keeper {
+            word,
+            seat,
+            ledger,
+            cut,
+        } = self;
+        cut.show();
         ledger.audit(&mut door.share);
         compare(word, seat, &mut door.note);
         add::<E>(word, seat);

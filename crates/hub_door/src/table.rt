@@ -2,7 +2,7 @@ ghost use Rattle.std.specs.Prelude.{◌≡◌, IfOk, [], false};
 ghost use Rattle.hub_door.specs.Admissions.{Admissions};
 
 use crate::keeper::Keeper;
-use crate::naming::DoorNaming;
+use crate::naming::{Cut, DoorNaming};
 use crate::plays::Notes;
 use crate::rule::Kept;
 use crate::seat::DoorSeat;
@@ -51,6 +51,7 @@ impl DoorTable {
         requires table { self.table ≡ J.table }
         requires ledger { self.ledger ≡ J.name }
         requires parts { self.parts ≡ J.parts }
+        requires whole { self.parts ≡ J.whole }
         ensures keeper { result.0 ≡ record { links = []; done = false } }
         ensures seat { result.1 ≡ record { links = []; done = false } }
     {
@@ -61,6 +62,12 @@ impl DoorTable {
         } = self;
         let (ledger, share) = blank.open::<J>();
         let note = word.shared.split_seat::<Notes>(&mut seat);
-        (Keeper { word, seat, ledger }, DoorSeat { note, share })
+        let keeper = Keeper {
+            word,
+            seat,
+            ledger,
+            cut: Cut::new(),
+        };
+        (keeper, DoorSeat { note, share })
     }
 }

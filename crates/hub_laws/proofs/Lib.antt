@@ -6,5 +6,7 @@ pub mod Sessions
 pub mod Lists
 pub mod Hubs
 pub mod Arms
+pub mod Going
+pub mod Shutting
 pub mod Calls
 pub mod Beginning

@@ -3,7 +3,9 @@ use Rattle.std.specs.Prelude.{◌≡◌, ℕ, ◌≤◌, ◌⊎◌, List, [], �
 use Rattle.std.specs.Option.{option_to_list}
 use Rattle.gps_fixed.specs.Moment.{Moment}
 use Rattle.gps_outside.specs.Counts.{Rose}
+use Rattle.gps_outside.specs.Links.{IsUnread}
 use Rattle.gps_outside.specs.Ticks.{Dial}
+use Rattle.gps_outside.specs.Told.{Stream}
 use Rattle.gps_world.specs.Asking.{Asking}
 use Rattle.gps_world.specs.declared.place.Place.{Place}
 use Rattle.serve_opening.specs.declared.opening.Stop.{Stop}
@@ -67,3 +69,19 @@ AsksSome asked places listen = ((rest : List Place) × (places ≡ asked.places 
 -- they are all of these, and the address was listened to
 abbrev pub AsksAll : Asking → List Place → List ℕ → Type 0
 AsksAll asked places listen = (asked.places ≡ places) × (asked.address ≡ Some listen)
+
+-- of each source nothing was taken, where it tells that, and it counted nothing
+abbrev pub AreUnread : {S : Type 0} → (S → Option Stream) → (S → ℕ) → (S → ℕ) → List S → Type 0
+AreUnread content faults quiets [] = Unit {0}
+AreUnread content faults quiets (source ∷ sources) = IsUnread (content source) (faults source) (quiets source) × AreUnread content faults quiets sources
+
+-- the sources of edges, for the devices that have one
+abbrev pub sources_in : {S : Type 0} → List (Option S) → List S
+sources_in [] = []
+sources_in (None ∷ sources) = sources_in sources
+sources_in (Some source ∷ sources) = source ∷ sources_in sources
+
+-- what a world tells of its door and of its clock is as it was
+pub record TellsAsBefore {L D : Type 0} (links links' : Option L) (stamps stamps' : Option D) : Type 0 where
+  pub links_are : links' ≡ links
+  pub stamps_are : stamps' ≡ stamps

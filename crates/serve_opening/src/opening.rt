@@ -1,6 +1,8 @@
 ghost use Rattle.std.specs.Prelude.{◌≡◌, ◌≤◌, ◌<◌, ◌+◌, ◌++◌, ◌⊎◌, [], ◌∷◌, None, Some, length, IfOk, OnOk, IfErr, Ok, Err};
 ghost use Rattle.std.specs.Option.{option_to_list};
-ghost use Rattle.serve_opening.specs.Opening.{AsksFor, FaultsStay, HasCause, OpenAsks, places_in, world_faults};
+ghost use Rattle.gps_outside.specs.Links.{IsUnread};
+ghost use Rattle.gps_world.specs.Opening.{Tells};
+ghost use Rattle.serve_opening.specs.Opening.{AreUnread, AsksFor, FaultsStay, HasCause, OpenAsks, TellsAsBefore, places_in, sources_in, world_faults};
 
 use gps_fixed::Bytes;
 use gps_world::{Opened, Place, World};
@@ -31,6 +33,8 @@ fn open_place<W: World>(world: &mut W, place: Place) -> Result<W::In, Stop>
     ensures faults_stay { FaultsStay (world_faults (W.input_faults world.old) (W.listen_faults world.old)) (world_faults (W.input_faults world.new) (W.listen_faults world.new)) }
     ensures places { (W.asked world.new).places ≡ (W.asked world.old).places ++ place ∷ [] }
     ensures address { (W.asked world.new).address ≡ (W.asked world.old).address }
+    ensures tells { TellsAsBefore (W.links world.old) (W.links world.new) (W.stamps world.old) (W.stamps world.new) }
+    ensures unread { IfOk result (λ source. IsUnread (W.In.content source) (W.In.faults source) (W.In.quiets source)) }
 {
     match world.input(place) {
         Opened::Ready(source) => Ok(source),
@@ -38,6 +42,7 @@ fn open_place<W: World>(world: &mut W, place: Place) -> Result<W::In, Stop>
     }
 }
 
+#[tactic(auto, using(crate::proofs::Unread::one_more))]
 fn open_one<W: World>(world: &mut W, place: Place, opened: &mut Vec<W::In>) -> Result<(), Stop>
     requires { length (W.asked world.old).places < 16 }
     ensures cause { HasCause result (world_faults (W.input_faults world.old) (W.listen_faults world.old)) (world_faults (W.input_faults world.new) (W.listen_faults world.new)) }
@@ -45,6 +50,8 @@ fn open_one<W: World>(world: &mut W, place: Place, opened: &mut Vec<W::In>) -> R
     ensures places { (W.asked world.new).places ≡ (W.asked world.old).places ++ place ∷ [] }
     ensures address { (W.asked world.new).address ≡ (W.asked world.old).address }
     ensures count { OnOk result (length opened.new.items ≡ length opened.old.items + 1) }
+    ensures tells { TellsAsBefore (W.links world.old) (W.links world.new) (W.stamps world.old) (W.stamps world.new) }
+    ensures unread { AreUnread W.In.content W.In.faults W.In.quiets opened.old.items → AreUnread W.In.content W.In.faults W.In.quiets opened.new.items }
 {
     match open_place(world, place) {
         Ok(source) => match opened.push(source) {
@@ -66,6 +73,8 @@ fn open_inputs<W: World>(
     ensures faults_stay { FaultsStay (world_faults (W.input_faults world.old) (W.listen_faults world.old)) (world_faults (W.input_faults world.new) (W.listen_faults world.new)) }
     ensures asked { AsksFor result (W.asked world.old) (W.asked world.new) places.items }
     ensures count { IfOk result (λ opened. length opened.items ≡ length places.items) }
+    ensures tells { TellsAsBefore (W.links world.old) (W.links world.new) (W.stamps world.old) (W.stamps world.new) }
+    ensures unread { IfOk result (λ opened. AreUnread W.In.content W.In.faults W.In.quiets opened.items) }
 {
     let mut opened = room;
     'places: for place in places {
@@ -83,6 +92,8 @@ fn open_edge<W: World>(world: &mut W, place: Option<Place>) -> Result<Option<W::
     ensures faults_stay { FaultsStay (world_faults (W.input_faults world.old) (W.listen_faults world.old)) (world_faults (W.input_faults world.new) (W.listen_faults world.new)) }
     ensures places { (W.asked world.new).places ≡ (W.asked world.old).places ++ option_to_list place }
     ensures address { (W.asked world.new).address ≡ (W.asked world.old).address }
+    ensures tells { TellsAsBefore (W.links world.old) (W.links world.new) (W.stamps world.old) (W.stamps world.new) }
+    ensures unread { IfOk result (λ source. AreUnread W.In.content W.In.faults W.In.quiets (option_to_list source)) }
 {
     match place {
         Some(place) => match open_place(world, place) {
@@ -93,6 +104,7 @@ fn open_edge<W: World>(world: &mut W, place: Option<Place>) -> Result<Option<W::
     }
 }
 
+#[tactic(auto, using(crate::proofs::Unread::next_more))]
 fn open_next<W: World>(
     world: &mut W,
     place: Option<Place>,
@@ -104,6 +116,8 @@ fn open_next<W: World>(
     ensures places { (W.asked world.new).places ≡ (W.asked world.old).places ++ option_to_list place }
     ensures address { (W.asked world.new).address ≡ (W.asked world.old).address }
     ensures count { OnOk result (length opened.new.items ≡ length opened.old.items + 1) }
+    ensures tells { TellsAsBefore (W.links world.old) (W.links world.new) (W.stamps world.old) (W.stamps world.new) }
+    ensures unread { AreUnread W.In.content W.In.faults W.In.quiets (sources_in opened.old.items) → AreUnread W.In.content W.In.faults W.In.quiets (sources_in opened.new.items) }
 {
     match open_edge(world, place) {
         Ok(source) => match opened.push(source) {
@@ -125,6 +139,8 @@ fn open_edges<W: World>(
     ensures faults_stay { FaultsStay (world_faults (W.input_faults world.old) (W.listen_faults world.old)) (world_faults (W.input_faults world.new) (W.listen_faults world.new)) }
     ensures asked { AsksFor result (W.asked world.old) (W.asked world.new) (places_in places.items) }
     ensures count { IfOk result (λ opened. length opened.items ≡ length places.items) }
+    ensures tells { TellsAsBefore (W.links world.old) (W.links world.new) (W.stamps world.old) (W.stamps world.new) }
+    ensures unread { IfOk result (λ opened. AreUnread W.In.content W.In.faults W.In.quiets (sources_in opened.items)) }
 {
     let mut opened = room;
     'places: for place in places {
@@ -142,6 +158,9 @@ fn open_door<W: World>(world: &mut W, address: Bytes) -> Result<W::Gate, Stop>
     ensures faults_stay { FaultsStay (world_faults (W.input_faults world.old) (W.listen_faults world.old)) (world_faults (W.input_faults world.new) (W.listen_faults world.new)) }
     ensures places { (W.asked world.new).places ≡ (W.asked world.old).places }
     ensures address { (W.asked world.new).address ≡ Some address }
+    ensures links { IfOk result (λ gate. Tells (W.links world.old) (W.Gate.links gate)) }
+    ensures stamps { W.stamps world.new ≡ W.stamps world.old }
+    ensures unused { IfOk result (λ gate. (W.Gate.faults gate ≡ 0) × (W.Gate.quiets gate ≡ 0)) }
 {
     match world.listen(address) {
         Opened::Ready(gate) => Ok(gate),
@@ -164,6 +183,10 @@ pub fn open<W: World>(
     ensures asked { OpenAsks result (W.asked world.old) (W.asked world.new) (inputs.items ++ places_in edges.items) listen }
     ensures inputs { IfOk result (λ outside. length outside.inputs.items ≡ length inputs.items) }
     ensures edges { IfOk result (λ outside. length outside.edges.items ≡ length edges.items) }
+    ensures unread { IfOk result (λ outside. AreUnread W.In.content W.In.faults W.In.quiets outside.inputs.items × AreUnread W.In.content W.In.faults W.In.quiets (sources_in outside.edges.items)) }
+    ensures links { IfOk result (λ outside. Tells (W.links world.old) (W.Gate.links outside.gate)) }
+    ensures stamps { IfOk result (λ outside. Tells (W.stamps world.old) (W.Now.stamps outside.clock)) }
+    ensures unused { IfOk result (λ outside. (W.Gate.faults outside.gate ≡ 0) × (W.Gate.quiets outside.gate ≡ 0)) }
 {
     match open_inputs(world, inputs, Vec::new(alloc)) {
         Ok(inputs) => match open_edges(world, edges, Vec::new(alloc)) {

@@ -1,3 +1,4 @@
 pub mod Monitors
 pub mod Reading
+pub mod Segments
 pub mod Sessions

@@ -1,5 +1,6 @@
-ghost use Rattle.std.specs.Prelude.{◌≡◌, [], IfOk};
+ghost use Rattle.std.specs.Prelude.{◌≡◌, ◌≤◌, [], length, map, IfOk};
 ghost use Rattle.std.specs.Arc.{arc_value};
+ghost use Rattle.book_units.specs.Units.{segment_of};
 ghost use Rattle.serve_threads.specs.Monitors.{Watched};
 
 use crate::work::{Work, start};
@@ -51,12 +52,15 @@ impl Promise<WatchDone> for Watching {
     ghost kept_by = { λ p r. (r.segment ≡ p.segment.value) × Watched (arc_value r.segment) p.tries r.whole r.monitor r.taken.items };
 }
 
-/// A monitor for each unit.
+/// A monitor for each unit, in order.
+#[tactic(auto, using(crate::proofs::Segments::no_segment, crate::proofs::Segments::one_segment, crate::proofs::Segments::no_unit, crate::proofs::Segments::last_unit))]
 pub fn watchers<R: Wait + Copy>(
     alloc: Global,
     book: &mut Book<Tx<Item, R>>,
 ) -> Result<Vec<Watcher>, NoMemory>
-    ensures { book.new ≡ book.old }
+    requires few { length book.old.units ≤ 16 }
+    ensures book { book.new ≡ book.old }
+    ensures segments { IfOk result (λ watchers. map (λ watcher. arc_value watcher.segment) watchers.items ≡ map segment_of book.old.units) }
 {
     let mut watchers = Vec::new(alloc);
     'units: for unit in 0..UNITS {

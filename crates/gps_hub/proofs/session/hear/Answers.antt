@@ -1,10 +1,14 @@
 use Rattle.std.proofs.Common.{◌≡◌, ℕ, List, sym, subst, false}
 use Rattle.report_book.specs.BookView.{BookView}
+use Rattle.std.specs.Prelude.{Err, Option}
 use Rattle.report_book.specs.Moves.{HangsUp}
+use Rattle.report_book.specs.Refusals.{RefusesAs}
+use Rattle.report_book.specs.declared.fault.BookFault.{BookFault}
 use Rattle.serve_pieces.specs.declared.piece.Piece.TheVariants.{Input}
 use Rattle.session_core.specs.declared.mark.Close.TheVariants.{NoMemory}
 use Rattle.hub_laws.specs.Steps.{SessionStep, with_got}
 use Rattle.hub_laws.proofs.Sessions.{heard_step, hung_step}
+use Rattle.gps_hub.proofs.Pumps.{hung_closed}
 use Rattle.gps_hub.proofs.session.hear.Goals as goal
 
 pub returns-in-Ok-clause-step : goal.returns-in-Ok-clause-step
@@ -17,3 +21,11 @@ pub returns-in-Err-clause-step : goal.returns-in-Err-clause-step
 returns-in-Err-clause-step g c = λ x.
     let P : BookView → Type 0 = λ b. HangsUp c.args.s NoMemory b c.hang_up.new.book in
     hung_step c.args.book.now c.hang_up.new.book c.args.s NoMemory (Input c.args.bytes.now) x c.show.ensures.holds c.requires.open_one (λ _ _ _. tt) (subst P c.in-Err.ensures.unchanged c.hang_up.ensures)
+
+pub returns-in-Err-clause-answer : goal.returns-in-Err-clause-answer
+returns-in-Err-clause-answer g c =
+    let P : BookView → Type 0 = λ b. HangsUp c.args.s NoMemory b c.hang_up.new.book in
+    let Q : Option BookFault → Type 0 = λ o. RefusesAs {X = Unit {0}} o (Err c.in-Err.fault) in (
+      subst Q c.requires.runs c.in-Err.ensures.refusal,
+      hung_closed c.args.s NoMemory c.args.book.now c.hang_up.new.book c.requires.within (subst P c.in-Err.ensures.unchanged c.hang_up.ensures),
+    )

@@ -3,7 +3,7 @@ use Rattle.hub_laws.specs.DaemonHub.{MayGoOn}
 use Rattle.hub_laws.specs.declared.ends.DeviceEnd.{DeviceEnd}
 use Rattle.hub_laws.specs.Keeping.{HubKeeps, Lasts}
 use Rattle.hub_laws.specs.Parts.{HubView, Lanes, Terms, parts_of}
-use Rattle.hub_laws.proofs.Calls.{device_free}
+use Rattle.hub_laws.proofs.Going.{device_free}
 use Rattle.hub_laws.proofs.Hubs.{hub_device}
 use Rattle.gps_hub.specs.Pumping.{DevicePumped}
 use Rattle.gps_hub.proofs.Pumps.{device_pumped, looked_names, match_none, running_is}

@@ -3,7 +3,7 @@ use Rattle.gps_lane.specs.Ends.{Taking}
 use Rattle.hub_laws.specs.DaemonHub.{SessionFits}
 use Rattle.hub_laws.specs.Keeping.{HubKeeps, Lasts}
 use Rattle.hub_laws.specs.Parts.{HubView, Lanes, Terms, parts_of}
-use Rattle.hub_laws.proofs.Calls.{closed_at, open_at, session_free}
+use Rattle.hub_laws.proofs.Going.{open_at, session_free}
 use Rattle.hub_laws.proofs.Hubs.{hub_session}
 use Rattle.hub_laws.proofs.Lists.{zip_length}
 use Rattle.gps_hub.specs.Pumping.{SessionPumped}

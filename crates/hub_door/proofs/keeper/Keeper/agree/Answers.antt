@@ -9,7 +9,7 @@ use Rattle.hub_door.proofs.keeper.Keeper.agree.Goals as goal
 one_list : (g : _) (c : goal.After-compare g) → c.door.inside.note.me.0.list ≡ c.self.inside.seat.me.0.list
 one_list g c =
     agreed c.door.inside.note.me.0.list c.self.inside.seat.me.0.list c.compare.ensures.begins
-    (sym c.door.invariant.4 ∙ (c.audit.ensures.whole (c.door.invariant.2 ∙ sym g.met.J.DoorNaming.parts_are) ∙ c.self.invariant.4))
+    (sym c.door.invariant.4 ∙ (c.audit.ensures.whole (c.door.invariant.2 ∙ sym c.show.ensures) ∙ c.self.invariant.4))
 
 pub returns-clause-same : goal.returns-clause-same
 returns-clause-same g c = sym c.self.view_is ∙ (ap admissions (sym (one_list g c)) ∙ c.door.view_is)

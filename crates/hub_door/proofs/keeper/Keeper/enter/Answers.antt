@@ -13,7 +13,7 @@ invariant_of-door g c =
     let added = ap (λ m. m.0.list) c.add.ensures.1 in
     let before = ap (λ m. m.0.list) c.compare.ensures.hub.1 in
     let list : c.renew.new.seat.me.0.list ≡ c.self.inside.seat.me.0.list ++ g.E.Entering.entry ∷ [] = now ∙ (added ∙ ap (λ l. l ++ g.E.Entering.entry ∷ []) before) in
-    let audit : c.door.inside.share.amount ≡ c.self.inside.ledger.total = c.audit.ensures.whole (i.2 ∙ sym g.met.J.DoorNaming.parts_are) in
+    let audit : c.door.inside.share.amount ≡ c.self.inside.ledger.total = c.audit.ensures.whole (i.2 ∙ sym c.show.ensures) in
     let longer = ap length list in
     let more = length-append c.self.inside.seat.me.0.list (g.E.Entering.entry ∷ []) in
     let total = c.self.invariant.4 in
@@ -29,6 +29,6 @@ invariant_of-door g c =
 
 pub returns-clause-same : goal.returns-clause-same
 returns-clause-same g c =
-    let audit : c.door.inside.share.amount ≡ c.self.inside.ledger.total = c.audit.ensures.whole (c.door.invariant.2 ∙ sym g.met.J.DoorNaming.parts_are) in
+    let audit : c.door.inside.share.amount ≡ c.self.inside.ledger.total = c.audit.ensures.whole (c.door.invariant.2 ∙ sym c.show.ensures) in
     let list = agreed c.door.inside.note.me.0.list c.self.inside.seat.me.0.list c.compare.ensures.begins (sym c.door.invariant.4 ∙ (audit ∙ c.self.invariant.4)) in
     sym c.self.view_is ∙ (ap admissions (sym list) ∙ c.door.view_is)

@@ -1,0 +1,4 @@
+pub mod Causes
+pub mod Emptying
+pub mod Endings
+pub mod Published

@@ -1,0 +1,5 @@
+pub mod Failing
+pub mod Lanes
+pub mod Outlets
+pub mod Runs
+pub mod Units

@@ -1,0 +1,36 @@
+-- What the world was asked.
+use Rattle.std.proofs.Common.{◌≡◌, ℕ, ◌≤◌, ◌+◌, ◌⊎◌, inl, inr, List, [], ◌∷◌, ◌++◌, length, Option, Some, None, Result, Ok, Err, refl, sym, ◌∙◌, ap, arith, subst}
+use Rattle.std.proofs.lemmas.List.{append-nil}
+use Rattle.gps_world.specs.Asking.{Asking, asked_nothing}
+use Rattle.gps_world.specs.declared.place.Place.{Place}
+use Rattle.serve_opening.specs.declared.opening.Stop.{Stop}
+use Rattle.serve_opening.specs.Opening.{AsksAll, AsksSome, OpenAsks, places_in}
+
+pub all_of : {X : Type 0} (x : X) (old new : Asking) (places : List Place) (listen : List ℕ) → old ≡ asked_nothing → OpenAsks {X = X} (Ok x) old new places listen
+    → AsksAll new places listen
+all_of x old new places listen none asks = (asks.0 ∙ ap (λ (a : Asking). a.places ++ places) none, asks.1)
+
+pub some_of : {X : Type 0} (result : Result X Stop) (old new : Asking) (places : List Place) (listen : List ℕ) → old ≡ asked_nothing → OpenAsks result old new places listen
+    → AsksSome new places listen
+some_of (Ok x) old new places listen none asks =
+    (([], sym (asks.0 ∙ ap (λ (a : Asking). a.places ++ places) none) ∙ sym (append-nil new.places)), inr asks.1)
+some_of (Err stop) old new places listen none asks =
+    ((asks.0.0, sym (ap (λ (a : Asking). a.places ++ places) none) ∙ asks.0.1), asks.1)
+
+-- a device has one place of edges at most
+few : (edges : List (Option Place)) → length (places_in edges) ≤ length edges
+few [] = omega arith
+few (None ∷ edges) = let h = few edges in omega arith
+few (Some place ∷ edges) = let h = few edges in omega arith
+
+pub few_of : (asked : Asking) (inputs : List Place) (edges : List (Option Place)) (devices : ℕ) → asked ≡ asked_nothing → length inputs ≡ devices → length edges ≡ devices
+    → devices ≤ 8 → length asked.places + (length inputs + length (places_in edges)) ≤ 16
+few_of asked inputs edges devices none is are eight =
+    let no_place : length asked.places ≡ 0 = ap (λ (a : Asking). length a.places) none in
+    let h = few edges in
+    omega arith
+
+-- where the world is the same
+pub still_asked : {W : Type 0} (asked : W → Asking) (w w' : W) (places : List Place) (listen : List ℕ) → w' ≡ w → AsksSome (asked w) places listen
+    → AsksSome (asked w') places listen
+still_asked {W} asked w w' places listen is so = subst (λ (x : W). AsksSome (asked x) places listen) (sym is) so

@@ -1,0 +1,136 @@
+-- What is put together at the end, as one.
+use Rattle.std.proofs.Common.{◌≡◌, ℕ, ◌≤◌, Bool, true, false, ◌||◌, List, [], ◌∷◌, map, length, Option, refl, sym, ◌∙◌, ap, subst, arith, suc}
+use Rattle.std.proofs.lemmas.List.Folds.{list_all-map}
+use Rattle.std.specs.List.{AllZip, list_all}
+use Rattle.gps_fixed.specs.Moment.{Moment}
+use Rattle.book_units.specs.Units.{UnitView, segment_of}
+use Rattle.gps_lane.specs.Ends.{Taking}
+use Rattle.report_book.specs.BookView.{BookView}
+use Rattle.report_book.specs.Standing.{Holds}
+use Rattle.hub_laws.specs.declared.ends.DeviceEnd.{DeviceEnd}
+use Rattle.hub_laws.specs.DaemonHub.{DaemonHub}
+use Rattle.hub_laws.specs.Given.{is_end}
+use Rattle.hub_laws.specs.Parts.{Lanes, Parts, Terms, terms_of}
+use Rattle.serve_pieces.specs.declared.piece.Piece.{Piece}
+use Rattle.serve_parts.specs.declared.done.DeviceDone.{DeviceDone}
+use Rattle.serve_parts.specs.declared.done.MonitorDone.{MonitorDone}
+use Rattle.serve_parts.specs.declared.done.SessionDone.{SessionDone}
+use Rattle.serve_settling.specs.declared.device.DeviceRun.{DeviceRun}
+use Rattle.serve_settling.specs.Runs.{SourceFacts}
+use Rattle.serve_threads.specs.declared.monitors.WatchDone.{WatchDone}
+use Rattle.serve_threads.specs.declared.monitors.Watcher.{Watcher}
+use Rattle.serve_threads.specs.Segments.{segments_of}
+use Rattle.gps_serve.specs.declared.lanes.DeviceStart.{DeviceStart}
+use Rattle.gps_serve.specs.AtEnd.{AtEnd, DeviceServed, MonitorServed, SinkFacts, told_of, watched_units}
+use Rattle.gps_serve.specs.Readies.{AllServed, MonitorReady}
+use Rattle.gps_serve.specs.Runs.{DeviceReady, DevicesRan, RanOn}
+use Rattle.gps_serve.specs.Starts.{IsFreshDevice}
+use Rattle.gps_serve.specs.Statuses.{AllEnded, EachWhole}
+use Rattle.gps_serve.specs.Works.{WatchedBy, WatchersRan, monitored}
+use Rattle.gps_serve.proofs.Devices.{devices_ready}
+use Rattle.gps_serve.proofs.Monitors.{monitors_ready}
+
+pub devices_by : {S R : Type 0} (may : Option (List Moment)) (facts : SourceFacts S) (terms : Terms) (b : BookView) (inlets : List Lanes) (runs : List (DeviceRun S R))
+    → terms_of b inlets terms.wait ≡ terms → DevicesRan may facts terms.lanes runs → AllZip (DeviceReady may facts) inlets runs
+devices_by may facts terms b inlets runs same ran =
+    devices_ready may facts inlets runs (subst (λ lanes. DevicesRan may facts lanes runs) (sym (ap (λ (t : Terms). t.lanes) same)) ran)
+
+pub ends_count : (p : Parts) → DaemonHub p → length p.ends ≡ length p.inlets
+ends_count p hub = hub.1.ends_count ∙ sym hub.1.count
+
+pub units_few : (b : BookView) → Holds b → length b.units ≤ 16
+units_few b holds = let u = holds.units in let n = holds.count in omega arith
+
+pub monitors_by : (tries : ℕ) (no_memory : Bool) (terms : Terms) (b b' : BookView) (inlets : List Lanes) (watched : List WatchDone)
+    → terms_of b inlets terms.wait ≡ terms → WatchersRan tries terms.segments watched → (no_memory ≡ false → EachWhole watched) → b' ≡ b
+    → AllZip (MonitorReady tries no_memory) (watched_units tries b'.units) watched
+monitors_by tries no_memory terms b b' inlets watched same ran whole is =
+    let segments = ran.segments_are ∙ ap (monitored tries) (sym (ap (λ (t : Terms). t.segments) same)) in
+    subst (λ (x : BookView). AllZip (MonitorReady tries no_memory) (watched_units tries x.units) watched) (sym is)
+    (monitors_ready tries no_memory b.units ran.watchers watched segments ran.by whole)
+
+pub all_ended_by : {S R : Type 0} (devices : List (DeviceDone S R)) (ends : List (Option DeviceEnd)) → map (λ (d : DeviceDone S R). d.end) devices ≡ ends
+    → list_all is_end ends ≡ true → AllEnded devices
+all_ended_by {S} {R} devices ends are all =
+    sym (list_all-map is_end (λ (d : DeviceDone S R). d.end) devices) ∙ ap (list_all is_end) are ∙ all
+
+first_false : (a b : Bool) → (a || b) ≡ false → a ≡ false
+first_false true b e = absurd cc
+first_false false b e = refl
+
+pub not_lacked : (no_memory other lacks : Bool) → lacks ≡ (no_memory || other) → lacks ≡ false → no_memory ≡ false
+not_lacked no_memory other lacks is e = first_false no_memory other (sym is ∙ e)
+
+served_still : (tries : ℕ) (no_memory lacks : Bool) (units : List UnitView) (monitors : List MonitorDone) → (lacks ≡ false → no_memory ≡ false)
+    → AllZip (MonitorServed tries no_memory) units monitors → AllZip (MonitorServed tries lacks) units monitors
+served_still tries no_memory lacks [] [] so served = tt
+served_still tries no_memory lacks [] (m ∷ monitors) so served = absurd served
+served_still tries no_memory lacks (u ∷ units) [] so served = absurd served
+served_still tries no_memory lacks (u ∷ units) (m ∷ monitors) so served = (
+  record {
+    segment = served.0.segment;
+    published = served.0.published;
+    climbs = served.0.climbs;
+    all = λ (e : lacks ≡ false). served.0.all (so e);
+    loads = λ (e : lacks ≡ false). served.0.loads (so e);
+  },
+  served_still tries no_memory lacks units monitors so served.1,
+)
+
+-- the headline, of the parts as they are handed back
+pub at_end_of : {S K R : Type 0} (terms : Terms) (tries : ℕ) (may : Option (List Moment)) (sources : SourceFacts S) (sinks : SinkFacts K) (no_memory lacks done : Bool)
+    (b b' b'' : BookView) (inlets : List Lanes) (inputs : List (Taking Piece)) (ends : List (Option DeviceEnd)) (devices : List (DeviceDone S R))
+    (sessions : List (SessionDone S K R)) (monitors : List MonitorDone)
+    → terms_of b inlets terms.wait ≡ terms
+    → DaemonHub (record { book = b; inlets = inlets; ends = ends; inputs = inputs; done = done; wait = terms.wait })
+    → AllZip (DeviceServed may sources) inlets devices → map (λ (d : DeviceDone S R). d.end) devices ≡ ends
+    → b' ≡ b → AllServed sources sinks b.sessions inputs sessions
+    → b'' ≡ b' → AllZip (MonitorServed tries no_memory) (watched_units tries b'.units) monitors → (lacks ≡ false → no_memory ≡ false)
+    → AtEnd (told_of terms tries) may sources sinks lacks b'' devices sessions monitors
+at_end_of {S} {K} {R} terms tries may sources sinks no_memory lacks done b b' b'' inlets inputs ends devices sessions monitors same hub served ends_are is sessions_are is' monitors_are so =
+    subst (λ x. AtEnd (told_of terms tries) may sources sinks lacks x devices sessions monitors) (sym (is' ∙ is)) (
+    record {
+      names = ap (λ (t : Terms). t.names) same;
+      limit = ap (λ (t : Terms). t.limit) same;
+      inlets = inlets;
+      inputs = inputs;
+      done = done;
+      hub = subst (λ (e : List (Option DeviceEnd)). DaemonHub (record { book = b; inlets = inlets; ends = e; inputs = inputs; done = done; wait = terms.wait })) (sym ends_are) hub;
+      devices_are = served;
+      inputs_are = sessions_are.inputs_are;
+      outlets_are = sessions_are.outlets_are;
+      numbers = sessions_are.numbers;
+      monitors_are = served_still tries no_memory lacks (watched_units tries b.units) monitors so
+          (subst (λ (x : BookView). AllZip (MonitorServed tries no_memory) (watched_units tries x.units) monitors) is monitors_are);
+    }
+    )
+
+-- the devices' readers ran on the lanes that the hub was told of
+pub devices_ran_on : {S R : Type 0} (may : Option (List Moment)) (facts : SourceFacts S) (terms : Terms) (b : BookView) (w : ℕ) (starts starts' : List (DeviceStart S R))
+    (first : List Lanes) (runs : List (DeviceRun S R))
+    → terms ≡ terms_of b first w → AllZip (IsFreshDevice facts) starts first → starts' ≡ starts → AllZip (RanOn may facts) starts' runs
+    → DevicesRan may facts terms.lanes runs
+devices_ran_on may facts terms b w starts starts' first runs are fresh same ran = record {
+  starts = starts;
+  first = first;
+  fresh = fresh;
+  lanes_are = ap (λ (t : Terms). t.lanes) (sym are);
+  ran = subst (λ s. AllZip (RanOn may facts) s runs) same ran;
+}
+
+-- the monitors read the segments that the hub was told of
+pub watchers_ran_on : (tries : ℕ) (terms : Terms) (b : BookView) (first : List Lanes) (w : ℕ) (watchers watchers' : List Watcher) (watched : List WatchDone)
+    → terms ≡ terms_of b first w → segments_of watchers ≡ monitored tries (map segment_of b.units) → watchers' ≡ watchers → AllZip (WatchedBy tries) watchers' watched
+    → WatchersRan tries terms.segments watched
+watchers_ran_on tries terms b first w watchers watchers' watched are segments same by = record {
+  watchers = watchers;
+  segments_are = segments ∙ ap (λ (t : Terms). monitored tries t.segments) (sym are);
+  by = subst (λ l. AllZip (WatchedBy tries) l watched) same by;
+}
+
+segments_of_units : (units : List UnitView) → length (map segment_of units) ≡ length units
+segments_of_units [] = refl
+segments_of_units (u ∷ units) = ap suc (segments_of_units units)
+
+pub segments_count : (terms : Terms) (b : BookView) (first : List Lanes) (w : ℕ) → terms ≡ terms_of b first w → length terms.segments ≡ length b.units
+segments_count terms b first w are = ap (λ (t : Terms). length t.segments) are ∙ segments_of_units b.units

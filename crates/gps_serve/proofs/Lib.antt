@@ -1,0 +1,10 @@
+pub mod Asked
+pub mod Causes
+pub mod Seating
+pub mod Starting
+pub mod Zips
+pub mod Devices
+pub mod Sessions
+pub mod Monitors
+pub mod Ends
+pub mod Dials

@@ -1,0 +1,65 @@
+-- What is so before anything came.
+use Rattle.std.proofs.Common.{◌≡◌, ℕ, ◌<◌, ◌≤◌, ◌*◌, zero, suc, List, [], ◌∷◌, length, take, get_or, slice_index_or, Option, Some, None, refl, sym, ◌∙◌, ap, subst, arith}
+use Rattle.std.proofs.lemmas.List.{length-take}
+use Rattle.std.specs.List.{All, AllZip}
+use Rattle.gps_lane.specs.Ends.{Taking}
+use Rattle.serve_pieces.specs.declared.piece.Piece.{Piece}
+use Rattle.book_units.specs.Units.{IsNew}
+use Rattle.report_book.specs.BookView.{BookView}
+use Rattle.report_book.specs.Moves.{IsNewBook}
+use Rattle.hub_laws.specs.Given.{got_of}
+use Rattle.hub_laws.specs.Keeping.{IsUnused, NothingGot}
+use Rattle.hub_laws.specs.Parts.{Lanes}
+use Rattle.hub_laws.proofs.Beginning.{unused as unused_new}
+use Rattle.gps_outside.specs.Told.{Stream}
+use Rattle.std.specs.Option.{option_to_list}
+use Rattle.serve_opening.specs.Opening.{AreUnread, sources_in}
+use Rattle.serve_settling.specs.Runs.{SourceFacts}
+use Rattle.gps_serve.specs.declared.lanes.DeviceStart.{DeviceStart}
+use Rattle.gps_serve.specs.declared.lanes.EdgeStart.{EdgeStart}
+use Rattle.gps_serve.specs.Starts.{IsFreshDevice, IsFreshEdge}
+
+pub unused : {names : List (List ℕ)} {limit : ℕ} {firsts : List ℕ} {b : BookView} → IsNewBook names limit firsts b → IsUnused b
+unused {names} {limit} {firsts} {b} new = unused_new names limit firsts b new
+
+no_edge : {S R : Type 0} (facts : SourceFacts S) (start : Option (EdgeStart S R)) (rx : Option (Taking Piece)) → IsFreshEdge facts start rx → got_of rx ≡ []
+no_edge facts None None fresh = refl
+no_edge facts None (Some rx) fresh = absurd fresh
+no_edge facts (Some start) None fresh = absurd fresh
+no_edge facts (Some start) (Some rx) fresh = fresh.0.got
+
+nothing : {S R : Type 0} (facts : SourceFacts S) (start : DeviceStart S R) (x : Lanes) → IsFreshDevice facts start x → NothingGot x
+nothing facts start x fresh = (fresh.bytes.got, no_edge facts start.edges x.edges fresh.edges)
+
+nothing_at : {S R : Type 0} (facts : SourceFacts S) (starts : List (DeviceStart S R)) (inlets : List Lanes) (k : ℕ) (d : Lanes) → AllZip (IsFreshDevice facts) starts inlets → k < length inlets
+    → NothingGot (slice_index_or inlets k d)
+nothing_at facts starts [] k d fresh there = absurd (omega arith)
+nothing_at facts [] (x ∷ inlets) k d fresh there = absurd fresh
+nothing_at facts (start ∷ starts) (x ∷ inlets) zero d fresh there = nothing facts start x fresh.0
+nothing_at facts (start ∷ starts) (x ∷ inlets) (suc k) d fresh there = nothing_at facts starts inlets k d fresh.1 (omega arith)
+
+pub nothing_got : {S R : Type 0} (facts : SourceFacts S) (starts : List (DeviceStart S R)) (inlets : List Lanes) → AllZip (IsFreshDevice facts) starts inlets → All NothingGot inlets
+nothing_got {S} {R} facts starts inlets fresh k d there = nothing_at facts starts inlets k d fresh there
+
+zip_length : {A B : Type 0} (P : A → B → Type 0) (xs : List A) (ys : List B) → AllZip P xs ys → length ys ≡ length xs
+zip_length P [] [] zip = refl
+zip_length P [] (y ∷ ys) zip = absurd zip
+zip_length P (x ∷ xs) [] zip = absurd zip
+zip_length P (x ∷ xs) (y ∷ ys) zip = ap suc (zip_length P xs ys zip.1)
+
+-- a book of at most eight devices has two units for each
+pub two_each : {names : List (List ℕ)} {limit : ℕ} {firsts : List ℕ} {b : BookView} → IsNewBook names limit firsts b → length names ≤ 8 → length firsts ≡ 16
+    → length b.units ≡ 2 * length names
+two_each {names} {limit} {firsts} {b} new few sixteen =
+    zip_length IsNew (take (2 * length names) firsts) b.units new.units ∙ omega (arith, length-take (2 * length names) firsts)
+
+-- the sources of edges, one device after another
+pub next_unread : {S : Type 0} (content : S → Option Stream) (faults quiets : S → ℕ) (source : Option S) (sources : List (Option S))
+    → AreUnread content faults quiets (sources_in (source ∷ sources)) → AreUnread content faults quiets (option_to_list source)
+next_unread content faults quiets None sources are = tt
+next_unread content faults quiets (Some source) sources are = (are.0, tt)
+
+pub rest_unread : {S : Type 0} (content : S → Option Stream) (faults quiets : S → ℕ) (source : Option S) (sources : List (Option S))
+    → AreUnread content faults quiets (sources_in (source ∷ sources)) → AreUnread content faults quiets (sources_in sources)
+rest_unread content faults quiets None sources are = are
+rest_unread content faults quiets (Some source) sources are = are.1

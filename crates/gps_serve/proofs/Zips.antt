@@ -1,0 +1,63 @@
+-- Two lists side by side, each of which grows by one.
+use Rattle.std.proofs.Common.{◌≡◌, ℕ, List, Option, [], ◌∷◌, ◌++◌, refl, sym, ◌∙◌, subst, append_assoc, length, arith}
+use Rattle.std.proofs.lemmas.List.{append-nil}
+use Rattle.std.specs.List.{AllZip}
+use Rattle.gps_fixed.specs.Moment.{Moment}
+use Rattle.serve_threads.specs.declared.monitors.WatchDone.{WatchDone}
+use Rattle.serve_threads.specs.declared.monitors.Watcher.{Watcher}
+use Rattle.serve_threads.specs.declared.monitors.Watching.{Watching}
+use Rattle.gps_serve.specs.declared.lanes.DeviceStart.{DeviceStart}
+use Rattle.serve_settling.specs.declared.device.DeviceRun.{DeviceRun}
+use Rattle.serve_settling.specs.Runs.{SourceFacts}
+use Rattle.gps_serve.specs.declared.readers.DeviceWork.{DeviceWork}
+use Rattle.gps_serve.specs.Doors.{RanSoFar}
+use Rattle.gps_serve.specs.Runs.{RanOn}
+use Rattle.gps_serve.specs.Works.{JoinsDevice, JoinsWatcher, ReadersAre, WatchedBy, WatchesFor}
+
+pub zip_more : {A B : Type 0} (R : A → B → Type 0) (xs : List A) (ys : List B) (x : A) (y : B) → AllZip R xs ys → R x y → AllZip R (xs ++ x ∷ []) (ys ++ y ∷ [])
+zip_more R [] [] x y zip r = (r, tt)
+zip_more R [] (b ∷ ys) x y zip r = absurd zip
+zip_more R (a ∷ xs) [] x y zip r = absurd zip
+zip_more R (a ∷ xs) (b ∷ ys) x y zip r = (zip.0, zip_more R xs ys x y zip.1 r)
+
+pub ran_none : {L Run : Type 0} (Runs : L → Run → Type 0) (links : List L) → RanSoFar Runs links links []
+ran_none Runs links = record { done = []; split = refl; ran = tt }
+
+pub ran_more : {L Run : Type 0} (Runs : L → Run → Type 0) (links left : List L) (link : L) (runs : List Run) (run : Run)
+    → RanSoFar Runs links (link ∷ left) runs → Runs link run → RanSoFar Runs links left (runs ++ run ∷ [])
+ran_more Runs links left link runs run so r = record {
+  done = so.done ++ link ∷ [];
+  split = so.split ∙ sym (append_assoc so.done (link ∷ []) left);
+  ran = zip_more Runs so.done runs link run so.ran r;
+}
+
+pub ran_all : {L Run : Type 0} (Runs : L → Run → Type 0) (links : List L) (runs : List Run) → RanSoFar Runs links [] runs → AllZip Runs links runs
+ran_all Runs links runs so = subst (λ l. AllZip Runs l runs) (sym (so.split ∙ append-nil so.done)) so.ran
+
+pub ran_end : {L Run : Type 0} (Runs : L → Run → Type 0) (links left : List L) (runs : List Run) → RanSoFar Runs links left runs → length left ≡ 0
+    → AllZip Runs links runs
+ran_end Runs links [] runs so none = ran_all Runs links runs so
+ran_end Runs links (link ∷ left) runs so none = absurd (omega (arith, none))
+
+-- what was started on the first of these and what came of that
+through : {A B C : Type 0} (P : A → B → Type 0) (Q : A → C → Type 0) (xs : List A) (ys : List B) (zs : List C)
+    → AllZip P xs ys → AllZip (λ y z. (x : A) → P x y → Q x z) ys zs → AllZip Q xs zs
+through P Q [] [] [] p q = tt
+through P Q [] [] (z ∷ zs) p q = absurd q
+through P Q [] (y ∷ ys) zs p q = absurd p
+through P Q (x ∷ xs) [] zs p q = absurd p
+through P Q (x ∷ xs) (y ∷ ys) [] p q = absurd q
+through P Q (x ∷ xs) (y ∷ ys) (z ∷ zs) p q = (q.0 x p.0, through P Q xs ys zs p.1 q.1)
+
+pub devices_ran : {S R D : Type 0} (may : Option (List Moment)) (facts : SourceFacts S) (starts : List (DeviceStart S R)) (works : List (DeviceWork S D R)) (runs : List (DeviceRun S R))
+    → AllZip ReadersAre starts works → AllZip (JoinsDevice may facts) works runs → AllZip (RanOn may facts) starts runs
+devices_ran may facts starts works runs are joined = through ReadersAre (RanOn may facts) starts works runs are joined
+
+pub watchers_ran : (tries : ℕ) (watchers : List Watcher) (works : List Watching) (done : List WatchDone)
+    → AllZip (WatchesFor tries) watchers works → AllZip JoinsWatcher works done → AllZip (WatchedBy tries) watchers done
+watchers_ran tries [] [] [] are joined = tt
+watchers_ran tries [] [] (d ∷ done) are joined = absurd joined
+watchers_ran tries [] (w ∷ works) done are joined = absurd are
+watchers_ran tries (x ∷ watchers) [] done are joined = absurd are
+watchers_ran tries (x ∷ watchers) (w ∷ works) [] are joined = absurd joined
+watchers_ran tries (x ∷ watchers) (w ∷ works) (d ∷ done) are joined = (joined.0 tries x are.0, watchers_ran tries watchers works done are.1 joined.1)

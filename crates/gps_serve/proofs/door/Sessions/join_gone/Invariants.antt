@@ -1,0 +1,10 @@
+use Rattle.std.proofs.Common.{◌≡◌}
+use Rattle.std.specs.Vec.{vec_len}
+use Rattle.gps_serve.specs.Doors.{links_at}
+use Rattle.gps_serve.proofs.door.Sessions.join_gone.Given as goal
+
+abbrev pub invariant-live : goal.invariant-live
+invariant-live g l = record {
+  links : links_at l.self.seated.items ≡ links_at l.initial.self.seated.items;
+  count : vec_len l.self.seated ≡ vec_len l.initial.self.seated;
+}

@@ -1,0 +1,5 @@
+use Rattle.hub_laws.proofs.Beginning.{unused}
+use Rattle.gps_serve.proofs.ground.new_book.Goals as goal
+
+pub returns-clause-unused : goal.returns-clause-unused
+returns-clause-unused g c = unused _ _ _ _ c.in_ok-book.ensures.new

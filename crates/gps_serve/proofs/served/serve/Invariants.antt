@@ -1,0 +1,15 @@
+use Rattle.hub_laws.specs.Parts.{terms_of}
+use Rattle.serve_opening.specs.Opening.{dial_of}
+use Rattle.gps_serve.proofs.served.serve.Given as goal
+
+abbrev pub ghosts-run-J-Ledger : goal.ghosts-run-J-Ledger
+ghosts-run-J-Ledger g a = record { name = a.ground.doors.ledger; parts = a.ground.doors.parts }
+
+abbrev pub ghosts-run-J-DoorNaming : goal.ghosts-run-J-DoorNaming
+ghosts-run-J-DoorNaming g a = record { table = a.ground.doors.table; whole = a.ground.doors.parts }
+
+abbrev pub ghosts-run-J-HubNaming : goal.ghosts-run-J-HubNaming
+ghosts-run-J-HubNaming g a = record { terms = terms_of a.ground.book a.ground.lanes.inlets.items a.numbers.wait }
+
+abbrev pub ghosts-run-D-Dials : goal.ghosts-run-D-Dials
+ghosts-run-D-Dials g a = record { may = dial_of (g.W.Now.Clock.stamps a.clock) }

@@ -1,0 +1,15 @@
+use Rattle.std.proofs.Common.{◌≡◌, ◌≤◌, ◌+◌, length}
+use Rattle.std.specs.Vec.{vec_len, vec_capacity}
+use Rattle.std.specs.Vec.Iter.{into_iter_items}
+use Rattle.gps_serve.specs.AtEnd.{watched_units}
+use Rattle.gps_serve.specs.Readies.{MonitorsSoFar}
+use Rattle.gps_serve.proofs.settling.monitors_done.Given as goal
+
+abbrev pub invariant-units : goal.invariant-units
+invariant-units g l = record {
+  so_far : MonitorsSoFar l.fn.tries l.fn.no_memory (watched_units l.fn.tries l.book.units) (into_iter_items l.watched) l.unit l.done.items;
+  book : l.book ≡ l.initial.book;
+  all : l.count ≡ length (watched_units l.fn.tries l.book.units);
+  count : vec_len l.done + length (into_iter_items l.watched) ≡ vec_len l.fn.watched;
+  room : vec_len l.fn.watched ≤ vec_capacity l.done;
+}

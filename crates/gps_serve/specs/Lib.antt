@@ -1,0 +1,7 @@
+pub mod AtEnd
+pub mod Doors
+pub mod Readies
+pub mod Runs
+pub mod Starts
+pub mod Statuses
+pub mod Works

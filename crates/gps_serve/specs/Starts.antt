@@ -1,0 +1,37 @@
+-- The devices' sources and lanes before anything went through them. This project's own.
+use Rattle.std.specs.Prelude.{◌≡◌, [], Option, Some, None, option_map}
+use Rattle.gps_lane.specs.Ends.{Putting, Taking}
+use Rattle.gps_outside.specs.Links.{IsUnread}
+use Rattle.serve_pieces.specs.declared.piece.Piece.{Piece}
+use Rattle.hub_laws.specs.Parts.{Lanes}
+use Rattle.serve_settling.specs.Runs.{ReaderStart, ReaderStarts, SourceFacts}
+use Rattle.gps_serve.specs.declared.lanes.DeviceStart.{DeviceStart}
+use Rattle.gps_serve.specs.declared.lanes.EdgeStart.{EdgeStart}
+
+-- nothing was taken from the source, where it tells that, and it counted nothing
+abbrev pub IsUnreadBy : {S : Type 0} → SourceFacts S → S → Type 0
+IsUnreadBy facts source = IsUnread (facts.content source) (facts.faults source) (facts.quiets source)
+
+-- both ends are of one lane, through which nothing went
+pub record IsFreshLane (tx : Putting Piece) (rx : Taking Piece) : Type 0 where
+  pub one : rx.lane ≡ tx.lane
+  pub put : tx.put ≡ []
+  pub got : rx.got ≡ []
+
+abbrev pub IsFreshEdge : {S R : Type 0} → SourceFacts S → Option (EdgeStart S R) → Option (Taking Piece) → Type 0
+IsFreshEdge facts None None = Unit {0}
+IsFreshEdge facts None (Some rx) = ⊥
+IsFreshEdge facts (Some start) None = ⊥
+IsFreshEdge facts (Some start) (Some rx) = IsFreshLane start.lines rx × IsUnreadBy facts start.source
+
+pub record IsFreshDevice {S R : Type 0} (facts : SourceFacts S) (start : DeviceStart S R) (inlets : Lanes) : Type 0 where
+  pub bytes : IsFreshLane start.bytes inlets.bytes
+  pub unread : IsUnreadBy facts start.source
+  pub edges : IsFreshEdge facts start.edges inlets.edges
+
+-- what the readers of a device begin with
+abbrev pub edge_start_of : {S R : Type 0} → EdgeStart S R → ReaderStart S
+edge_start_of start = record { source = start.source; pieces = start.lines }
+
+abbrev pub starts_of : {S R : Type 0} → DeviceStart S R → ReaderStarts S
+starts_of start = record { bytes = record { source = start.source; pieces = start.bytes }; edges = option_map edge_start_of start.edges }

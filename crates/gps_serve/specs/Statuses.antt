@@ -1,0 +1,19 @@
+-- When want of memory was met. This project's own.
+use Rattle.std.specs.Prelude.{◌≡◌, Bool, true, not, ◌&&◌, ◌||◌, List}
+use Rattle.std.specs.List.{list_all}
+use Rattle.hub_laws.specs.Given.{is_end}
+use Rattle.serve_parts.specs.declared.done.DeviceDone.{DeviceDone}
+use Rattle.serve_threads.specs.declared.monitors.WatchDone.{WatchDone}
+use Rattle.gps_serve.specs.declared.status.Outcome.{Outcome}
+
+-- it was seen; or a device was lost, and no source failed
+abbrev pub lacks_memory : Outcome → Bool
+lacks_memory o = o.no_memory || (not o.read_fault && not o.ended)
+
+-- each monitor made all its readings
+abbrev pub EachWhole : List WatchDone → Type 0
+EachWhole watched = list_all (λ (watch : WatchDone). watch.whole) watched ≡ true
+
+-- each device has ended
+abbrev pub AllEnded : {S R : Type 0} → List (DeviceDone S R) → Type 0
+AllEnded {S} {R} devices = list_all (λ (d : DeviceDone S R). is_end d.end) devices ≡ true

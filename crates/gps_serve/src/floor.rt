@@ -1,0 +1,188 @@
+ghost use Rattle.std.specs.Prelude.{◌≡◌, ◌<◌, [], length, IfOk, IfSome, OnOk, OnErr, true};
+ghost use Rattle.std.specs.List.{All};
+ghost use Rattle.gps_serve.specs.declared.floor.Burst.TheVariants.{Over};
+ghost use Rattle.hub_laws.specs.Keeping.{IsClosed};
+ghost use Rattle.hub_door.specs.Admissions.{admitting, finished, link_of};
+
+use gps_hub::{DoorSeat, Hub, HubNaming, Look, Pumped};
+use gps_lane::{Rx, Tx};
+use report_book::{BookFault, UnitStep};
+use serve_pieces::Piece;
+use serve_threads::SessionBells;
+use session_core::Item;
+use std::sync::{Arc, Wait};
+
+/// How many pieces of a device one burst takes at most.
+const PIECES: u32 = 32;
+
+/// More sessions than may have news at once.
+const LOOKS: u32 = 200_000;
+
+/// The steps of 512 samples, which is more than one burst brings to a unit.
+const STEPS: u16 = 6_656;
+
+/// What a burst did.
+#[derive(Clone, Copy, Debug, PartialEq, Eq)]
+pub(crate) enum Burst {
+    /// Pieces were taken.
+    Fed,
+    /// There was nothing to take.
+    Idle,
+    /// All devices have stopped, and the book is shut.
+    Over,
+}
+
+/// What stands behind the lock: the hub, how many devices and units it has, and the bells of each session.
+#[derive(Drop)]
+pub(crate) struct Floor<J: HubNaming, R: Wait + Copy> {
+    pub(crate) hub: Hub<J, R>,
+    pub(crate) devices: u8,
+    pub(crate) units: u8,
+    pub(crate) sessions: Vec<Arc<SessionBells>>,
+    pub(crate) ghost devices_are: { devices ≡ length J.terms.names },
+    pub(crate) ghost units_are: { units ≡ length J.terms.segments },
+}
+
+impl<J: HubNaming, R: Wait + Copy> Floor<J, R> {
+    /// Whether a piece of this device was taken.
+    fn feed(&mut self, device: u8) -> bool {
+        if device >= self.devices {
+            return false;
+        }
+        match self.hub.device_piece(device) {
+            Pumped::Fed | Pumped::Refused(_) => true,
+            Pumped::Empty | Pumped::Waiting { watched: _ } | Pumped::Done => false,
+        }
+    }
+
+    fn feed_each(&mut self) -> bool {
+        let mut fed = false;
+        for device in 0..self.devices {
+            if self.feed(device) {
+                fed = true;
+            }
+        }
+        fed
+    }
+
+    fn feed_all(&mut self) -> bool {
+        let mut fed = false;
+        for _ in 0..PIECES {
+            if !self.feed_each() {
+                break;
+            }
+            fed = true;
+        }
+        fed
+    }
+
+    /// Takes a piece of a session's input, and rings its threads where there is something for them.
+    fn attend(&mut self, look: Look) -> bool
+        requires { look.session < length self.old.hub.inputs }
+    {
+        let fed = match self.hub.session_piece(look.session) {
+            Pumped::Fed | Pumped::Refused(_) => true,
+            Pumped::Empty | Pumped::Waiting { watched: _ } | Pumped::Done => false,
+        };
+        if let Some(bells) = self.sessions.get(look.session as usize) {
+            if fed {
+                bells.reader.ring();
+            }
+            if look.closed {
+                bells.close();
+            } else if look.fresh {
+                bells.writer.ring();
+            }
+        }
+        fed
+    }
+
+    fn attend_all(&mut self) -> bool {
+        let mut fed = false;
+        let mut k = 0usize;
+        for _ in 0..LOOKS {
+            let Some(look) = self.hub.look(k) else {
+                break;
+            };
+            if self.attend(look) {
+                fed = true;
+            }
+            if !look.closed {
+                k = k.saturating_add(1);
+            }
+        }
+        fed
+    }
+
+    fn close_sessions(&self) {
+        for bells in self.sessions.as_slice() {
+            bells.close();
+        }
+    }
+
+    /// Takes what waits in the lanes of devices and sessions. Where all devices have stopped, the book is shut, and the sessions are told.
+    pub(crate) fn burst(&mut self) -> Burst
+        ensures closed { result ≡ Over → All IsClosed self.new.hub.book.sessions }
+    {
+        let fed = self.feed_all();
+        let heard = self.attend_all();
+        if self.hub.shut() {
+            self.close_sessions();
+            Burst::Over
+        } else if fed || heard {
+            Burst::Fed
+        } else {
+            Burst::Idle
+        }
+    }
+
+    fn store(&mut self, unit: u8) -> bool {
+        if unit >= self.units {
+            return false;
+        }
+        match self.hub.publish(unit) {
+            UnitStep::Stored { word: _, value: _ } => true,
+            UnitStep::Empty | UnitStep::Spent => false,
+        }
+    }
+
+    /// Stores the samples of each unit that wait, so many at most.
+    pub(crate) fn publish(&mut self) -> bool {
+        let mut stored = false;
+        for unit in 0..self.units {
+            for _ in 0..STEPS {
+                if !self.store(unit) {
+                    break;
+                }
+                stored = true;
+            }
+        }
+        stored
+    }
+
+    /// Admits a session, whose bells these are.
+    pub(crate) fn admit(
+        &mut self,
+        door: &mut DoorSeat<J>,
+        outlet: Tx<Item, R>,
+        input: Rx<Piece, R>,
+        bells: Arc<SessionBells>,
+    ) -> Result<u32, BookFault>
+        requires outlet { outlet.put ≡ [] }
+        requires input { input.got ≡ [] }
+        ensures number { IfOk result (λ s. s ≡ length door.old.links) }
+        ensures door { OnOk result (door.new ≡ admitting (link_of outlet.lane outlet.cap input.lane) door.old) }
+        ensures unchanged { OnErr result (door.new ≡ door.old) }
+    {
+        if self.sessions.push(bells).is_err() {
+            return Err(BookFault::NoMemory);
+        }
+        match self.hub.admit_link(door, outlet, input) {
+            Ok(session) => Ok(session),
+            Err((_, _, fault)) => {
+                self.sessions.pop();
+                Err(fault)
+            }
+        }
+    }
+}

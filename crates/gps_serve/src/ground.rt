@@ -1,0 +1,108 @@
+ghost use Rattle.std.specs.Prelude.{◌≡◌, ◌≤◌, ◌*◌, length, map, IfOk};
+ghost use Rattle.std.specs.List.{All, AllZip};
+ghost use Rattle.book_units.specs.Units.{segment_of};
+ghost use Rattle.serve_threads.specs.Segments.{segments_of};
+ghost use Rattle.gps_serve.specs.Works.{monitored};
+ghost use Rattle.hub_laws.specs.Keeping.{IsUnused, NothingGot};
+ghost use Rattle.serve_opening.specs.Opening.{AreUnread, sources_in};
+ghost use Rattle.serve_settling.specs.Runs.{source_facts};
+ghost use Rattle.gps_serve.specs.Starts.{IsFreshDevice};
+
+use crate::lanes::{Lanes, lay};
+use gps_fixed::NoMemory;
+use gps_hub::DoorTable;
+use gps_lane::Tx;
+use gps_outside::Source;
+use gps_report::Names;
+use report_book::Book;
+use serve_threads::{Bells, Watcher, watchers};
+use session_core::Item;
+use std::alloc::Global;
+use std::sync::Wait;
+
+/// What is made before the hub: the book, the lanes of the devices, the table of the door, the monitors, and the bells.
+#[derive(Drop)]
+pub(crate) struct Ground<S: Source, R: Wait + Copy> {
+    pub(crate) book: Book<Tx<Item, R>>,
+    pub(crate) lanes: Lanes<S, R>,
+    pub(crate) doors: DoorTable,
+    pub(crate) watchers: Vec<Watcher>,
+    pub(crate) bells: Bells,
+}
+
+/// A new book, whose units are numbered from 1 on.
+#[tactic(auto, using(crate::proofs::Starting::unused, crate::proofs::Starting::two_each))]
+fn new_book<R: Wait + Copy>(
+    alloc: Global,
+    names: Names,
+    limit: u32,
+) -> Result<Book<Tx<Item, R>>, NoMemory>
+    requires some { 1 ≤ limit }
+    requires most { limit ≤ 33554432 }
+    ensures unused { IfOk result IsUnused }
+    ensures names { IfOk result (λ book. book.names ≡ names) }
+    ensures limit { IfOk result (λ book. book.log.limit ≡ limit) }
+    ensures units { IfOk result (λ book. length book.units ≡ 2 * length names) }
+    ensures few { length names ≤ 8 }
+{
+    let _few = names.len();
+    let book = Book::new(alloc, names, limit, [0; 16])?;
+    Ok(book)
+}
+
+fn watchers_if<R: Wait + Copy>(
+    alloc: Global,
+    book: &mut Book<Tx<Item, R>>,
+    tries: u32,
+) -> Result<Vec<Watcher>, NoMemory>
+    requires few { length book.old.units ≤ 16 }
+    ensures book { book.new ≡ book.old }
+    ensures segments { IfOk result (λ watchers. segments_of watchers.items ≡ monitored tries (map segment_of book.old.units)) }
+{
+    if tries == 0 {
+        Ok(Vec::new(alloc))
+    } else {
+        watchers(alloc, book)
+    }
+}
+
+/// Makes all that stands before the hub.
+#[tactic(auto, using(crate::proofs::Starting::nothing_got))]
+pub(crate) fn prepare<S: Source, R: Wait + Copy>(
+    rt: R,
+    alloc: Global,
+    names: Names,
+    limit: u32,
+    tries: u32,
+    inputs: Vec<S>,
+    edges: Vec<Option<S>>,
+) -> Result<Ground<S, R>, NoMemory>
+    requires some { 1 ≤ limit }
+    requires most { limit ≤ 33554432 }
+    requires count { length inputs.items ≡ length names }
+    requires inputs { AreUnread S.content S.faults S.quiets inputs.items }
+    requires edges { AreUnread S.content S.faults S.quiets (sources_in edges.items) }
+    ensures unused { IfOk result (λ ground. IsUnused ground.book) }
+    ensures names { IfOk result (λ ground. ground.book.names ≡ names) }
+    ensures limit { IfOk result (λ ground. ground.book.log.limit ≡ limit) }
+    ensures few { length names ≤ 8 }
+    ensures units { IfOk result (λ ground. length ground.book.units ≡ 2 * length ground.book.names) }
+    ensures count { IfOk result (λ ground. length ground.lanes.inlets.items ≡ length ground.book.names) }
+    ensures nothing { IfOk result (λ ground. All NothingGot ground.lanes.inlets.items) }
+    ensures watchers { IfOk result (λ ground. segments_of ground.watchers.items ≡ monitored tries (map segment_of ground.book.units)) }
+    ensures fresh { IfOk result (λ ground. AllZip (IsFreshDevice (source_facts S.content S.faults S.quiets)) ground.lanes.starts.items ground.lanes.inlets.items) }
+{
+    let count = names.len();
+    let mut book = new_book(alloc, names, limit)?;
+    let lanes = lay(rt, alloc, inputs, edges)?;
+    let doors = DoorTable::new(alloc)?;
+    let watchers = watchers_if(alloc, &mut book, tries)?;
+    let bells = Bells::new(alloc, count)?;
+    Ok(Ground {
+        book,
+        lanes,
+        doors,
+        watchers,
+        bells,
+    })
+}

@@ -1,0 +1,140 @@
+ghost use Rattle.std.specs.Prelude.{◌≡◌, ◌≤◌, [], length, IfOk};
+ghost use Rattle.std.specs.List.{AllZip};
+ghost use Rattle.std.specs.Option.{option_to_list};
+ghost use Rattle.std.specs.Vec.Iter.{into_iter_items};
+ghost use Rattle.serve_opening.specs.Opening.{AreUnread, sources_in};
+ghost use Rattle.serve_settling.specs.Runs.{source_facts};
+ghost use Rattle.gps_serve.specs.Starts.{IsFreshDevice, IsFreshEdge, IsUnreadBy};
+
+use crate::door::PIECES;
+use gps_fixed::NoMemory;
+use gps_hub::Inlets;
+use gps_lane::{Rx, Tx, lane};
+use gps_outside::Source;
+use serve_pieces::Piece;
+use std::alloc::Global;
+use std::sync::Wait;
+use std::vec::IntoIter;
+
+/// What the reader of a device's edges begins with.
+#[derive(Drop)]
+pub(crate) struct EdgeStart<S: Source, R> {
+    pub(crate) source: S,
+    pub(crate) lines: Tx<Piece, R>,
+}
+
+/// What the readers of a device begin with.
+#[derive(Drop)]
+pub(crate) struct DeviceStart<S: Source, R> {
+    pub(crate) source: S,
+    pub(crate) bytes: Tx<Piece, R>,
+    pub(crate) edges: Option<EdgeStart<S, R>>,
+}
+
+/// A device's lanes: the ends that put, with their sources, and the ends that get.
+#[derive(Drop)]
+struct Laid<S: Source, R> {
+    start: DeviceStart<S, R>,
+    inlets: Inlets<R>,
+}
+
+/// The same of its edges, where it has a source of them.
+#[derive(Drop)]
+struct LaidEdges<S: Source, R> {
+    start: Option<EdgeStart<S, R>>,
+    inlet: Option<Rx<Piece, R>>,
+}
+
+/// The lanes of all devices.
+#[derive(Drop)]
+pub(crate) struct Lanes<S: Source, R> {
+    pub(crate) starts: Vec<DeviceStart<S, R>>,
+    pub(crate) inlets: Vec<Inlets<R>>,
+}
+
+fn lay_edges<S: Source, R: Wait + Copy>(
+    rt: R,
+    alloc: Global,
+    source: Option<S>,
+) -> Result<LaidEdges<S, R>, NoMemory>
+    requires { AreUnread S.content S.faults S.quiets (option_to_list source) }
+    ensures { IfOk result (λ laid. IsFreshEdge (source_facts S.content S.faults S.quiets) laid.start laid.inlet) }
+{
+    match source {
+        Some(source) => match lane(rt, alloc, PIECES) {
+            Ok((lines, inlet)) => Ok(LaidEdges {
+                start: Some(EdgeStart { source, lines }),
+                inlet: Some(inlet),
+            }),
+            Err(_) => Err(NoMemory),
+        },
+        None => Ok(LaidEdges {
+            start: None,
+            inlet: None,
+        }),
+    }
+}
+
+fn lay_device<S: Source, R: Wait + Copy>(
+    rt: R,
+    alloc: Global,
+    source: S,
+    edges: Option<S>,
+) -> Result<Laid<S, R>, NoMemory>
+    requires source { IsUnreadBy (source_facts S.content S.faults S.quiets) source }
+    requires edges { AreUnread S.content S.faults S.quiets (option_to_list edges) }
+    ensures { IfOk result (λ laid. IsFreshDevice (source_facts S.content S.faults S.quiets) laid.start laid.inlets) }
+{
+    let (bytes, bytes_rx) = lane(rt, alloc, PIECES)?;
+    let LaidEdges { start, inlet } = lay_edges(rt, alloc, edges)?;
+    Ok(Laid {
+        start: DeviceStart {
+            source,
+            bytes,
+            edges: start,
+        },
+        inlets: Inlets {
+            bytes: bytes_rx,
+            edges: inlet,
+        },
+    })
+}
+
+/// The next device's source of edges, where it has one.
+#[tactic(auto, using(crate::proofs::Starting::next_unread, crate::proofs::Starting::rest_unread))]
+fn next_edge<S: Source>(edges: &mut IntoIter<Option<S>>) -> Option<S>
+    requires { AreUnread S.content S.faults S.quiets (sources_in (into_iter_items edges.old)) }
+    ensures next { AreUnread S.content S.faults S.quiets (option_to_list result) }
+    ensures rest { AreUnread S.content S.faults S.quiets (sources_in (into_iter_items edges.new)) }
+{
+    match edges.next() {
+        Some(edge) => edge,
+        None => None,
+    }
+}
+
+/// A lane for each device, and one for its edges where it has a source of them.
+#[tactic(auto, using(crate::proofs::Zips::zip_more))]
+pub(crate) fn lay<S: Source, R: Wait + Copy>(
+    rt: R,
+    alloc: Global,
+    inputs: Vec<S>,
+    edges: Vec<Option<S>>,
+) -> Result<Lanes<S, R>, NoMemory>
+    requires inputs { AreUnread S.content S.faults S.quiets inputs.items }
+    requires edges { AreUnread S.content S.faults S.quiets (sources_in edges.items) }
+    ensures fresh { IfOk result (λ lanes. AllZip (IsFreshDevice (source_facts S.content S.faults S.quiets)) lanes.starts.items lanes.inlets.items) }
+    ensures count { IfOk result (λ lanes. length lanes.inlets.items ≡ length inputs.items) }
+{
+    let count = inputs.len();
+    let mut starts = Vec::with_capacity(alloc, count)?;
+    let mut inlets = Vec::with_capacity(alloc, count)?;
+    let mut edges = edges.into_iter();
+    'devices: for source in inputs {
+        let edge = next_edge(&mut edges);
+        let laid = lay_device(rt, alloc, source, edge)?;
+        starts.push_reserved(laid.start);
+        inlets.push_reserved(laid.inlets);
+    }
+    Ok(Lanes { starts, inlets })
+}

@@ -1,0 +1,20 @@
+//! The running daemon: its threads round one hub. Readers put what their sources give into lanes, the calling thread pumps the lanes into the
+//! hub, a door worker admits sessions, each of which has a reader and a writer, one worker publishes samples, and monitors take them. This
+//! project's own.
+//!
+//! Who has nothing to do waits in a read, in an accept, or on a bell.
+#![tactic(auto)]
+
+mod door;
+mod floor;
+mod ground;
+mod lanes;
+mod pump;
+mod readers;
+mod scope;
+mod served;
+mod settling;
+mod status;
+
+pub use serve_parts::{DeviceDone, DeviceEnd, MonitorDone, Plan, Served, SessionDone, SessionEnd};
+pub use served::serve;

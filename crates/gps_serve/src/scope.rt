@@ -1,0 +1,304 @@
+ghost use Rattle.std.specs.Prelude.{◌≡◌, ◌≤◌, [], length, IfOk};
+ghost use Rattle.std.specs.List.{AllZip};
+ghost use Rattle.std.specs.Vec.{vec_len, vec_capacity};
+ghost use Rattle.serve_threads.specs.Sessions.{SessionRuns};
+ghost use Rattle.gps_serve.specs.Doors.{FailsBy, IsNewLink, Tended};
+ghost use Rattle.serve_settling.specs.Runs.{RunCause, EachRun, source_facts};
+ghost use Rattle.gps_serve.specs.Runs.{RanOn};
+ghost use Rattle.gps_serve.specs.Works.{JoinsDevice, JoinsWatcher, ReadersAre, WatchedBy, WatchesFor};
+
+use crate::door::{DoorBegin, DoorDone, start_door};
+use crate::floor::Floor;
+use crate::lanes::DeviceStart;
+use crate::pump::{publish, pump};
+use crate::readers::{DeviceWork, join_readers, start_readers};
+use gps_fixed::NoMemory;
+use gps_hub::HubNaming;
+use gps_outside::{Clock, Door, Sink, Source};
+use serve_settling::DeviceRun;
+use serve_threads::{Bells, WatchDone, Watcher, Watching, Work, start_watcher};
+use serve_workers::{Dials, SharedClock};
+use std::alloc::Global;
+use std::sync::{Mutex, Wait};
+use std::thread;
+use std::thread::{Scope, Threads};
+
+/// What the threads begin with, and room for what they do and hand back, made before the first of them starts.
+#[derive(Drop)]
+pub(crate) struct Setup<
+    S: Source,
+    K: Sink,
+    G: Door<In = S, Out = K>,
+    D: Dials,
+    J: HubNaming,
+    R: Wait + Copy,
+> {
+    starts: Vec<DeviceStart<S, R>>,
+    watchers: Vec<Watcher>,
+    door: DoorBegin<S, K, G, J, R>,
+    works: Vec<DeviceWork<S, D, R>>,
+    runs: Vec<DeviceRun<S, R>>,
+    watching: Vec<Work<WatchDone, Watching>>,
+    watched: Vec<WatchDone>,
+    ghost works_none: { works.items ≡ [] },
+    ghost runs_none: { runs.items ≡ [] },
+    ghost watching_none: { watching.items ≡ [] },
+    ghost watched_none: { watched.items ≡ [] },
+    ghost works_len: { vec_len works ≡ 0 },
+    ghost runs_len: { vec_len runs ≡ 0 },
+    ghost watching_len: { vec_len watching ≡ 0 },
+    ghost watched_len: { vec_len watched ≡ 0 },
+    ghost works_room: { vec_len starts ≤ vec_capacity works },
+    ghost runs_room: { vec_len starts ≤ vec_capacity runs },
+    ghost watching_room: { vec_len watchers ≤ vec_capacity watching },
+    ghost watched_room: { vec_len watchers ≤ vec_capacity watched },
+}
+
+/// What the threads handed back.
+#[derive(Drop)]
+pub(crate) struct Ended<
+    S: Source,
+    K: Sink,
+    G: Door<In = S, Out = K>,
+    J: HubNaming,
+    R: Wait + Copy,
+> {
+    pub(crate) runs: Vec<DeviceRun<S, R>>,
+    pub(crate) watched: Vec<WatchDone>,
+    pub(crate) door: DoorDone<S, K, G, J, R>,
+}
+
+/// Room for so many.
+pub(crate) fn room<T: Drop>(alloc: Global, count: usize) -> Result<Vec<T>, NoMemory>
+    ensures none { IfOk result (λ room. room.items ≡ []) }
+    ensures len { IfOk result (λ room. vec_len room ≡ 0) }
+    ensures room { IfOk result (λ room. count ≤ vec_capacity room) }
+{
+    match Vec::with_capacity(alloc, count) {
+        Ok(room) => Ok(room),
+        Err(_) => Err(NoMemory),
+    }
+}
+
+/// Makes the room.
+pub(crate) fn set_up<
+    S: Source,
+    K: Sink,
+    G: Door<In = S, Out = K>,
+    D: Dials,
+    J: HubNaming,
+    R: Wait + Copy,
+>(
+    alloc: Global,
+    starts: Vec<DeviceStart<S, R>>,
+    watchers: Vec<Watcher>,
+    door: DoorBegin<S, K, G, J, R>,
+) -> Result<Setup<S, K, G, D, J, R>, NoMemory>
+    ensures starts { IfOk result (λ setup. setup.starts ≡ starts) }
+    ensures watchers { IfOk result (λ setup. setup.watchers ≡ watchers) }
+    ensures door { IfOk result (λ setup. setup.door ≡ door) }
+{
+    let (devices, units) = (starts.len(), watchers.len());
+    let works = room(alloc, devices)?;
+    let runs = room(alloc, devices)?;
+    let watching = room(alloc, units)?;
+    let watched = room(alloc, units)?;
+    Ok(Setup {
+        starts,
+        watchers,
+        door,
+        works,
+        runs,
+        watching,
+        watched,
+    })
+}
+
+/// Starts the monitors.
+#[tactic(auto, using(crate::proofs::Zips::ran_none, crate::proofs::Zips::ran_more, crate::proofs::Zips::ran_all))]
+fn start_watchers<'s, E, R: Threads + Wait + Copy + Send + Sync + 's>(
+    rt: R,
+    alloc: Global,
+    scope: &'s Scope<'s, E>,
+    watchers: Vec<Watcher>,
+    tries: u32,
+    bells: &'s Bells,
+    room: Vec<Work<WatchDone, Watching>>,
+) -> Vec<Work<WatchDone, Watching>>
+    requires none { room.items ≡ [] }
+    requires empty { vec_len room ≡ 0 }
+    requires enough { vec_len watchers ≤ vec_capacity room }
+    ensures started { AllZip (WatchesFor tries) watchers.items result.items }
+    ensures count { vec_len result ≡ vec_len watchers }
+{
+    let mut works = room;
+    'watchers: for watcher in watchers {
+        let own = bells.monitor(works.len());
+        works.push_reserved(start_watcher(rt, alloc, scope, watcher, tries, own));
+    }
+    works
+}
+
+/// Starts the readers of the devices.
+#[tactic(auto, using(crate::proofs::Zips::ran_none, crate::proofs::Zips::ran_more, crate::proofs::Zips::ran_all))]
+fn start_devices<
+    's,
+    E,
+    S: Source + Send + 's,
+    C: Clock + Send + 's,
+    D: Dials + Send + Sync + 's,
+    R: Wait + Copy + Send + Sync + 's,
+>(
+    rt: R,
+    alloc: Global,
+    scope: &'s Scope<'s, E>,
+    starts: Vec<DeviceStart<S, R>>,
+    clock: &'s Mutex<SharedClock<C, D>>,
+    bells: &'s Bells,
+    room: Vec<DeviceWork<S, D, R>>,
+) -> Vec<DeviceWork<S, D, R>>
+    requires none { room.items ≡ [] }
+    requires empty { vec_len room ≡ 0 }
+    requires enough { vec_len starts ≤ vec_capacity room }
+    ensures started { AllZip ReadersAre starts.items result.items }
+    ensures count { vec_len result ≡ vec_len starts }
+{
+    let mut works = room;
+    'starts: for start in starts {
+        let own = bells.device(works.len());
+        works.push_reserved(start_readers(rt, alloc, scope, start, clock, own, &bells.pump));
+    }
+    works
+}
+
+/// Waits for the readers of the devices.
+#[tactic(auto, using(crate::proofs::Zips::ran_none, crate::proofs::Zips::ran_more, crate::proofs::Zips::ran_all, serve_settling::proofs::Causes::each_run_more))]
+fn join_devices<S: Source, D: Dials, R: Wait + Copy, T: Threads>(
+    rt: &T,
+    works: Vec<DeviceWork<S, D, R>>,
+    room: Vec<DeviceRun<S, R>>,
+) -> Vec<DeviceRun<S, R>>
+    requires none { room.items ≡ [] }
+    requires empty { vec_len room ≡ 0 }
+    requires enough { vec_len works ≤ vec_capacity room }
+    ensures joined { AllZip (JoinsDevice D.may (source_facts S.content S.faults S.quiets)) works.items result.items }
+    ensures causes { EachRun (RunCause S.faults) result.items }
+    ensures count { vec_len result ≡ vec_len works }
+{
+    let mut runs = room;
+    'works: for work in works {
+        runs.push_reserved(join_readers(rt, work));
+    }
+    runs
+}
+
+/// Waits for the monitors.
+#[tactic(auto, using(crate::proofs::Zips::ran_none, crate::proofs::Zips::ran_more, crate::proofs::Zips::ran_all))]
+fn join_watchers<T: Threads>(
+    rt: &T,
+    works: Vec<Work<WatchDone, Watching>>,
+    room: Vec<WatchDone>,
+) -> Vec<WatchDone>
+    requires none { room.items ≡ [] }
+    requires empty { vec_len room ≡ 0 }
+    requires enough { vec_len works ≤ vec_capacity room }
+    ensures joined { AllZip JoinsWatcher works.items result.items }
+    ensures count { vec_len result ≡ vec_len works }
+{
+    let mut watched = room;
+    'works: for work in works {
+        watched.push_reserved(work.join(rt));
+    }
+    watched
+}
+
+/// Starts all threads, pumps until all devices have stopped, and joins them.
+#[tactic(auto, using(crate::proofs::Zips::devices_ran, crate::proofs::Zips::watchers_ran))]
+fn work<
+    's,
+    E,
+    S: Source + Send + 's,
+    K: Sink + Send + 's,
+    G: Door<In = S, Out = K> + Send + 's,
+    C: Clock + Send + 's,
+    J: HubNaming + Send + Sync + 's,
+    D: Dials + Send + Sync + 's,
+    R: Threads + Wait + Copy + Send + Sync + 's,
+>(
+    rt: R,
+    alloc: Global,
+    scope: &'s Scope<'s, E>,
+    floor: &'s Mutex<Floor<J, R>>,
+    clock: &'s Mutex<SharedClock<C, D>>,
+    bells: &'s Bells,
+    tries: u32,
+    setup: Setup<S, K, G, D, J, R>,
+) -> Ended<S, K, G, J, R>
+    ensures fails { FailsBy result.door.failed (G.faults setup.door.gate) (G.faults result.door.gate) }
+    ensures tended { Tended (IsNewLink S.content S.faults S.quiets K.written K.faults) (SessionRuns S.content S.faults S.quiets K.written K.faults) setup.door.queue result.door.seat result.door.runs.items }
+    ensures causes { EachRun (RunCause S.faults) result.runs.items }
+    ensures ran { AllZip (RanOn D.may (source_facts S.content S.faults S.quiets)) setup.starts.items result.runs.items }
+    ensures watched { AllZip (WatchedBy tries) setup.watchers.items result.watched.items }
+    ensures runs_count { vec_len result.runs ≡ vec_len setup.starts }
+    ensures watched_count { vec_len result.watched ≡ vec_len setup.watchers }
+{
+    let Setup {
+        starts,
+        watchers,
+        door,
+        works,
+        runs,
+        watching,
+        watched,
+    } = setup;
+    let door = start_door(rt, alloc, scope, floor, bells, door);
+    let publisher = scope.spawn(move || publish(&rt, floor, &bells.publisher));
+    let watching = start_watchers(rt, alloc, scope, watchers, tries, bells, watching);
+    let works = start_devices(rt, alloc, scope, starts, clock, bells, works);
+    pump(&rt, floor, bells);
+    let runs = join_devices(&rt, works, runs);
+    let watched = join_watchers(&rt, watching, watched);
+    if let Ok(publisher) = publisher {
+        publisher.join(&rt);
+    }
+    let door = door.join(&rt);
+    Ended {
+        runs,
+        watched,
+        door,
+    }
+}
+
+/// Runs all threads in a scope.
+pub(crate) fn in_scope<
+    'e,
+    S: Source + Send + 'e,
+    K: Sink + Send + 'e,
+    G: Door<In = S, Out = K> + Send + 'e,
+    C: Clock + Send + 'e,
+    J: HubNaming + Send + Sync + 'e,
+    D: Dials + Send + Sync + 'e,
+    R: Threads + Wait + Copy + Send + Sync + 'e,
+>(
+    rt: R,
+    alloc: Global,
+    floor: &'e Mutex<Floor<J, R>>,
+    clock: &'e Mutex<SharedClock<C, D>>,
+    bells: &'e Bells,
+    tries: u32,
+    setup: Setup<S, K, G, D, J, R>,
+) -> Ended<S, K, G, J, R>
+    ensures fails { FailsBy result.door.failed (G.faults setup.door.gate) (G.faults result.door.gate) }
+    ensures tended { Tended (IsNewLink S.content S.faults S.quiets K.written K.faults) (SessionRuns S.content S.faults S.quiets K.written K.faults) setup.door.queue result.door.seat result.door.runs.items }
+    ensures causes { EachRun (RunCause S.faults) result.runs.items }
+    ensures ran { AllZip (RanOn D.may (source_facts S.content S.faults S.quiets)) setup.starts.items result.runs.items }
+    ensures watched { AllZip (WatchedBy tries) setup.watchers.items result.watched.items }
+    ensures runs_count { vec_len result.runs ≡ vec_len setup.starts }
+    ensures watched_count { vec_len result.watched ≡ vec_len setup.watchers }
+{
+    thread::scope(
+        thread::scope_env(),
+        &rt,
+        move |scope| work(rt, alloc, scope, floor, clock, bells, tries, setup),
+    )
+}

@@ -1,0 +1,359 @@
+ghost use Rattle.std.specs.Prelude.{◌≡◌, ◌≤◌, ◌<◌, ◌+◌, ◌*◌, ◌⊎◌, ◌++◌, [], length, map, None, IsSome, IfSome, IfOk, true, false};
+ghost use Rattle.std.specs.List.{All, AllZip};
+ghost use Rattle.std.specs.Vec.{vec_len, vec_capacity};
+ghost use Rattle.gps_outside.specs.Counts.{Rose};
+ghost use Rattle.book_units.specs.Units.{segment_of};
+ghost use Rattle.hub_laws.specs.Keeping.{IsClosed, IsUnused, NothingGot};
+ghost use Rattle.hub_laws.specs.Parts.{terms_of};
+ghost use Rattle.gps_world.specs.Asking.{asked_nothing};
+ghost use Rattle.serve_opening.specs.Opening.{AsksAll, AsksSome, dial_of, places_in};
+ghost use Rattle.serve_parts.specs.Plans.{IsPlan};
+ghost use Rattle.serve_settling.specs.Failing.{DeviceFailed, SomeFailed, SourceFailed};
+ghost use Rattle.serve_settling.specs.Runs.{RunCause, EachRun, source_facts};
+ghost use Rattle.serve_threads.specs.Segments.{segments_of};
+ghost use Rattle.serve_threads.specs.Sessions.{SessionRuns};
+ghost use Rattle.gps_serve.specs.AtEnd.{AtEnd, sink_facts, told_in, told_of};
+ghost use Rattle.gps_serve.specs.Doors.{IsNewLink, Tended};
+ghost use Rattle.gps_serve.specs.Runs.{DevicesRan};
+ghost use Rattle.gps_serve.specs.Starts.{IsFreshDevice};
+ghost use Rattle.gps_serve.specs.Statuses.{AllEnded};
+ghost use Rattle.gps_serve.specs.Works.{WatchersRan, monitored};
+
+use crate::door::{DoorBegin, DoorDone};
+use crate::floor::{Burst, Floor};
+use crate::ground::{Ground, prepare};
+use crate::lanes::Lanes;
+use crate::scope::{Ended, in_scope, room, set_up};
+use crate::settling::{DevicesDone, devices_done, monitors_done, sessions_done};
+use crate::status::{Outcome, all_ended, lacked};
+use gps_fixed::NoMemory;
+use gps_hub::{DoorSeat, Hub, HubNaming, Parted};
+use gps_outside::{Door, Sink, Source};
+use gps_world::World;
+use serve_opening::{Outside, Stop, open};
+use serve_parts::{DeviceDone, MonitorDone, Plan, Served};
+use serve_workers::{Dials, SharedClock};
+use std::alloc::Global;
+use std::marker::Brand;
+use std::sync::{Mutex, Wait};
+use std::thread::Threads;
+
+/// The numbers of a plan.
+#[derive(Clone, Copy)]
+struct Numbers {
+    queue: u32,
+    limit: u32,
+    wait: u32,
+    tries: u32,
+}
+
+/// What is handed back where nothing was served.
+fn nothing<W: World, R: Wait + Copy>(alloc: Global, world: W, stop: Stop) -> Served<W, R>
+    ensures book { result.book ≡ None }
+    ensures world { result.world ≡ world }
+    ensures range { (result.status ≡ 0) ⊎ (result.status ≡ 3) ⊎ (result.status ≡ 7) ⊎ (result.status ≡ 8) }
+    ensures not { result.status ≡ 0 → ⊥ }
+    ensures three { result.status ≡ 3 → stop ≡ Stop.Input }
+    ensures eight { result.status ≡ 8 → stop ≡ Stop.Listen }
+    ensures seven { result.status ≡ 7 → result.no_memory ≡ true }
+{
+    let (status, no_memory) = match stop {
+        Stop::Input => (3, false),
+        Stop::Listen => (8, false),
+        Stop::NoMemory => (7, true),
+    };
+    Served {
+        status,
+        book: None,
+        devices: Vec::new(alloc),
+        sessions: Vec::new(alloc),
+        monitors: Vec::new(alloc),
+        gate: None,
+        world,
+        full: 0,
+        no_memory,
+    }
+}
+
+/// Bursts until all devices have stopped, as they have once the pump has ended, and publishes the samples that wait.
+fn shut<J: HubNaming, R: Wait + Copy>(rt: &R, floor: Floor<J, R>) -> Floor<J, R>
+    ensures { All IsClosed result.hub.book.sessions }
+{
+    let mut floor = floor;
+    for _ in rt.forever() {
+        let stored = floor.publish();
+        match floor.burst() {
+            Burst::Over => {
+                if !stored {
+                    return floor;
+                }
+            }
+            Burst::Fed | Burst::Idle => {}
+        }
+    }
+    unreachable!()
+}
+
+/// Room for what is put together at the end.
+#[derive(Drop)]
+struct DoneRooms<W: World, R: Wait + Copy> {
+    devices: Vec<DeviceDone<W::In, R>>,
+    monitors: Vec<MonitorDone>,
+    ghost devices_none: { devices.items ≡ [] },
+    ghost devices_len: { vec_len devices ≡ 0 },
+    ghost monitors_none: { monitors.items ≡ [] },
+    ghost monitors_len: { vec_len monitors ≡ 0 },
+}
+
+fn make_done_rooms<W: World, R: Wait + Copy>(
+    alloc: Global,
+    devices: usize,
+    monitors: usize,
+) -> Result<DoneRooms<W, R>, NoMemory>
+    ensures devices { IfOk result (λ rooms. devices ≤ vec_capacity rooms.devices) }
+    ensures monitors { IfOk result (λ rooms. monitors ≤ vec_capacity rooms.monitors) }
+{
+    let devices = room(alloc, devices)?;
+    let monitors = room(alloc, monitors)?;
+    Ok(DoneRooms { devices, monitors })
+}
+
+/// Puts together what is left, and the status.
+fn gather<W: World, J: HubNaming, D: Dials, R: Wait + Copy>(
+    rt: &R,
+    hub: Hub<J, R>,
+    ended: Ended<W::In, W::Out, W::Gate, J, R>,
+    rooms: DoneRooms<W, R>,
+    world: W,
+    numbers: Numbers,
+) -> Served<W, R>
+    requires ran { DevicesRan D.may (source_facts W.In.content W.In.faults W.In.quiets) J.terms.lanes ended.runs.items }
+    requires causes { EachRun (RunCause W.In.faults) ended.runs.items }
+    requires cause { ended.door.failed ≡ true → 0 < W.Gate.faults ended.door.gate }
+    requires tended { Tended (IsNewLink W.In.content W.In.faults W.In.quiets W.Out.written W.Out.faults) (SessionRuns W.In.content W.In.faults W.In.quiets W.Out.written W.Out.faults) numbers.queue ended.door.seat ended.door.runs.items }
+    requires watched { WatchersRan numbers.tries J.terms.segments ended.watched.items }
+    requires wait { J.terms.wait ≡ numbers.wait }
+    requires devices { vec_len ended.runs ≤ vec_capacity rooms.devices }
+    requires monitors { vec_len ended.watched ≤ vec_capacity rooms.monitors }
+    ensures book { IsSome result.book }
+    ensures world { result.world ≡ world }
+    ensures range { (result.status ≡ 0) ⊎ (result.status ≡ 3) ⊎ (result.status ≡ 7) ⊎ (result.status ≡ 8) }
+    ensures three { result.status ≡ 3 → SomeFailed (DeviceFailed W.In.faults) result.devices.items }
+    ensures eight { result.status ≡ 8 → SourceFailed W.Gate.faults result.gate }
+    ensures seven { result.status ≡ 7 → result.no_memory ≡ true }
+    ensures zero { result.status ≡ 0 → result.no_memory ≡ false }
+    ensures ended { result.status ≡ 0 → AllEnded result.devices.items }
+    ensures at_end { IfSome result.book (λ book. AtEnd (told_of J.terms numbers.tries) D.may (source_facts W.In.content W.In.faults W.In.quiets) (sink_facts W.Out.written W.Out.faults) result.no_memory book result.devices.items result.sessions.items result.monitors.items) }
+{
+    let Ended {
+        runs,
+        watched,
+        door,
+    } = ended;
+    let DoorDone {
+        gate,
+        seat,
+        runs: session_runs,
+        room,
+        full,
+        no_memory,
+        failed,
+    } = door;
+    let Parted {
+        mut book,
+        inlets,
+        ends,
+        sessions,
+    } = hub.part(seat);
+    let DoneRooms { devices, monitors } = rooms;
+    let no_memory = lacked(
+        no_memory,
+        &book,
+        runs.as_slice(),
+        session_runs.as_slice(),
+        watched.as_slice(),
+    );
+    let ended = all_ended(ends.as_slice());
+    let DevicesDone {
+        devices,
+        failed: read_fault,
+    } = devices_done::<W::In, D, R>(runs, inlets, ends, devices);
+    let sessions = sessions_done(rt, &mut book, session_runs, sessions, room);
+    let monitors = monitors_done(&mut book, watched, numbers.tries, no_memory, monitors);
+    let outcome = Outcome {
+        read_fault,
+        door_fault: failed,
+        ended,
+        no_memory,
+    };
+    Served {
+        status: outcome.status(),
+        book: Some(book),
+        devices,
+        sessions,
+        monitors,
+        gate: Some(gate),
+        world,
+        full,
+        no_memory: outcome.lacks(),
+    }
+}
+
+/// What stands behind the lock, with no session.
+fn floor_of<J: HubNaming, R: Wait + Copy>(alloc: Global, hub: Hub<J, R>, devices: u8) -> Floor<J, R>
+    requires few { devices ≤ 8 }
+    requires devices { devices ≡ length J.terms.names }
+    requires units { 2 * devices ≡ length J.terms.segments }
+{
+    Floor {
+        hub,
+        devices,
+        units: 2 * devices,
+        sessions: Vec::new(alloc),
+    }
+}
+
+/// What the door worker begins with.
+fn begin_of<S: Source, K: Sink, G: Door<In = S, Out = K>, J: HubNaming, R: Wait + Copy>(
+    alloc: Global,
+    gate: G,
+    seat: DoorSeat<J>,
+    queue: u32,
+) -> DoorBegin<S, K, G, J, R>
+    requires low { 1 ≤ queue }
+    requires high { queue ≤ 65536 }
+    requires new { seat.links ≡ [] }
+    ensures gate { result.gate ≡ gate }
+    ensures queue { result.queue ≡ queue }
+{
+    DoorBegin {
+        gate,
+        seat,
+        room: Vec::new(alloc),
+        queue,
+    }
+}
+
+#[tactic(auto, using(crate::proofs::Causes::gate_cause))]
+fn run<
+    J: HubNaming + Send + Sync,
+    D: Dials + Send + Sync,
+    W: World,
+    R: Threads + Wait + Copy + Send + Sync,
+>(
+    rt: R,
+    alloc: Global,
+    ground: Ground<W::In, R>,
+    gate: W::Gate,
+    clock: W::Now,
+    world: W,
+    numbers: Numbers,
+) -> Served<W, R>
+    requires terms { J.terms ≡ terms_of ground.book ground.lanes.inlets.items numbers.wait }
+    requires table { ground.doors.table ≡ J.table }
+    requires ledger { ground.doors.ledger ≡ J.name }
+    requires parts { ground.doors.parts ≡ J.parts }
+    requires whole { ground.doors.parts ≡ J.whole }
+    requires dials { D.may ≡ dial_of (W.Now.stamps clock) }
+    requires unused { IsUnused ground.book }
+    requires count { length ground.lanes.inlets.items ≡ length ground.book.names }
+    requires nothing { All NothingGot ground.lanes.inlets.items }
+    requires few { length ground.book.names ≤ 8 }
+    requires units { length ground.book.units ≡ 2 * length ground.book.names }
+    requires fresh { AllZip (IsFreshDevice (source_facts W.In.content W.In.faults W.In.quiets)) ground.lanes.starts.items ground.lanes.inlets.items }
+    requires watchers { segments_of ground.watchers.items ≡ monitored numbers.tries (map segment_of ground.book.units) }
+    requires wait { numbers.wait ≤ 64 }
+    requires low { 1 ≤ numbers.queue }
+    requires high { numbers.queue ≤ 65536 }
+    ensures world { result.world ≡ world }
+    ensures range { (result.status ≡ 0) ⊎ (result.status ≡ 3) ⊎ (result.status ≡ 7) ⊎ (result.status ≡ 8) }
+    ensures three { result.status ≡ 3 → SomeFailed (DeviceFailed W.In.faults) result.devices.items }
+    ensures eight { result.status ≡ 8 → SourceFailed W.Gate.faults result.gate }
+    ensures seven { result.status ≡ 7 → result.no_memory ≡ true }
+    ensures zero { result.status ≡ 0 → (result.no_memory ≡ false) × IsSome result.book }
+    ensures ended { result.status ≡ 0 → AllEnded result.devices.items }
+    ensures at_end { IfSome result.book (λ book. AtEnd (told_of J.terms numbers.tries) D.may (source_facts W.In.content W.In.faults W.In.quiets) (sink_facts W.Out.written W.Out.faults) result.no_memory book result.devices.items result.sessions.items result.monitors.items) }
+{
+    let Ground {
+        book,
+        lanes,
+        doors,
+        watchers,
+        bells,
+    } = ground;
+    let Lanes { starts, inlets } = lanes;
+    let devices = inlets.len() as u8;
+    let Ok(rooms) = make_done_rooms::<W, R>(alloc, starts.len(), watchers.len()) else {
+        return nothing(alloc, world, Stop::NoMemory);
+    };
+    let Ok((hub, seat)) = Hub::<J, R>::new(alloc, book, inlets, doors, numbers.wait) else {
+        return nothing(alloc, world, Stop::NoMemory);
+    };
+    let floor = Mutex::new(floor_of(alloc, hub, devices));
+    let clock = Mutex::new(SharedClock::<W::Now, D>::new(clock));
+    let door = begin_of(alloc, gate, seat, numbers.queue);
+    let Ok(setup) = set_up::<W::In, W::Out, W::Gate, D, J, R>(alloc, starts, watchers, door) else {
+        return nothing(alloc, world, Stop::NoMemory);
+    };
+    let ended = in_scope(rt, alloc, &floor, &clock, &bells, numbers.tries, setup);
+    let Floor {
+        hub,
+        devices: _,
+        units: _,
+        sessions: _,
+    } = shut(&rt, floor.into_inner());
+    gather::<W, J, D, R>(&rt, hub, ended, rooms, world, numbers)
+}
+
+/// Serves a plan until all its devices have ended.
+#[tactic(auto, using(crate::proofs::Asked::some_of, crate::proofs::Asked::all_of, crate::proofs::Asked::few_of))]
+pub fn serve<W: World, R: Threads + Wait + Copy + Send + Sync>(
+    rt: R,
+    alloc: Global,
+    plan: Plan,
+    world: W,
+) -> Served<W, R>
+    requires plan { IsPlan plan }
+    requires asked { W.asked world ≡ asked_nothing }
+    ensures range { (result.status ≡ 0) ⊎ (result.status ≡ 3) ⊎ (result.status ≡ 7) ⊎ (result.status ≡ 8) }
+    ensures three { result.status ≡ 3 → SomeFailed (DeviceFailed W.In.faults) result.devices.items ⊎ Rose (W.input_faults world) (W.input_faults result.world) }
+    ensures eight { result.status ≡ 8 → SourceFailed W.Gate.faults result.gate ⊎ Rose (W.listen_faults world) (W.listen_faults result.world) }
+    ensures seven { result.status ≡ 7 → result.no_memory ≡ true }
+    ensures zero { result.status ≡ 0 → (result.no_memory ≡ false) × IsSome result.book }
+    ensures ended { result.status ≡ 0 → AllEnded result.devices.items }
+    ensures at_end { IfSome result.book (λ book. AtEnd (told_in plan) (dial_of (W.stamps world)) (source_facts W.In.content W.In.faults W.In.quiets) (sink_facts W.Out.written W.Out.faults) result.no_memory book result.devices.items result.sessions.items result.monitors.items) }
+    ensures asked { AsksSome (W.asked result.world) (plan.inputs.items ++ places_in plan.edges.items) plan.listen }
+    ensures all_asked { IsSome result.book → AsksAll (W.asked result.world) (plan.inputs.items ++ places_in plan.edges.items) plan.listen }
+{
+    let mut world = world;
+    let Plan {
+        names,
+        inputs,
+        edges,
+        listen,
+        queue,
+        limit,
+        wait,
+        tries,
+    } = plan;
+    let numbers = Numbers {
+        queue,
+        limit,
+        wait,
+        tries,
+    };
+    let _few = names.len();
+    let Outside {
+        inputs,
+        edges,
+        gate,
+        clock,
+    } = match open(alloc, &mut world, inputs, edges, listen) {
+        Ok(outside) => outside,
+        Err(stop) => return nothing(alloc, world, stop),
+    };
+    match prepare(rt, alloc, names, limit, tries, inputs, edges) {
+        Ok(ground) => run::<Brand, Brand, W, R>(rt, alloc, ground, gate, clock, world, numbers),
+        Err(_) => nothing(alloc, world, Stop::NoMemory),
+    }
+}

@@ -1,0 +1,193 @@
+ghost use Rattle.std.specs.Prelude.{◌≡◌, ◌≤◌, ◌<◌, ◌||◌, [], ◌∷◌, length, map, true, get_or};
+ghost use Rattle.std.specs.List.{AllZip};
+ghost use Rattle.std.specs.Vec.{vec_len, vec_capacity};
+ghost use Rattle.std.specs.Vec.Iter.{into_iter_items};
+ghost use Rattle.book_sessions.specs.Attendance.{Attendance};
+ghost use Rattle.book_units.specs.Units.{UnitView};
+ghost use Rattle.serve_settling.specs.Failing.{DeviceFailed, SomeFailed};
+ghost use Rattle.serve_settling.specs.Runs.{RunCause, EachRun, source_facts};
+ghost use Rattle.gps_serve.specs.AtEnd.{DeviceServed, InputServed, MonitorServed, OutletServed, sink_facts, watched_units};
+ghost use Rattle.gps_serve.specs.Readies.{AllServed, AreReady, MonitorReady, SessionReady};
+ghost use Rattle.gps_serve.specs.Runs.{DeviceReady};
+
+use gps_hub::{DeviceEnd, Inlets};
+use gps_lane::{Rx, Tx};
+use gps_outside::{Sink, Source};
+use report_book::Book;
+use serve_parts::{DeviceDone, MonitorDone, SessionDone};
+use serve_pieces::Piece;
+use serve_settling::{DeviceRun, device_done, device_failed, monitor_done, session_done};
+use serve_threads::{SessionRun, WatchDone};
+use serve_workers::Dials;
+use session_core::Item;
+use std::sync::Wait;
+use std::vec::IntoIter;
+
+/// The next of those that are left.
+fn next_of<T>(rest: &mut IntoIter<T>) -> T
+    requires { 0 < length (into_iter_items rest.old) }
+    ensures { into_iter_items rest.old ≡ result ∷ into_iter_items rest.new }
+{
+    match rest.next() {
+        Some(next) => next,
+        None => unreachable!(),
+    }
+}
+
+fn either(before: bool, now: bool) -> bool
+    ensures { result ≡ (before || now) }
+{
+    before || now
+}
+
+/// What is left of a device, and whether a source of it failed.
+#[derive(Drop)]
+struct Left<S: Source, R> {
+    device: DeviceDone<S, R>,
+    failed: bool,
+}
+
+#[tactic(auto, using(crate::proofs::Devices::bytes_lane, crate::proofs::Devices::edges_lane, serve_settling::proofs::Causes::failed_done))]
+fn left_of<S: Source, D: Dials, R: Wait + Copy>(
+    run: DeviceRun<S, R>,
+    inlets: Inlets<R>,
+    end: Option<DeviceEnd>,
+) -> Left<S, R>
+    requires ready { DeviceReady D.may (source_facts S.content S.faults S.quiets) inlets run }
+    requires cause { RunCause S.faults run }
+    ensures served { DeviceServed D.may (source_facts S.content S.faults S.quiets) inlets result.device }
+    ensures end { result.device.end ≡ end }
+    ensures failed { result.failed ≡ true → DeviceFailed S.faults result.device }
+{
+    let failed = device_failed(&run);
+    let Inlets { bytes, edges } = inlets;
+    let device = device_done(run, bytes, edges, end);
+    Left { device, failed }
+}
+
+/// What is left of the devices, in order, and whether a source of one of them failed.
+#[derive(Drop)]
+pub(crate) struct DevicesDone<S: Source, R> {
+    pub(crate) devices: Vec<DeviceDone<S, R>>,
+    pub(crate) failed: bool,
+}
+
+/// Puts together what is left of the devices.
+pub(crate) fn devices_done<S: Source, D: Dials, R: Wait + Copy>(
+    runs: Vec<DeviceRun<S, R>>,
+    inlets: Vec<Inlets<R>>,
+    ends: Vec<Option<DeviceEnd>>,
+    room: Vec<DeviceDone<S, R>>,
+) -> DevicesDone<S, R>
+    requires ready { AllZip (DeviceReady D.may (source_facts S.content S.faults S.quiets)) inlets.items runs.items }
+    requires causes { EachRun (RunCause S.faults) runs.items }
+    requires ends { length ends.items ≡ length inlets.items }
+    requires none { room.items ≡ [] }
+    requires empty { vec_len room ≡ 0 }
+    requires enough { vec_len runs ≤ vec_capacity room }
+    ensures served { AllZip (DeviceServed D.may (source_facts S.content S.faults S.quiets)) inlets.items result.devices.items }
+    ensures ends { map (λ device. device.end) result.devices.items ≡ ends.items }
+    ensures failed { result.failed ≡ true → SomeFailed (DeviceFailed S.faults) result.devices.items }
+{
+    let mut devices = room;
+    let mut failed = false;
+    let mut inlets = inlets.into_iter();
+    let mut ends = ends.into_iter();
+    'devices: for run in runs {
+        let lanes = next_of(&mut inlets);
+        let end = next_of(&mut ends);
+        let left = left_of::<S, D, R>(run, lanes, end);
+        failed = either(failed, left.failed);
+        devices.push_reserved(left.device);
+    }
+    DevicesDone { devices, failed }
+}
+
+/// What is left of a session.
+#[tactic(auto, using(crate::proofs::Sessions::outlet_name, crate::proofs::Sessions::outlet_served))]
+fn settled<S: Source, K: Sink, R: Wait + Copy>(
+    rt: &R,
+    book: &mut Book<Tx<Item, R>>,
+    number: u32,
+    run: SessionRun<S, K, R>,
+    input: Rx<Piece, R>,
+) -> SessionDone<S, K, R>
+    requires there { number < length book.old.sessions }
+    requires ready { (free : Attendance) → SessionReady (source_facts S.content S.faults S.quiets) (sink_facts K.written K.faults) (get_or book.old.sessions number free) input run }
+    ensures book { book.new ≡ book.old }
+    ensures number { result.number ≡ number }
+    ensures input { InputServed (source_facts S.content S.faults S.quiets) input result }
+    ensures outlet { (free : Attendance) → OutletServed (sink_facts K.written K.faults) (get_or book.old.sessions number free) result }
+{
+    session_done(rt, book, number, run, input)
+}
+
+/// Puts together what is left of the sessions, in order.
+#[tactic(auto, using(crate::proofs::Sessions::sessions_none))]
+pub(crate) fn sessions_done<S: Source, K: Sink, R: Wait + Copy>(
+    rt: &R,
+    book: &mut Book<Tx<Item, R>>,
+    runs: Vec<SessionRun<S, K, R>>,
+    inputs: Vec<Rx<Piece, R>>,
+    room: Vec<SessionDone<S, K, R>>,
+) -> Vec<SessionDone<S, K, R>>
+    requires ready { AreReady (source_facts S.content S.faults S.quiets) (sink_facts K.written K.faults) book.old.sessions inputs.items runs.items }
+    requires none { room.items ≡ [] }
+    requires empty { vec_len room ≡ 0 }
+    requires enough { vec_len runs ≤ vec_capacity room }
+    ensures book { book.new ≡ book.old }
+    ensures served { AllServed (source_facts S.content S.faults S.quiets) (sink_facts K.written K.faults) book.old.sessions inputs.items result.items }
+{
+    let mut done = room;
+    let mut runs = runs.into_iter();
+    let mut inputs = inputs.into_iter();
+    'sessions: for number in 0..book.opened() {
+        let run = next_of(&mut runs);
+        let input = next_of(&mut inputs);
+        done.push_reserved(settled(rt, book, number, run, input));
+    }
+    done
+}
+
+/// What is left of a unit's monitor.
+#[tactic(auto, using(crate::proofs::Monitors::segment_there))]
+fn compared<R: Wait + Copy>(
+    book: &mut Book<Tx<Item, R>>,
+    unit: u8,
+    watch: WatchDone,
+    tries: u32,
+    no_memory: bool,
+) -> MonitorDone
+    requires there { unit < length book.old.units }
+    requires ready { (free : UnitView) → MonitorReady tries no_memory (get_or book.old.units unit free) watch }
+    ensures book { book.new ≡ book.old }
+    ensures served { (free : UnitView) → MonitorServed tries no_memory (get_or book.old.units unit free) result }
+{
+    monitor_done(book, unit, watch)
+}
+
+/// Puts together what is left of the monitors, in the order of their units.
+pub(crate) fn monitors_done<R: Wait + Copy>(
+    book: &mut Book<Tx<Item, R>>,
+    watched: Vec<WatchDone>,
+    tries: u32,
+    no_memory: bool,
+    room: Vec<MonitorDone>,
+) -> Vec<MonitorDone>
+    requires ready { AllZip (MonitorReady tries no_memory) (watched_units tries book.old.units) watched.items }
+    requires none { room.items ≡ [] }
+    requires empty { vec_len room ≡ 0 }
+    requires enough { vec_len watched ≤ vec_capacity room }
+    requires few { length book.old.units ≤ 16 }
+    ensures book { book.new ≡ book.old }
+    ensures served { AllZip (MonitorServed tries no_memory) (watched_units tries book.old.units) result.items }
+{
+    let mut done = room;
+    let count = watched.len() as u8;
+    let mut watched = watched.into_iter();
+    'units: for unit in 0..count {
+        let watch = next_of(&mut watched);
+        done.push_reserved(compared(book, unit, watch, tries, no_memory));
+    }
+    done
+}

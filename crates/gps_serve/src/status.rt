@@ -1,0 +1,123 @@
+ghost use Rattle.std.specs.Prelude.{◌≡◌, ◌⊎◌, true, false};
+ghost use Rattle.std.specs.List.{list_all};
+ghost use Rattle.hub_laws.specs.Given.{is_end};
+ghost use Rattle.gps_serve.specs.Statuses.{EachWhole, lacks_memory};
+
+use gps_hub::{DeviceEnd, Ending};
+use gps_lane::Tx;
+use gps_outside::{Sink, Source};
+use report_book::Book;
+use serve_settling::DeviceRun;
+use serve_threads::{ReaderDone, SessionRun, WatchDone};
+use session_core::{Close, Item};
+use std::sync::Wait;
+
+/// How a daemon's work ended.
+#[derive(Clone, Copy)]
+pub(crate) struct Outcome {
+    /// A source of a device or of its edges failed.
+    pub(crate) read_fault: bool,
+    /// The door failed.
+    pub(crate) door_fault: bool,
+    /// Each device has ended.
+    pub(crate) ended: bool,
+    /// Want of memory was met.
+    pub(crate) no_memory: bool,
+}
+
+impl Outcome {
+    /// Whether want of memory was met: a device that was lost without a fault was lost by it.
+    pub(crate) fn lacks(&self) -> bool
+        ensures { result ≡ lacks_memory self.now }
+    {
+        self.no_memory || (!self.read_fault && !self.ended)
+    }
+
+    /// The status: of the faults that were met the first of these.
+    pub(crate) fn status(&self) -> u8
+        ensures range { (result ≡ 0) ⊎ (result ≡ 3) ⊎ (result ≡ 7) ⊎ (result ≡ 8) }
+        ensures three { result ≡ 3 → self.now.read_fault ≡ true }
+        ensures eight { result ≡ 8 → self.now.door_fault ≡ true }
+        ensures seven { result ≡ 7 → lacks_memory self.now ≡ true }
+        ensures zero { result ≡ 0 → (lacks_memory self.now ≡ false) × (self.now.ended ≡ true) }
+    {
+        if self.read_fault {
+            3
+        } else if self.door_fault {
+            8
+        } else if self.lacks() {
+            7
+        } else {
+            0
+        }
+    }
+}
+
+fn reader_lacked<S: Source, R>(reader: &ReaderDone<S, R>) -> bool {
+    match reader.ending {
+        Some(Ending::NoMemory) => true,
+        Some(Ending::End | Ending::Failed) | None => false,
+    }
+}
+
+/// Whether want of memory ended a reader of a device.
+fn device_lacks<S: Source, R: Wait + Copy>(runs: &[DeviceRun<S, R>]) -> bool {
+    let mut lacks = false;
+    for run in runs {
+        if reader_lacked(&run.bytes) {
+            lacks = true;
+        }
+        if let Some(edges) = &run.edges {
+            if reader_lacked(edges) {
+                lacks = true;
+            }
+        }
+    }
+    lacks
+}
+
+/// Whether each device has ended.
+pub(crate) fn all_ended(ends: &[Option<DeviceEnd>]) -> bool
+    ensures { result ≡ list_all is_end ends.now }
+{
+    ends.iter().all(|end| *end == Some(DeviceEnd::Ended))
+}
+
+/// Whether want of memory ended a reader of a session, or closed a session.
+fn session_lacks<S: Source, K: Sink, R: Wait + Copy>(
+    book: &Book<Tx<Item, R>>,
+    runs: &[SessionRun<S, K, R>],
+) -> bool {
+    let mut lacks = false;
+    for run in runs {
+        if reader_lacked(&run.reader) {
+            lacks = true;
+        }
+    }
+    for session in 0..book.opened() {
+        if let Some((_, Close::NoMemory)) = book.closing(session) {
+            lacks = true;
+        }
+    }
+    lacks
+}
+
+/// Whether each monitor made all its readings, as it does unless memory is wanting.
+fn are_whole(watched: &[WatchDone]) -> bool
+    ensures { result ≡ list_all (λ watch. watch.whole) watched.now }
+{
+    watched.iter().all(|watch| watch.whole)
+}
+
+/// Whether want of memory was met: at an admission, or by a thread, or by the book for a session.
+pub(crate) fn lacked<S: Source, K: Sink, R: Wait + Copy>(
+    before: bool,
+    book: &Book<Tx<Item, R>>,
+    runs: &[DeviceRun<S, R>],
+    session_runs: &[SessionRun<S, K, R>],
+    watched: &[WatchDone],
+) -> bool
+    ensures { result ≡ false → EachWhole watched.now }
+{
+    before || device_lacks(runs) || session_lacks(book, session_runs) || !are_whole(watched)
+}

@@ -4,3 +4,4 @@ pub mod LineStatuses
 pub mod LineTexts
 pub mod PlayStatuses
 pub mod Statuses
+pub mod Serving

@@ -3,3 +3,4 @@ pub mod Readings
 pub mod Texts
 pub mod Outcomes
 pub mod Decode
+pub mod Served

@@ -1,0 +1,151 @@
+ghost use Rattle.std.specs.Prelude.{◌≡◌, ◌⊎◌, ◌++◌, [], None, IfOk, IfSome, IsSome, length, map, string_bytes, true, false};
+ghost use Rattle.gps_outside.specs.Counts.{Rose};
+ghost use Rattle.gps_words.specs.Serve.{serve_asked_of, shown};
+ghost use Rattle.gps_words.specs.Within.{IsWithin};
+ghost use Rattle.gps_world.specs.Asking.{asked_nothing};
+ghost use Rattle.serve_opening.specs.Opening.{dial_of, places_in};
+ghost use Rattle.serve_parts.specs.Plans.{IsPlan};
+ghost use Rattle.serve_settling.specs.Failing.{DeviceFailed, SomeFailed, SourceFailed};
+ghost use Rattle.serve_settling.specs.Runs.{source_facts};
+ghost use Rattle.gps_serve.specs.AtEnd.{AtEnd, sink_facts, told_in};
+ghost use Rattle.gps_serve.specs.Statuses.{AllEnded};
+ghost use Rattle.gpsrelay.specs.Served.{AsksFor, edge_place_of, place_of, places_of, told_by};
+
+use crate::outcome::Outcome;
+use crate::run::REFUSED;
+use gps_fixed::{Bytes, NoMemory};
+use gps_serve::{Plan, Served, serve};
+use gps_words::{Input, ServeNumbers, ServeOptions, WordsFault, serve_asked};
+use gps_world::{Place, World};
+use std::alloc::Global;
+use std::sync::Wait;
+use std::thread::Threads;
+
+fn place_of(input: Input) -> Place
+    ensures { result ≡ place_of input }
+{
+    match input {
+        Input::File(path) => Place::File(path),
+        Input::Tcp(address) => Place::Tcp(address),
+    }
+}
+
+fn places_of(alloc: Global, inputs: Vec<Input>) -> Result<Vec<Place>, NoMemory>
+    ensures { IfOk result (λ places. places.items ≡ map place_of inputs.items) }
+{
+    let mut places = Vec::with_capacity(alloc, inputs.len())?;
+    'inputs: for input in inputs {
+        places.push(place_of(input))?;
+    }
+    Ok(places)
+}
+
+fn edge_place_of(path: Option<Bytes>) -> Option<Place>
+    ensures { result ≡ edge_place_of path }
+{
+    match path {
+        Some(path) => Some(Place::File(path)),
+        None => None,
+    }
+}
+
+fn edge_places_of(alloc: Global, paths: Vec<Option<Bytes>>) -> Result<Vec<Option<Place>>, NoMemory>
+    ensures { IfOk result (λ places. places.items ≡ map edge_place_of paths.items) }
+{
+    let mut places = Vec::with_capacity(alloc, paths.len())?;
+    'paths: for path in paths {
+        places.push(edge_place_of(path))?;
+    }
+    Ok(places)
+}
+
+/// The plan that the options ask for.
+fn plan_of(alloc: Global, options: ServeOptions) -> Result<Plan, NoMemory>
+    requires { IsWithin (shown options) }
+    ensures plan { IfOk result IsPlan }
+    ensures told { IfOk result (λ plan. told_in plan ≡ told_by (shown options)) }
+    ensures places { IfOk result (λ plan. plan.inputs.items ++ places_in plan.edges.items ≡ places_of (shown options)) }
+    ensures listen { IfOk result (λ plan. plan.listen ≡ options.listen) }
+{
+    let ServeOptions {
+        names,
+        inputs,
+        edges,
+        listen,
+        numbers,
+    } = options;
+    let ServeNumbers {
+        queue,
+        history,
+        wait,
+        monitor,
+    } = numbers;
+    let inputs = places_of(alloc, inputs)?;
+    let edges = edge_places_of(alloc, edges)?;
+    Ok(Plan {
+        names,
+        inputs,
+        edges,
+        listen,
+        queue,
+        limit: history,
+        wait,
+        tries: monitor,
+    })
+}
+
+/// What is handed back where nothing was served.
+fn nothing<W: World, R: Wait + Copy>(alloc: Global, world: W, status: u8) -> Served<W, R>
+    ensures status { result.status ≡ status }
+    ensures book { result.book ≡ None }
+    ensures world { result.world ≡ world }
+    ensures devices { result.devices.items ≡ [] }
+    ensures lacks { result.status ≡ 7 → result.no_memory ≡ true }
+{
+    Served {
+        status,
+        book: None,
+        devices: Vec::new(alloc),
+        sessions: Vec::new(alloc),
+        monitors: Vec::new(alloc),
+        gate: None,
+        world,
+        full: 0,
+        no_memory: status == Outcome::NoMemory.status(),
+    }
+}
+
+/// Serves what the words ask for, which stand without the program's name, until all devices have ended.
+///
+/// The status is 0 where every device has ended; 2 where the words ask for nothing, and then the world was not asked; 3 where a
+/// source failed or could not be opened; 7 for want of memory; 8 where the door failed or could not be opened. Where several
+/// hold, the first of 3, 8 and 7 is given.
+#[tactic(auto, using(crate::proofs::Serving::asks_nothing, crate::proofs::Serving::asks_for))]
+pub fn serve_main<W: World, R: Threads + Wait + Copy + Send + Sync>(
+    rt: R,
+    alloc: Global,
+    words: &[String],
+    world: W,
+) -> Served<W, R>
+    requires asked { W.asked world ≡ asked_nothing }
+    ensures range { (result.status ≡ 0) ⊎ (result.status ≡ 2) ⊎ (result.status ≡ 3) ⊎ (result.status ≡ 7) ⊎ (result.status ≡ 8) }
+    ensures refused { serve_asked_of (map string_bytes words.now) ≡ None → (result.status ≡ 2) ⊎ (result.status ≡ 7) }
+    ensures only { result.status ≡ 2 → serve_asked_of (map string_bytes words.now) ≡ None }
+    ensures untouched { serve_asked_of (map string_bytes words.now) ≡ None → (result.book ≡ None) × (result.world ≡ world) }
+    ensures three { result.status ≡ 3 → SomeFailed (DeviceFailed W.In.faults) result.devices.items ⊎ Rose (W.input_faults world) (W.input_faults result.world) }
+    ensures eight { result.status ≡ 8 → SourceFailed W.Gate.faults result.gate ⊎ Rose (W.listen_faults world) (W.listen_faults result.world) }
+    ensures seven { result.status ≡ 7 → result.no_memory ≡ true }
+    ensures zero { result.status ≡ 0 → (result.no_memory ≡ false) × IsSome result.book }
+    ensures ended { result.status ≡ 0 → AllEnded result.devices.items }
+    ensures asked { AsksFor (serve_asked_of (map string_bytes words.now)) (W.asked result.world) }
+    ensures at_end { IfSome result.book (λ book. IfSome (serve_asked_of (map string_bytes words.now)) (λ s. AtEnd (told_by s) (dial_of (W.stamps world)) (source_facts W.In.content W.In.faults W.In.quiets) (sink_facts W.Out.written W.Out.faults) result.no_memory book result.devices.items result.sessions.items result.monitors.items)) }
+{
+    match serve_asked(alloc, words) {
+        Ok(options) => match plan_of(alloc, options) {
+            Ok(plan) => serve(rt, alloc, plan, world),
+            Err(NoMemory) => nothing(alloc, world, Outcome::NoMemory.status()),
+        },
+        Err(WordsFault::Refused) => nothing(alloc, world, REFUSED),
+        Err(WordsFault::NoMemory) => nothing(alloc, world, Outcome::NoMemory.status()),
+    }
+}

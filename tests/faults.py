@@ -15,37 +15,16 @@ import sys
 import threading
 import time
 
+from checks import check, exit_status, free_port, sentence
+
 PROGRAM = os.path.abspath(sys.argv[1])
 SAMPLES = os.path.join(os.path.dirname(os.path.dirname(os.path.abspath(__file__))), "samples")
 DRIVE, SCRIPT = os.path.join(SAMPLES, "drive.nmea"), os.path.join(SAMPLES, "two_devices.script")
 WAIT = 60
-failed = 0
-
-
-def check(name, wanted, found):
-    global failed
-    if wanted == found:
-        print(f"ok      {name}", flush=True)
-    else:
-        failed = 1
-        print(f"FAILED  {name}: wanted {wanted!r}, found {found!r}", flush=True)
-
-
-def sentence(body):
-    total = 0
-    for byte in body.encode():
-        total ^= byte
-    return f"${body}*{total:02X}\r\n".encode()
 
 
 def second(t):
     return sentence(f"GPRMC,12{t // 60:02d}{t % 60:02d},A,4807.038,N,01131.000,E,022.4,084.4,010624,,,A")
-
-
-def free_port():
-    with socket.socket() as it:
-        it.bind(("127.0.0.1", 0))
-        return it.getsockname()[1]
 
 
 def whole(words, path):
@@ -271,4 +250,4 @@ for part in full_disk, reader_goes, byte_by_byte, no_input, resets, narrow, stop
         part()
     except Exception as error:  # one part that breaks must not hide the others
         check(f"{part.__name__} ran to its end", None, repr(error))
-sys.exit(failed)
+sys.exit(exit_status())

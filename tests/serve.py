@@ -16,24 +16,9 @@ import tempfile
 import threading
 import time
 
+from checks import check, exit_status, free_port, sentence
+
 PROGRAM = os.path.abspath(sys.argv[1])
-failed = 0
-
-
-def check(name, wanted, found):
-    global failed
-    if wanted == found:
-        print(f"ok      {name}", flush=True)
-    else:
-        failed = 1
-        print(f"FAILED  {name}: wanted {wanted!r}, found {found!r}", flush=True)
-
-
-def sentence(body):
-    total = 0
-    for byte in body.encode():
-        total ^= byte
-    return f"${body}*{total:02X}\r\n".encode()
 
 
 def second(t, minute=0):
@@ -41,12 +26,6 @@ def second(t, minute=0):
     clock = f"12{minute:02d}{t:02d}"
     return (sentence(f"GPRMC,{clock},A,4807.038,N,01131.000,E,022.4,084.4,010624,,,A")
             + sentence(f"GPGGA,{clock},4807.038,N,01131.000,E,1,08,0.9,545.4,M,46.9,M,,"))
-
-
-def free_port():
-    with socket.socket() as it:
-        it.bind(("127.0.0.1", 0))
-        return it.getsockname()[1]
 
 
 class Device:
@@ -420,4 +399,4 @@ for part in a_day, forms, bad_clients, crowd, stuck_client, devices, listening, 
         part()
     except Exception as error:  # one part that breaks must not hide the others
         check(f"{part.__name__} ran to its end", None, repr(error))
-sys.exit(failed)
+sys.exit(exit_status())

@@ -22,6 +22,8 @@ import tempfile
 import threading
 import time
 
+from checks import check, exit_status, sentence
+
 PROGRAM = os.path.abspath(sys.argv[1])
 SECONDS = float(sys.argv[2]) if len(sys.argv) > 2 else 10
 SEED = int(sys.argv[3]) if len(sys.argv) > 3 else 1
@@ -30,23 +32,6 @@ WINDOW, QUEUE, HISTORY = 100, 4096, 100_000
 WAIT = 30  # seconds, for whatever must come
 BEGIN = calendar.timegm((2024, 6, 1, 12, 0, 0))
 VERSION = b'{"class":"VERSION","release":"gpsrelay-1","rev":"1","proto_major":3,"proto_minor":1}\r\n'
-failed = 0
-
-
-def check(name, wanted, found):
-    global failed
-    if wanted == found:
-        print(f"ok      {name}", flush=True)
-    else:
-        failed = 1
-        print(f"FAILED  {name}: wanted {wanted!r}, found {found!r}", flush=True)
-
-
-def sentence(body):
-    total = 0
-    for byte in body.encode():
-        total ^= byte
-    return f"${body}*{total:02X}\r\n".encode()
 
 
 def decoded(data):
@@ -602,4 +587,4 @@ except Exception as error:
 finally:
     if run and run.process.poll() is None:
         run.process.kill()
-sys.exit(failed)
+sys.exit(exit_status())

@@ -85,11 +85,15 @@ impl Bells {
     }
 }
 
-/// The bells of a session's two threads, and whether they have ended.
+/// The bells of a session's two threads, and whether its writer and both have ended.
+///
+/// The reader is told to end only once the writer has ended, which lets go of the link: a read that comes then finds the link's end, and so
+/// its file is closed.
 #[derive(Drop)]
 pub struct SessionBells {
     pub reader: Bell,
     pub writer: Bell,
+    written: AtomicBool,
     gone: AtomicBool,
 }
 
@@ -98,14 +102,25 @@ impl SessionBells {
         SessionBells {
             reader: Bell::new(),
             writer: Bell::new(),
+            written: AtomicBool::new(false),
             gone: AtomicBool::new(false),
         }
     }
 
     /// Nothing more will come.
     pub fn close(&self) {
-        self.reader.close();
         self.writer.close();
+        if self.written.load(Ordering::SeqCst) {
+            self.reader.close();
+        }
+    }
+
+    /// The writer has ended. Where nothing more will come, the reader ends too.
+    pub fn end_writing(&self) {
+        self.written.store(true, Ordering::SeqCst);
+        if self.writer.is_closed() {
+            self.reader.close();
+        }
     }
 
     /// Its threads end.

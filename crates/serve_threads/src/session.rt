@@ -75,6 +75,7 @@ fn session_writer<K: Sink, R: Wait + Copy>(
     let mut items = items;
     let mut sink = sink;
     let end = write_items(rt, alloc, &mut items, &bells.writer, &mut sink);
+    bells.end_writing();
     WriterDone { sink, items, end }
 }
 

@@ -44,6 +44,7 @@ fn read_once<M: Maker, S: Source, R: Wait + Copy>(
     ensures quiets_stay { S.quiets source.old ≤ S.quiets source.new }
     ensures failed { HasCause result (S.faults source.old) (S.faults source.new) }
 {
+    let told = own.is_closed();
     let mut buf = [0u8; READ];
     match source.read(&mut buf) {
         ReadStep::Got(n) => match maker.piece(rt, alloc, &buf[..n]) {
@@ -58,10 +59,11 @@ fn read_once<M: Maker, S: Source, R: Wait + Copy>(
             Err(_) => Turn::Over(Ending::NoMemory),
         },
         ReadStep::Quiet => {
-            if pause(rt, own) {
-                Turn::On
-            } else {
+            if told {
                 Turn::Closed
+            } else {
+                pause(rt, own);
+                Turn::On
             }
         }
         ReadStep::End => Turn::Over(Ending::End),
@@ -118,8 +120,8 @@ fn read_all<M: Maker, S: Source, R: Wait + Copy>(
 }
 
 /// Reads a device to its end. Each read that gives bytes makes a piece of them, with the clock's stamp; the last piece
-/// tells how the source ended. None: it was told to end before that was put, by its own bell, at a read that gave nothing
-/// or at a full lane.
+/// tells how the source ended. None: it was told to end before that was put, by its own bell, which was closed before a read
+/// that gave nothing, or at a full lane.
 ///
 /// It rings the pump after each piece, and sleeps on its own bell while its lane is full.
 pub fn read_device<S: Source, C: Clock, D: Dials, R: Wait + Copy>(

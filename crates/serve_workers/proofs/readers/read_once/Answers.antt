@@ -20,8 +20,8 @@ pub returns-in-Err-clause-read : goal.returns-in-Err-clause-read
 returns-in-Err-clause-read g c =
     was_read _ c.read.new.buf _ _ _ _ _ _ (search rules) c.read.ensures.bytes c.read.ensures.failed c.read.ensures.quiet
 
-pub returns-else-pause-clause-turns : goal.returns-else-pause-clause-turns
-returns-else-pause-clause-turns g c = stopped _ _ _ _ _ c.in-Quiet.ensures.bytes
+pub returns-then-told-clause-turns : goal.returns-then-told-clause-turns
+returns-then-told-clause-turns g c = stopped _ _ _ _ _ c.in-Quiet.ensures.bytes
 
 pub returns-in-End-clause-read : goal.returns-in-End-clause-read
 returns-in-End-clause-read g c =

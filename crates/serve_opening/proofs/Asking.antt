@@ -1,8 +1,7 @@
 -- Places that are asked for one after another.
-use Rattle.std.proofs.Common.{◌≡◌, ℕ, ◌≤◌, ◌<◌, ◌+◌, ◌⊎◌, inl, inr, List, [], ◌∷◌, ◌++◌, length, Option, Some, None, refl, sym, ◌∙◌, ap, subst, append_assoc, arith}
+use Rattle.std.proofs.Common.{◌≡◌, ℕ, ◌≤◌, ◌<◌, ◌+◌, ◌⊎◌, inl, List, [], ◌∷◌, ◌++◌, length, Option, Some, None, refl, sym, ◌∙◌, ap, subst, append_assoc, arith}
 use Rattle.std.specs.Option.{option_to_list}
 use Rattle.std.proofs.lemmas.List.{length-append}
-use Rattle.gps_outside.specs.Counts.{Rose}
 use Rattle.gps_world.specs.Asking.{Asking}
 use Rattle.gps_world.specs.declared.place.Place.{Place}
 use Rattle.serve_opening.specs.declared.opening.Stop.{Stop}
@@ -44,7 +43,7 @@ has_room places left place old mid f g so few =
     let same : length (mid.places ++ place ∷ left) ≡ length (old.places ++ places) = ap length so.asked in
     omega (arith, length-append mid.places (place ∷ left), length-append old.places places)
 
-places_in_step : (place : Option Place) (left : List (Option Place)) → places_in (place ∷ left) ≡ option_to_list place ++ places_in left
+pub places_in_step : (place : Option Place) (left : List (Option Place)) → places_in (place ∷ left) ≡ option_to_list place ++ places_in left
 places_in_step None left = refl
 places_in_step (Some place) left = refl
 
@@ -53,6 +52,13 @@ pub room_at : {places now left : List Place} {place : Place} {old mid : Asking} 
     → now ≡ place ∷ left → IsAsking places now old mid f g → length old.places + length places ≤ 16 → length mid.places < 16
 room_at {places} {now} {left} {place} {old} {mid} {f} {g} is so few =
     has_room places left place old mid f g (subst (λ l. IsAsking places l old mid f g) is so) few
+
+-- so far it asks for one place more
+pub asks_at : {places now left : List Place} {place : Place} {old mid new : Asking} {f g h : WorldFaults}
+    → now ≡ place ∷ left → IsAsking places now old mid f g → new.places ≡ mid.places ++ place ∷ [] → new.address ≡ mid.address → FaultsStay g h
+    → IsAsking places left old new f h
+asks_at {places} {now} {left} {place} {old} {mid} {new} {f} {g} {h} is so asked address stay =
+    asks_more places left place old mid new f g h (subst (λ l. IsAsking places l old mid f g) is so) asked address stay
 
 -- it stopped at a place
 pub stopped_at : {places now left : List Place} {place : Place} {old mid new : Asking} {f g : WorldFaults}
@@ -71,6 +77,17 @@ edge_room_at {places} {now} {left} {place} {old} {mid} {f} {g} is so few =
     let same : length (mid.places ++ (option_to_list place ++ places_in left)) ≡ length (old.places ++ places) =
     ap (λ l. length (mid.places ++ l)) (sym (places_in_step place left) ∙ ap places_in (sym is)) ∙ ap length so.asked in
     omega (arith, length-append mid.places (option_to_list place ++ places_in left), length-append (option_to_list place) (places_in left), length-append old.places places)
+
+pub edge_asks_at : {places : List Place} {now left : List (Option Place)} {place : Option Place} {old mid new : Asking} {f g h : WorldFaults}
+    → now ≡ place ∷ left → IsAsking places (places_in now) old mid f g → new.places ≡ mid.places ++ option_to_list place → new.address ≡ mid.address → FaultsStay g h
+    → IsAsking places (places_in left) old new f h
+edge_asks_at {places} {now} {left} {place} {old} {mid} {new} {f} {g} {h} is so asked address stay = record {
+  asked =
+      ap (λ front. front ++ places_in left) asked ∙ append_assoc mid.places (option_to_list place) (places_in left)
+      ∙ ap (λ l. mid.places ++ l) (sym (places_in_step place left) ∙ ap places_in (sym is)) ∙ so.asked;
+  address = address ∙ so.address;
+  faults_stay = stay_on f g h so.faults_stay stay;
+}
 
 pub edge_stopped_at : {places : List Place} {now left : List (Option Place)} {place : Option Place} {old mid new : Asking} {f g : WorldFaults}
     → now ≡ place ∷ left → IsAsking places (places_in now) old mid f g → new.places ≡ mid.places ++ option_to_list place → new.address ≡ mid.address

@@ -1,5 +1,5 @@
 -- Sources from which nothing was taken, opened one after another.
-use Rattle.std.proofs.Common.{◌≡◌, ℕ, List, [], ◌∷◌, ◌++◌, Option, Some, None}
+use Rattle.std.proofs.Common.{ℕ, List, [], ◌∷◌, ◌++◌, Option, Some, None}
 use Rattle.std.specs.Option.{option_to_list}
 use Rattle.gps_outside.specs.Links.{IsUnread}
 use Rattle.gps_outside.specs.Told.{Stream}

@@ -1,6 +1,6 @@
 -- What opening the outside of a daemon comes to. This project's own.
-use Rattle.std.specs.Prelude.{◌≡◌, ℕ, ◌≤◌, ◌⊎◌, List, [], ◌∷◌, ◌++◌, length, Result, Ok, Err, Option, Some, None, option_map}
-use Rattle.std.specs.Option.{option_to_list}
+use Rattle.std.specs.Prelude.{◌≡◌, ◌≢◌, ℕ, ◌≤◌, ◌⊎◌, List, [], ◌∷◌, ◌++◌, Result, Ok, Err, Option, Some, None, option_map}
+use Rattle.std.specs.List.{AllByRecursion, AllZip, IsDistinct}
 use Rattle.gps_fixed.specs.Moment.{Moment}
 use Rattle.gps_outside.specs.Counts.{Rose}
 use Rattle.gps_outside.specs.Links.{IsUnread}
@@ -8,6 +8,8 @@ use Rattle.gps_outside.specs.Ticks.{Dial}
 use Rattle.gps_outside.specs.Told.{Stream}
 use Rattle.gps_world.specs.Asking.{Asking}
 use Rattle.gps_world.specs.declared.place.Place.{Place}
+use Rattle.gps_world.specs.Opening.{Holds}
+use Rattle.gps_world.specs.Places.{same_place}
 use Rattle.serve_opening.specs.declared.opening.Stop.{Stop}
 use Rattle.serve_opening.specs.declared.opening.Stop.TheVariants.{Input, Listen, NoMemory}
 
@@ -85,3 +87,39 @@ sources_in (Some source ∷ sources) = source ∷ sources_in sources
 pub record TellsAsBefore {L D : Type 0} (links links' : Option L) (stamps stamps' : Option D) : Type 0 where
   pub links_are : links' ≡ links
   pub stamps_are : stamps' ≡ stamps
+
+-- no place is given twice
+abbrev pub GivenOnce : List Place → Type 0
+GivenOnce places = IsDistinct same_place places
+
+-- where the bytes behind the place were told, they are all left in the source
+abbrev pub IsHeld : {S : Type 0} → (Place → Option (List ℕ)) → (S → Option Stream) → Place → S → Type 0
+IsHeld behind content place source = Holds (behind place) (content source)
+
+-- the same of the edges of a device, where it has a place for them
+abbrev pub IsEdgeHeld : {S : Type 0} → (Place → Option (List ℕ)) → (S → Option Stream) → Option Place → Option S → Type 0
+IsEdgeHeld behind content None None = Unit {0}
+IsEdgeHeld behind content (Some place) (Some source) = IsHeld behind content place source
+IsEdgeHeld behind content None (Some source) = ⊥
+IsEdgeHeld behind content (Some place) None = ⊥
+
+-- it is none of these places
+abbrev pub IsNoneOf : Place → List Place → Type 0
+IsNoneOf other places = AllByRecursion (λ (place : Place). other ≢ place) places
+
+-- there is one more, of which P holds
+abbrev pub Gains : {X : Type 0} → (X → Type 0) → List X → List X → Type 0
+Gains {X} P old new = (x : X) × (new ≡ old ++ x ∷ []) × P x
+
+-- So far all but those left were opened. What is behind other places is as it was, and where no place is given twice, each source is as R says.
+pub record IsOpening {A X : Type 0} (places_of : List A → List Place) (R : A → X → Type 0) (behind behind' : Place → Option (List ℕ)) (given left : List A) (sources : List X) : Type 0 where
+  pub done : List A
+  pub all : done ++ left ≡ given
+  pub others : (other : Place) → IsNoneOf other (places_of done) → behind' other ≡ behind other
+  pub held : GivenOnce (places_of given) → AllZip R done sources
+
+abbrev pub IsOpeningInputs : {S : Type 0} → (Place → Option (List ℕ)) → (Place → Option (List ℕ)) → (S → Option Stream) → List Place → List Place → List S → Type 0
+IsOpeningInputs behind behind' content given left sources = IsOpening (λ (places : List Place). places) (IsHeld behind content) behind behind' given left sources
+
+abbrev pub IsOpeningEdges : {S : Type 0} → (Place → Option (List ℕ)) → (Place → Option (List ℕ)) → (S → Option Stream) → List (Option Place) → List (Option Place) → List (Option S) → Type 0
+IsOpeningEdges behind behind' content given left sources = IsOpening places_in (IsEdgeHeld behind content) behind behind' given left sources

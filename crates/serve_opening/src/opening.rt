@@ -1,8 +1,10 @@
-ghost use Rattle.std.specs.Prelude.{◌≡◌, ◌≤◌, ◌<◌, ◌+◌, ◌++◌, ◌⊎◌, [], ◌∷◌, None, Some, length, IfOk, OnOk, IfErr, Ok, Err};
+ghost use Rattle.std.specs.Prelude.{◌≡◌, ◌≢◌, ◌≤◌, ◌<◌, ◌+◌, ◌++◌, ◌⊎◌, [], ◌∷◌, None, Some, length, IfOk, OnOk, IfErr, Ok, Err};
+ghost use Rattle.std.specs.List.{AllZip};
 ghost use Rattle.std.specs.Option.{option_to_list};
 ghost use Rattle.gps_outside.specs.Links.{IsUnread};
 ghost use Rattle.gps_world.specs.Opening.{Tells};
-ghost use Rattle.serve_opening.specs.Opening.{AreUnread, AsksFor, FaultsStay, HasCause, OpenAsks, TellsAsBefore, places_in, sources_in, world_faults};
+ghost use Rattle.gps_world.specs.declared.place.Place.{Place};
+ghost use Rattle.serve_opening.specs.Opening.{AreUnread, AsksFor, FaultsStay, Gains, GivenOnce, HasCause, IsEdgeHeld, IsHeld, IsNoneOf, OpenAsks, TellsAsBefore, places_in, sources_in, world_faults};
 
 use gps_fixed::Bytes;
 use gps_world::{Opened, Place, World};
@@ -35,6 +37,8 @@ fn open_place<W: World>(world: &mut W, place: Place) -> Result<W::In, Stop>
     ensures address { (W.asked world.new).address ≡ (W.asked world.old).address }
     ensures tells { TellsAsBefore (W.links world.old) (W.links world.new) (W.stamps world.old) (W.stamps world.new) }
     ensures unread { IfOk result (λ source. IsUnread (W.In.content source) (W.In.faults source) (W.In.quiets source)) }
+    ensures held { IfOk result (λ source. IsHeld (W.behind world.old) W.In.content place source) }
+    ensures others { (other : Place) → other ≢ place → W.behind world.new other ≡ W.behind world.old other }
 {
     match world.input(place) {
         Opened::Ready(source) => Ok(source),
@@ -52,6 +56,8 @@ fn open_one<W: World>(world: &mut W, place: Place, opened: &mut Vec<W::In>) -> R
     ensures count { OnOk result (length opened.new.items ≡ length opened.old.items + 1) }
     ensures tells { TellsAsBefore (W.links world.old) (W.links world.new) (W.stamps world.old) (W.stamps world.new) }
     ensures unread { AreUnread W.In.content W.In.faults W.In.quiets opened.old.items → AreUnread W.In.content W.In.faults W.In.quiets opened.new.items }
+    ensures held { OnOk result (Gains (IsHeld (W.behind world.old) W.In.content place) opened.old.items opened.new.items) }
+    ensures others { (other : Place) → other ≢ place → W.behind world.new other ≡ W.behind world.old other }
 {
     match open_place(world, place) {
         Ok(source) => match opened.push(source) {
@@ -75,6 +81,8 @@ fn open_inputs<W: World>(
     ensures count { IfOk result (λ opened. length opened.items ≡ length places.items) }
     ensures tells { TellsAsBefore (W.links world.old) (W.links world.new) (W.stamps world.old) (W.stamps world.new) }
     ensures unread { IfOk result (λ opened. AreUnread W.In.content W.In.faults W.In.quiets opened.items) }
+    ensures held { GivenOnce places.items → IfOk result (λ opened. AllZip (IsHeld (W.behind world.old) W.In.content) places.items opened.items) }
+    ensures others { OnOk result ((other : Place) → IsNoneOf other places.items → W.behind world.new other ≡ W.behind world.old other) }
 {
     let mut opened = room;
     'places: for place in places {
@@ -94,6 +102,8 @@ fn open_edge<W: World>(world: &mut W, place: Option<Place>) -> Result<Option<W::
     ensures address { (W.asked world.new).address ≡ (W.asked world.old).address }
     ensures tells { TellsAsBefore (W.links world.old) (W.links world.new) (W.stamps world.old) (W.stamps world.new) }
     ensures unread { IfOk result (λ source. AreUnread W.In.content W.In.faults W.In.quiets (option_to_list source)) }
+    ensures held { IfOk result (λ source. IsEdgeHeld (W.behind world.old) W.In.content place source) }
+    ensures others { (other : Place) → IsNoneOf other (option_to_list place) → W.behind world.new other ≡ W.behind world.old other }
 {
     match place {
         Some(place) => match open_place(world, place) {
@@ -118,6 +128,8 @@ fn open_next<W: World>(
     ensures count { OnOk result (length opened.new.items ≡ length opened.old.items + 1) }
     ensures tells { TellsAsBefore (W.links world.old) (W.links world.new) (W.stamps world.old) (W.stamps world.new) }
     ensures unread { AreUnread W.In.content W.In.faults W.In.quiets (sources_in opened.old.items) → AreUnread W.In.content W.In.faults W.In.quiets (sources_in opened.new.items) }
+    ensures held { OnOk result (Gains (IsEdgeHeld (W.behind world.old) W.In.content place) opened.old.items opened.new.items) }
+    ensures others { (other : Place) → IsNoneOf other (option_to_list place) → W.behind world.new other ≡ W.behind world.old other }
 {
     match open_edge(world, place) {
         Ok(source) => match opened.push(source) {
@@ -141,6 +153,7 @@ fn open_edges<W: World>(
     ensures count { IfOk result (λ opened. length opened.items ≡ length places.items) }
     ensures tells { TellsAsBefore (W.links world.old) (W.links world.new) (W.stamps world.old) (W.stamps world.new) }
     ensures unread { IfOk result (λ opened. AreUnread W.In.content W.In.faults W.In.quiets (sources_in opened.items)) }
+    ensures held { GivenOnce (places_in places.items) → IfOk result (λ opened. AllZip (IsEdgeHeld (W.behind world.old) W.In.content) places.items opened.items) }
 {
     let mut opened = room;
     'places: for place in places {
@@ -184,6 +197,7 @@ pub fn open<W: World>(
     ensures inputs { IfOk result (λ outside. length outside.inputs.items ≡ length inputs.items) }
     ensures edges { IfOk result (λ outside. length outside.edges.items ≡ length edges.items) }
     ensures unread { IfOk result (λ outside. AreUnread W.In.content W.In.faults W.In.quiets outside.inputs.items × AreUnread W.In.content W.In.faults W.In.quiets (sources_in outside.edges.items)) }
+    ensures held { GivenOnce (inputs.items ++ places_in edges.items) → IfOk result (λ outside. AllZip (IsHeld (W.behind world.old) W.In.content) inputs.items outside.inputs.items × AllZip (IsEdgeHeld (W.behind world.old) W.In.content) edges.items outside.edges.items) }
     ensures links { IfOk result (λ outside. Tells (W.links world.old) (W.Gate.links outside.gate)) }
     ensures stamps { IfOk result (λ outside. Tells (W.stamps world.old) (W.Now.stamps outside.clock)) }
     ensures unused { IfOk result (λ outside. (W.Gate.faults outside.gate ≡ 0) × (W.Gate.quiets outside.gate ≡ 0)) }

@@ -1,4 +1,6 @@
-use Rattle.serve_opening.proofs.Asking.{edge_room_at, edge_stopped_at}
+use Rattle.std.proofs.Common.{rules}
+use Rattle.serve_opening.proofs.Asking.{edge_asks_at, edge_room_at, edge_stopped_at}
+use Rattle.serve_opening.proofs.Held.{edge_more}
 use Rattle.serve_opening.proofs.opening.open_edges.Goals as goal
 
 pub open_next-requires-after_bounds : goal.open_next-requires-after_bounds
@@ -6,3 +8,12 @@ open_next-requires-after_bounds g c κs within = edge_room_at c.in-Some.ensures.
 
 pub returns-in-Err-clause-asked : goal.returns-in-Err-clause-asked
 returns-in-Err-clause-asked g c = edge_stopped_at c.in-Some.ensures.steps.0 c.places.invariant.so c.in-Err.ensures.places c.in-Err.ensures.address
+
+pub places-preserved : goal.places-preserved
+places-preserved g c = record {
+  so = edge_asks_at c.in-Some.ensures.steps.0 c.places.invariant.so c.in-Ok.ensures.places c.in-Ok.ensures.address c.in-Ok.ensures.faults_stay;
+  tells = search rules;
+  unread = c.in-Ok.ensures.unread c.places.invariant.unread;
+  held = edge_more g.W.In.Source.content c.in-Some.ensures.steps.0 c.places.invariant.held c.in-Ok.ensures.others c.in-Ok.ensures.held;
+  count = search rules;
+}

@@ -1,18 +1,21 @@
 -- A session is admitted, or is not.
-use Rattle.std.proofs.Common.{◌≡◌, ℕ, Bool, true, false, List, [], ◌∷◌, ◌++◌, length, map, Option, Some, None, refl, sym, ap, ◌∙◌, subst}
+use Rattle.std.proofs.Common.{◌≡◌, ℕ, ◌≤◌, ◌||◌, Bool, true, false, cond, nat_eq, List, [], ◌∷◌, ◌++◌, length, map, Option, Some, None, refl, sym, ap, ◌∙◌, subst, arith, eqb-true}
 use Rattle.std.specs.Prelude.{Result, Ok, Err}
 use Rattle.std.specs.List.{list_all}
+use Rattle.std.proofs.lemmas.List.Sums.{count_by-le-length}
 use Rattle.atomic_table.specs.Seated.{TableId}
 use Rattle.book_log.specs.Logged.{Logged}
 use Rattle.book_log.specs.Standing.{has_stopped}
-use Rattle.book_sessions.specs.Attendance.{Attendance}
+use Rattle.book_sessions.specs.Attendance.{Attendance, is_open}
+use Rattle.book_sessions.specs.Roster.{live_in, most_live, most_opened}
 use Rattle.gps_lane.specs.Ends.{Putting, Taking}
 use Rattle.hub_door.specs.Admissions.{Admissions, Link, admitting, link_of}
 use Rattle.report_book.specs.BookView.{BookView}
 use Rattle.report_book.specs.Moves.{Admits}
-use Rattle.report_book.specs.Refusals.{RefusesWith}
+use Rattle.report_book.specs.Refusals.{RefusesWith, crowd_fault}
 use Rattle.report_book.specs.Standing.{Holds as BookHolds}
 use Rattle.report_book.specs.declared.fault.BookFault.{BookFault}
+use Rattle.report_book.specs.declared.fault.BookFault.TheVariants.{TooManySessions, NoMemory}
 use Rattle.serve_pieces.specs.declared.piece.Piece.{Piece}
 use Rattle.session_core.specs.Naming.{OutletName, of_table}
 use Rattle.hub_laws.specs.Keeping.{HubKeeps, Lasts}
@@ -20,7 +23,7 @@ use Rattle.hub_laws.specs.Parts.{AreAdmitted, HubView, Terms}
 use Rattle.hub_laws.proofs.Calls.{hub_admit}
 use Rattle.hub_laws.proofs.Hubs.{map_length}
 use Rattle.hub_laws.proofs.Shutting.{ended_there, hub_shut}
-use Rattle.gps_hub.specs.Admitting.{RefusesLink, ShutIf}
+use Rattle.gps_hub.specs.Admitting.{IsCrowded, RefusesLink, ShutIf, fault_or_memory}
 
 -- each device of a book that was shut has stopped
 pub shut_ended : (terms : Terms) (h : HubView) (lasts : List Lasts) → HubKeeps terms h lasts → h.is_shut ≡ true → list_all (λ line. has_stopped line.stage) h.book.log.present.lines ≡ true
@@ -68,3 +71,28 @@ not_refused X O I o now x same refused = by_fault now (subst (λ (t : Option Boo
     by_fault : (t : Option BookFault) → RefusesWith {X = X} {O = O} t (Ok x) → RefusesLink {X = X} {O = O} {I = I} t (Ok x)
     by_fault (Some found) again = absurd (cc (again.1))
     by_fault None again = tt
+
+-- so many live sessions, or so many that were opened, are at least 64
+many : (live opened : ℕ) → live ≤ opened → nat_eq live most_live || nat_eq opened most_opened ≡ true → 64 ≤ opened
+many live opened few is = by_live (nat_eq live most_live) refl is
+  where
+    by_live : (b : Bool) → nat_eq live most_live ≡ b → b || nat_eq opened most_opened ≡ true → 64 ≤ opened
+    by_live true same is = omega (arith, few, eqb-true live most_live same)
+    by_live false other is = let all : nat_eq opened most_opened ≡ true = is in omega (arith, eqb-true opened most_opened all)
+
+pub crowded : (b : BookView) (admitted : ℕ) → length b.sessions ≡ admitted → IsCrowded (fault_or_memory (crowd_fault b)) admitted
+crowded b admitted same = by_crowd (nat_eq (live_in b.sessions) most_live || nat_eq (length b.sessions) most_opened) refl
+  where
+    by_crowd : (full : Bool) → nat_eq (live_in b.sessions) most_live || nat_eq (length b.sessions) most_opened ≡ full
+        → IsCrowded (fault_or_memory (cond full (Some (TooManySessions (live_in b.sessions) (length b.sessions))) None)) admitted
+    by_crowd true is = omega (arith, same, many (live_in b.sessions) (length b.sessions) (count_by-le-length is_open b.sessions) is)
+    by_crowd false is = tt
+
+-- the fault of a refusal
+pub fault_of : (X O : Type 0) (o : Option BookFault) (outlet : O) (fault : BookFault) → RefusesWith {X = X} o (Err (outlet, fault)) → fault ≡ fault_or_memory o
+fault_of X O (Some found) outlet fault refused = ap (fault_in found) refused.1
+  where
+    fault_in : BookFault → Result X (O × BookFault) → BookFault
+    fault_in other (Ok x) = other
+    fault_in other (Err refusal) = refusal.1
+fault_of X O None outlet fault refused = refused

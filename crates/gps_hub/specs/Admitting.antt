@@ -1,12 +1,12 @@
 -- What an admission does, and why one is refused. This project's own.
-use Rattle.std.specs.Prelude.{◌≡◌, Bool, true, false, Option, Some, None, Result, Err, IfErr}
+use Rattle.std.specs.Prelude.{◌≡◌, ◌≤◌, ℕ, Bool, true, false, Option, Some, None, Result, Err, IfErr}
 use Rattle.gps_lane.specs.Ends.{Putting, Taking}
 use Rattle.report_book.specs.BookView.{BookView}
 use Rattle.hub_door.specs.Admissions.{Link}
 use Rattle.report_book.specs.Moves.{Admits, ShutsAll}
 use Rattle.session_core.specs.Naming.{of_table}
 use Rattle.report_book.specs.declared.fault.BookFault.{BookFault}
-use Rattle.report_book.specs.declared.fault.BookFault.TheVariants.{NoMemory}
+use Rattle.report_book.specs.declared.fault.BookFault.TheVariants.{NoSuch, Ended, TooManySessions, NoMemory}
 
 -- where the book was shut before, the new session is closed at once
 abbrev pub ShutIf : Bool → BookView → BookView → Type 0
@@ -26,3 +26,10 @@ fault_or_memory None = NoMemory
 abbrev pub RefusesLink : {X O I : Type 0} → Option BookFault → Result X (O × I × BookFault) → Type 0
 RefusesLink (Some fault) result = (outlet : _) × (input : _) × (result ≡ Err (outlet, input, fault))
 RefusesLink None result = IfErr result (λ refusal. refusal.2 ≡ NoMemory)
+
+-- where too many sessions are the fault, at least 64 were admitted before
+abbrev pub IsCrowded : BookFault → ℕ → Type 0
+IsCrowded NoSuch admitted = Unit {0}
+IsCrowded Ended admitted = Unit {0}
+IsCrowded (TooManySessions live opened) admitted = 64 ≤ admitted
+IsCrowded NoMemory admitted = Unit {0}

@@ -9,7 +9,7 @@ ghost use Rattle.report_book.specs.Standing.{Holds as BookHolds};
 ghost use Rattle.hub_laws.specs.DaemonHub.{DaemonHub, MayGoOn};
 ghost use Rattle.hub_laws.specs.Keeping.{IsClosed, IsUnused, NothingGot};
 ghost use Rattle.hub_laws.specs.Parts.{AreAdmitted, parts_of, terms_of};
-ghost use Rattle.gps_hub.specs.Admitting.{AdmitsAs, RefusesLink};
+ghost use Rattle.gps_hub.specs.Admitting.{AdmitsAs, IsCrowded, RefusesLink};
 ghost use Rattle.gps_hub.specs.Pumping.{DevicePumped, IsWaiting, SessionPumped};
 
 use crate::device::pump as pump_device;
@@ -206,8 +206,10 @@ impl<J: HubNaming, R: Wait + Copy> Hub<J, R> {
         ensures input { IfErr result (λ r. r.1 ≡ input) }
         ensures unchanged { OnErr result (self.new ≡ self.old) }
         ensures same_door { OnErr result (door.new ≡ door.old) }
+        ensures crowded { IfErr result (λ r. IsCrowded r.2 (length door.old.links)) }
     {
         let Ok(()) = take_room(&mut self.inputs, &mut self.watching) else {
+            self.keeper.agree(door);
             let fault = refusal_of(&self.book);
             return Err((outlet, input, fault));
         };
@@ -220,7 +222,10 @@ impl<J: HubNaming, R: Wait + Copy> Hub<J, R> {
                 self.watching.add(s);
                 Ok(s)
             }
-            Err((outlet, fault)) => Err((outlet, input, fault)),
+            Err((outlet, fault)) => {
+                self.keeper.agree(door);
+                Err((outlet, input, fault))
+            }
         }
     }
 

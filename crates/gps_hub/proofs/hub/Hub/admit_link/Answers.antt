@@ -6,8 +6,8 @@ use Rattle.report_book.specs.Refusals.{crowd_fault}
 use Rattle.serve_pieces.specs.declared.piece.Piece.{Piece}
 use Rattle.hub_laws.specs.Keeping.{HubKeeps}
 use Rattle.hub_laws.specs.Parts.{HubView}
-use Rattle.gps_hub.specs.Admitting.{AdmitsAs, RefusesLink}
-use Rattle.gps_hub.proofs.Opening.{numbered, not_refused, opened_keeps, refuses_again, shut_ended}
+use Rattle.gps_hub.specs.Admitting.{AdmitsAs, IsCrowded, RefusesLink}
+use Rattle.gps_hub.proofs.Opening.{crowded, fault_of, numbered, not_refused, opened_keeps, refuses_again, shut_ended}
 use Rattle.gps_hub.proofs.hub.Hub.admit_link.Goals as goal
 
 pub open-requires-clause-ended : goal.open-requires-clause-ended
@@ -43,3 +43,17 @@ returns-in-Ok-open-clause-refusal g c =
 pub returns-in-Err-clause-refusal : goal.returns-in-Err-clause-refusal
 returns-in-Err-clause-refusal g c =
     refuses_again _ _ _ (crowd_fault c.self.inside.book) (crowd_fault c.args.self.now.book) c.in-Err.outlet c.args.input c.in-Err.fault (ap (λ (v : HubView). crowd_fault v.book) c.self.view_is) c.in-Err.ensures.refusal
+
+pub returns-in_default-clause-crowded : goal.returns-in_default-clause-crowded
+returns-in_default-clause-crowded g c =
+    let count = numbered c.self.inside.keeper.links c.self.inside.book.sessions c.self.inside.inputs.items c.self.invariant.0.admitted
+    ∙ ap (λ (a : Admissions). length a.links) c.agree.ensures.same in
+    subst (λ fault. IsCrowded fault (length c.args.door.now.links)) (sym c.refusal_of-fault.ensures) (crowded c.self.inside.book (length c.args.door.now.links) count)
+
+pub returns-in-Err-clause-crowded : goal.returns-in-Err-clause-crowded
+returns-in-Err-clause-crowded g c =
+    let count = numbered c.self.inside.keeper.links c.self.inside.book.sessions c.self.inside.inputs.items c.self.invariant.0.admitted
+    ∙ ap (λ (a : Admissions). length a.links) c.agree-in-Err.ensures.same in
+    subst (λ fault. IsCrowded fault (length c.args.door.now.links))
+    (sym (fault_of _ _ (crowd_fault c.self.inside.book) c.in-Err.outlet c.in-Err.fault c.in-Err.ensures.refusal))
+    (crowded c.self.inside.book (length c.args.door.now.links) count)

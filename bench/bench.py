@@ -17,38 +17,26 @@ import sys
 import tempfile
 import time
 
+TOP = os.path.dirname(os.path.dirname(os.path.abspath(__file__)))
+sys.path.insert(0, os.path.join(TOP, "tests"))
+from packets import frame, sentence
+
 MB = 1_000_000
 
 
-def sentence(body, error=0):
-    total = error
-    for byte in body:
-        total ^= byte
-    return b"$%s*%02X\r\n" % (body, total)
-
-
-def frame(kind, number, payload):
-    inner = bytes([kind, number]) + struct.pack("<H", len(payload)) + payload
-    a = b = 0
-    for byte in inner:
-        a = (a + byte) & 255
-        b = (b + a) & 255
-    return b"\xb5\x62" + inner + bytes([a, b])
-
-
 def nmea_second(rng, t):
-    clock = b"%02d%02d%02d.00" % (t // 3600 % 24, t // 60 % 60, t % 60)
-    date = b"%02d0624" % (1 + t // 86400 % 28)
-    where = b"4807.%05d,N,01131.%05d,E" % (rng.randrange(100_000), rng.randrange(100_000))
-    yield b"GPRMC,%s,A,%s,%d.%03d,084.40,%s,,,A" % (clock, where, rng.randrange(40), rng.randrange(1000), date)
-    yield b"GPVTG,084.40,T,,M,0.500,N,0.926,K,A"
-    yield b"GPGGA,%s,%s,1,08,0.94,545.4,M,46.9,M,," % (clock, where)
-    yield b"GPGSA,A,3,01,02,12,14,15,18,22,25,,,,,1.83,0.94,1.57"
+    clock = "%02d%02d%02d.00" % (t // 3600 % 24, t // 60 % 60, t % 60)
+    date = "%02d0624" % (1 + t // 86400 % 28)
+    where = "4807.%05d,N,01131.%05d,E" % (rng.randrange(100_000), rng.randrange(100_000))
+    yield "GPRMC,%s,A,%s,%d.%03d,084.40,%s,,,A" % (clock, where, rng.randrange(40), rng.randrange(1000), date)
+    yield "GPVTG,084.40,T,,M,0.500,N,0.926,K,A"
+    yield "GPGGA,%s,%s,1,08,0.94,545.4,M,46.9,M,," % (clock, where)
+    yield "GPGSA,A,3,01,02,12,14,15,18,22,25,,,,,1.83,0.94,1.57"
     for n in range(3):
-        group = b"".join(b",%02d,%02d,%03d,%02d" % (4 * n + k + 1, rng.randrange(91), rng.randrange(360), rng.randrange(50))
-                         for k in range(4))
-        yield b"GPGSV,3,%d,12%s" % (n + 1, group)
-    yield b"GPGLL,%s,%s,A,A" % (where, clock)
+        group = "".join(",%02d,%02d,%03d,%02d" % (4 * n + k + 1, rng.randrange(91), rng.randrange(360), rng.randrange(50))
+                        for k in range(4))
+        yield "GPGSV,3,%d,12%s" % (n + 1, group)
+    yield "GPGLL,%s,%s,A,A" % (where, clock)
 
 
 def nmea(size, error=0):
@@ -140,8 +128,7 @@ def line(name, best, size, packets):
 
 
 def main():
-    top = os.path.dirname(os.path.dirname(os.path.abspath(__file__)))
-    program = sys.argv[1] if len(sys.argv) > 1 else os.path.join(top, "crates/gpsrelay/out/gpsrelay")
+    program = sys.argv[1] if len(sys.argv) > 1 else os.path.join(TOP, "crates/gpsrelay/out/gpsrelay")
     rounds = int(sys.argv[2]) if len(sys.argv) > 2 else 3
     commands = {"gpsrelay": [program, "decode", "--history", "33554432"]}
     other = shutil.which("gpsdecode") or shutil.which("gpsdecode", path="/usr/bin:/usr/sbin")

@@ -17,6 +17,9 @@ import tempfile
 import threading
 import time
 
+sys.path.insert(0, os.path.join(os.path.dirname(os.path.dirname(os.path.abspath(__file__))), "tests"))
+from checks import free_port
+
 LOG, PROGRAM, NAMES = sys.argv[1], os.path.abspath(sys.argv[2]), sys.argv[3:]
 SHOWN, WIDTH = 5, 150
 PYTHON = r"""
@@ -37,12 +40,6 @@ CLIENTS = [("gpspipe -w", "gpspipe -w -n 8 127.0.0.1:PORT"), ("gpspipe -r", "gps
            ("gegps", "timeout 5 gegps -d PLACE 127.0.0.1:PORT; grep coordinates PLACE/Realtime_GPS.kml"), ("gpssubframe", "gpssubframe -x 3 127.0.0.1:PORT"),
            ("ubxtool", "ubxtool -p MON-VER -w 2 127.0.0.1:PORT"), ("gpsrinex", "gpsrinex -n 2 -i 1 -f PLACE/obs 127.0.0.1:PORT"),
            ("python3-gps", "/usr/bin/python3 PLACE/python.py PORT")]
-
-
-def free_port():
-    with socket.socket() as it:
-        it.bind(("127.0.0.1", 0))
-        return it.getsockname()[1]
 
 
 def parts(data):

@@ -2,9 +2,11 @@
 """Measures the daemon as its clients see it, and gpsd beside it where it is installed.
 
 Use: fan_out.py PROGRAM [SENTENCES [CLIENTS]]. A receiver behind TCP sends sentences as fast as they are taken; the clients watch in JSON.
-Printed: the time until all have all lines, the daemon's processor time a line, whether all streams are the same, peak memory; the time
-from a sentence's last byte to a client's first byte at ten sentences a second; the processor time of idle clients; and the longest
-silence of a quick client beside three that never read.
+Printed: the time until all have all lines, the daemon's processor time a line, whether all streams are the same, peak memory (with
+queues so long that no client overruns); the same with the default queues, from a FIFO that keeps at most AHEAD fixes ahead of the
+slowest client; the time from a sentence's last byte to a
+client's first byte at ten sentences a second; the processor time of idle clients; and the longest silence of a quick client beside
+three that never read, from its first fix on.
 """
 import os
 import re
@@ -18,17 +20,15 @@ import threading
 import time
 from hashlib import sha256
 
+sys.path.insert(0, os.path.join(os.path.dirname(os.path.dirname(os.path.abspath(__file__))), "tests"))
+from checks import free_port
+from packets import sentence
+
 PROGRAM = os.path.abspath(sys.argv[1])
 SENTENCES = int(sys.argv[2]) if len(sys.argv) > 2 else 100_000
 CLIENTS = int(sys.argv[3]) if len(sys.argv) > 3 else 64
+AHEAD = 2_000
 GPSD = shutil.which("gpsd") or (os.path.exists("/usr/sbin/gpsd") and "/usr/sbin/gpsd") or None
-
-
-def sentence(body):
-    total = 0
-    for byte in body.encode():
-        total ^= byte
-    return f"${body}*{total:02X}\r\n".encode()
 
 
 def stream(count):
@@ -41,32 +41,35 @@ def stream(count):
     return out
 
 
-def free_port():
-    with socket.socket() as it:
-        it.bind(("127.0.0.1", 0))
-        return it.getsockname()[1]
-
-
 class Run:
-    """A daemon with one device behind TCP."""
+    """A daemon with one device, behind TCP or, of gpsrelay, a FIFO."""
 
-    def __init__(self, kind, *words):
+    def __init__(self, kind, *words, fifo=False):
         self.listener = socket.create_server(("127.0.0.1", 0))
         self.listener.settimeout(10)
         device = self.listener.getsockname()[1]
         self.port = free_port()
-        if kind == "gpsd":
-            call = [GPSD, "-N", "-n", "-b", "-S", str(self.port), f"tcp://127.0.0.1:{device}"]
-        else:
-            call = [PROGRAM, "serve", "--listen", f"127.0.0.1:{self.port}", *words, f"gps0=tcp:127.0.0.1:{device}"]
-        self.process = subprocess.Popen(call, stdout=subprocess.DEVNULL, stderr=subprocess.DEVNULL)
         self.link = None
+        if fifo:
+            with tempfile.TemporaryDirectory() as place:
+                path = os.path.join(place, "fifo")
+                os.mkfifo(path)
+                self.start([PROGRAM, "serve", "--listen", f"127.0.0.1:{self.port}", *words, f"gps0=file:{path}"])
+                self.link = open(path, "wb", buffering=0)
+        elif kind == "gpsd":
+            self.start([GPSD, "-N", "-n", "-b", "-S", str(self.port), f"tcp://127.0.0.1:{device}"])
+        else:
+            self.start([PROGRAM, "serve", "--listen", f"127.0.0.1:{self.port}", *words, f"gps0=tcp:127.0.0.1:{device}"])
+
+    def start(self, call):
+        self.process = subprocess.Popen(call, stdout=subprocess.DEVNULL, stderr=subprocess.DEVNULL)
 
     def device(self):
+        """What sends to the daemon as the device."""
         if self.link is None:
             self.link, _ = self.listener.accept()
             self.link.setsockopt(socket.IPPROTO_TCP, socket.TCP_NODELAY, 1)
-        return self.link
+        return self.link.sendall if isinstance(self.link, socket.socket) else self.link.write
 
     def client(self, watch=b'?WATCH={"enable":true,"json":true};\n'):
         for _ in range(500):
@@ -98,22 +101,13 @@ class Run:
             self.process.wait()
 
 
-def fan_out(kind):
-    run = Run(kind, "--queue", "65536")
+def fan_out(kind, fifo=False):
+    run = Run(kind, fifo=True) if fifo else Run(kind, "--queue", "65536")
     clients = [run.client() for _ in range(CLIENTS)]
-    device = run.device()
+    send = run.device()
     time.sleep(0.5)
     lines = stream(SENTENCES)
     wanted = len(lines) // 2 - 2
-    before, begun = run.cpu(), time.monotonic()
-
-    def feed():
-        data = b"".join(lines)
-        for at in range(0, len(data), 65536):
-            device.sendall(data[at:at + 65536])
-
-    feeder = threading.Thread(target=feed)
-    feeder.start()
     chooser = selectors.DefaultSelector()
     state = {}
     for client in clients:
@@ -121,6 +115,16 @@ def fan_out(kind):
         chooser.register(client, selectors.EVENT_READ)
         state[client] = [b"", 0, sha256()]
     done = set()
+    before, begun = run.cpu(), time.monotonic()
+
+    def feed():
+        for at in range(0, len(lines), 1_000):
+            while fifo and at // 2 - min(it[1] for it in state.values()) > AHEAD and len(done) < len(clients):
+                time.sleep(0.0005)
+            send(b"".join(lines[at:at + 1_000]))
+
+    feeder = threading.Thread(target=feed)
+    feeder.start()
     end = time.monotonic() + 120
     while len(done) < len(clients) and time.monotonic() < end:
         for key, _ in chooser.select(1):
@@ -147,7 +151,7 @@ def fan_out(kind):
     counts = [it[1] for it in state.values()]
     total = sum(counts)
     same = len({it[2].hexdigest() for it in state.values()})
-    print(f"{kind:9} {SENTENCES} sentences, {CLIENTS} clients: {wall:.2f} s, {spent / max(total, 1) * 1e6:.2f} us of processor time a line, "
+    print(f"{kind:9} {SENTENCES} sentences{' from a FIFO, default queues' if fifo else ''}, {CLIENTS} clients: {wall:.2f} s, {spent / max(total, 1) * 1e6:.2f} us of processor time a line, "
           f"{total} lines, {sum(c >= wanted for c in counts)} clients have all, {same} different streams, peak {run.peak():.1f} MB", flush=True)
     feeder.join(10)
     for client in clients:
@@ -155,10 +159,15 @@ def fan_out(kind):
     run.end()
 
 
+def from_fifo(kind):
+    if kind == "gpsrelay":
+        fan_out(kind, fifo=True)
+
+
 def latency(kind):
     run = Run(kind)
     client = run.client(b'?WATCH={"enable":true,"nmea":true};\n')
-    device = run.device()
+    send = run.device()
     time.sleep(0.5)
     client.settimeout(2)
     try:
@@ -169,7 +178,7 @@ def latency(kind):
     client.settimeout(3)
     waits = []
     for line in stream(120):
-        device.sendall(line)
+        send(line)
         begun = time.monotonic()
         try:
             client.recv(65536)
@@ -207,25 +216,26 @@ def stuck(kind):
         it.setsockopt(socket.SOL_SOCKET, socket.SO_RCVBUF, 4096)
         it.sendall(b'?WATCH={"enable":true,"json":true,"nmea":true};\n')
         others.append(it)
-    device = run.device()
-    time.sleep(0.5)
+    send = run.device()
+    lines = stream(60_000)  # made before anything is measured
     stamps, stop = [], threading.Event()
 
     def read():
         quick.settimeout(1)
         while not stop.is_set():
             try:
-                if not quick.recv(1 << 16):
+                data = quick.recv(1 << 16)
+                if not data:
                     return
-                stamps.append(time.monotonic())
+                if stamps or b'"TPV"' in data:
+                    stamps.append(time.monotonic())
             except socket.timeout:
                 pass
 
     reader = threading.Thread(target=read)
     reader.start()
-    lines = stream(60_000)
     for at in range(0, len(lines), 20):
-        device.sendall(b"".join(lines[at:at + 20]))
+        send(b"".join(lines[at:at + 20]))
         time.sleep(0.004)
     time.sleep(1)
     stop.set()
@@ -237,6 +247,6 @@ def stuck(kind):
     run.end()
 
 
-for part in fan_out, latency, idle, stuck:
+for part in fan_out, from_fifo, latency, idle, stuck:
     for kind in ("gpsrelay",) + (("gpsd",) if GPSD else ()):
         part(kind)

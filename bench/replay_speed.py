@@ -10,12 +10,13 @@ greatest memory, of which some 16 MB are this script's, from before the program 
 """
 
 import datetime
-import functools
-import operator
 import os
 import subprocess
 import sys
 import tempfile
+
+sys.path.insert(0, os.path.join(os.path.dirname(os.path.dirname(os.path.abspath(__file__))), "tests"))
+from packets import sentence
 
 START = 1717243200
 OPENING = [
@@ -27,14 +28,10 @@ OPENING = [
 TAKING = ["store 0 13", "store 1 13", "store 2 13", "store 3 13", "load 0 12", "take 0 64", "take 1 64", "take 2 64"]
 
 
-def sentence(body):
-    return f"${body}*{functools.reduce(operator.xor, body.encode()):02X}"
-
-
 def sentences(t):
     at = datetime.datetime.fromtimestamp(START + t, datetime.timezone.utc)
     tod, day, part = at.strftime("%H%M%S"), at.strftime("%d%m%y"), f"{t * 7919 % 100000:05}"
-    return [sentence(body) for body in [
+    return [sentence(body)[:-2].decode() for body in [
         f"GPRMC,{tod},A,4807.{part},N,01131.{part},E,0.50,84.40,{day},,,A",
         "GPVTG,84.40,T,,M,0.50,N,0.93,K,A",
         f"GPGGA,{tod},4807.{part},N,01131.{part},E,1,04,0.90,545.4,M,46.9,M,,",

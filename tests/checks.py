@@ -1,4 +1,4 @@
-"""What the scripts over the built program share: checks that are counted, sentences with their sums, and free ports."""
+"""What the scripts over the built program share: checks that are counted, and free ports."""
 import socket
 
 failures = []
@@ -15,13 +15,6 @@ def check(name, wanted, found):
 def exit_status():
     """The exit status of a script: 1 where a check failed."""
     return 1 if failures else 0
-
-
-def sentence(body):
-    total = 0
-    for byte in body.encode():
-        total ^= byte
-    return f"${body}*{total:02X}\r\n".encode()
 
 
 def free_port():

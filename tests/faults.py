@@ -15,7 +15,8 @@ import sys
 import threading
 import time
 
-from checks import check, exit_status, free_port, sentence
+from checks import check, exit_status, free_port
+from packets import sentence
 
 PROGRAM = os.path.abspath(sys.argv[1])
 SAMPLES = os.path.join(os.path.dirname(os.path.dirname(os.path.abspath(__file__))), "samples")
@@ -49,13 +50,15 @@ def reader_goes():
     for words, path in COMMANDS[:3]:
         due = whole(words, path)
         for count in 1, 100, len(due) // 2:
+            reader, writer = os.pipe()
+            fcntl.fcntl(writer, fcntl.F_SETPIPE_SZ, 4096)
             with open(path, "rb") as it:
-                process = subprocess.Popen([PROGRAM, *words], stdin=it, stdout=subprocess.PIPE, stderr=subprocess.DEVNULL)
-            fcntl.fcntl(process.stdout, fcntl.F_SETPIPE_SZ, 4096)
-            had = os.read(process.stdout.fileno(), count)
-            while len(had) < count and (more := os.read(process.stdout.fileno(), count - len(had))):
+                process = subprocess.Popen([PROGRAM, *words], stdin=it, stdout=writer, stderr=subprocess.DEVNULL)
+            os.close(writer)
+            had = os.read(reader, count)
+            while len(had) < count and (more := os.read(reader, count - len(had))):
                 had += more
-            process.stdout.close()
+            os.close(reader)
             status = process.wait(WAIT)
             # Where all that was left fits into the pipe the program may have ended before.
             check(f"{words[0]}, its reader goes after {count} bytes", (True, True),

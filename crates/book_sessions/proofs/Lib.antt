@@ -5,3 +5,4 @@ pub mod Receiving
 pub mod Marks
 pub mod Places
 pub mod Rosters
+pub mod Listening

@@ -1,5 +1,5 @@
 -- What a roster keeps beside its sessions stays right.
-use Rattle.std.proofs.Common.{◌≡◌, ◌<◌, ⊎_elim, ℕ, ◌+◌, Bool, true, false, cond, not, ◌||◌, nat_eq, List, [], ◌∷◌, ◌++◌, length, map, filter, count_by, get_or, set, Option, Some, None, is_some, refl, sym, ap, ◌∙◌, subst, length-append, arith}
+use Rattle.std.proofs.Common.{◌≡◌, ◌<◌, ⊎_elim, ℕ, ◌+◌, Bool, true, false, cond, not, ◌||◌, ◌&&◌, if◌then◌else◌, nat_eq, slice_index_or, List, [], ◌∷◌, ◌++◌, length, map, filter, count_by, get_or, set, Option, Some, None, is_some, refl, sym, ap, ◌∙◌, subst, length-append, arith}
 use Rattle.std.specs.Int.{from_bool}
 use Rattle.std.specs.List.{AllZip, list_any}
 use Rattle.std.proofs.lemmas.Bool.{eq-eqb, or_from, or_parts, false≢true}
@@ -11,16 +11,18 @@ use Rattle.session_core.specs.Shown.{Shown, fresh, turned_marks, turned_closing}
 use Rattle.session_core.proofs.Gaining as gaining
 use Rattle.gps_command.specs.Kept.{Kept}
 use Rattle.gps_report.specs.declared.report.Report.{Report}
-use Rattle.book_batch.specs.Lines.{line_for}
-use Rattle.book_sessions.specs.Attendance.{Attendance, closed, is_open, renewed, with_kept}
-use Rattle.book_sessions.specs.Roster.{Closes, IsAtRest, IsOpenAt, IsRoster, Shuts, ShutsBy, Turns, live_in, most_live, most_opened, shut_at, shut_by, was_watched}
-use Rattle.book_sessions.specs.Spreading.{ReportsBy, Spreads, Unreported, cutter_by}
+use Rattle.gps_report.specs.declared.policy.Policy.{Policy}
+use Rattle.watch_policy.specs.Selection.{body_form, selected, watches}
+use Rattle.book_batch.specs.Lines.{line_for, line_in}
+use Rattle.book_sessions.specs.Attendance.{Attendance, closed, cutter_left, is_open, listens, renewed, with_kept}
+use Rattle.book_sessions.specs.Roster.{AreListening, Closes, IsAtRest, IsOpenAt, IsRoster, Shuts, ShutsBy, Turns, live_in, most_live, most_opened, shut_at, shut_by, was_watched}
+use Rattle.book_sessions.specs.Spreading.{Due, ReportsBy, Spreads, Takes, Unreported, cutter_by, due, due_at}
 use Rattle.book_sessions.specs.Walks.{numbers, Walks, passes_at}
 use Rattle.book_sessions.proofs.Walking.{walk_zip, walk_map, numbers_count, numbers_push, numbers_left, passes_got, filter_misses}
-use Rattle.book_sessions.proofs.Receiving.{closed_means, remained}
+use Rattle.book_sessions.proofs.Receiving.{closed_means, received, remained}
 use Rattle.book_sessions.proofs.Zips.{zip_map, zip_set, zip_weaker}
 
-open_is : (a : Attendance) → a.session.closing ≡ None → is_open a ≡ true
+pub open_is : (a : Attendance) → a.session.closing ≡ None → is_open a ≡ true
 open_is a none = ap (λ c. not (is_some c)) none
 
 rest_is_closed : (a : Attendance) → IsAtRest a → is_open a ≡ false
@@ -66,7 +68,7 @@ kept_roster live recent now_live watched now_watched old new roster later left c
     let fewer : AllZip (λ a b. is_open a ≡ false → is_open b ≡ false) old new =
     zip_weaker IsLater (λ a b. is_open a ≡ false → is_open b ≡ false) (λ a b h. h.closed) old new later in
     record {
-      live_ones = left ∙ ap (filter (passes_at is_open new)) roster.live_ones ∙ numbers_left is_open old new fewer;
+      live_ones = left ∙ ap (filter (passes_at is_open new)) roster.live_ones ∙ numbers_left is_open is_open old new fewer;
       recent_ones = λ k free within missing.
           let inside : k < length old = omega (arith, same, within) in
           (AllZip-get_or IsLater old new k free free later inside).rest (roster.recent_ones k free inside missing);
@@ -107,13 +109,13 @@ more_watched s next more old new within becomes now fresh =
     by true false h = refl
     by true true h = absurd (false≢true (sym (h refl)))
 
-numbers_zip : (n : ℕ) (xs ys : List Attendance) → AllZip (λ a b. is_open b ≡ is_open a) xs ys → numbers is_open n ys ≡ numbers is_open n xs
-numbers_zip n [] [] zip = refl
-numbers_zip n [] (y ∷ ys) zip = absurd zip
-numbers_zip n (x ∷ xs) [] zip = absurd zip
-numbers_zip n (x ∷ xs) (y ∷ ys) zip =
-    ap (λ l. cond (is_open y) (n ∷ l) l) (numbers_zip (n + 1) xs ys zip.1)
-    ∙ ap (λ b. cond b (n ∷ numbers is_open (n + 1) xs) (numbers is_open (n + 1) xs)) zip.0
+pub numbers_zip : (test : Attendance → Bool) (n : ℕ) (xs ys : List Attendance) → AllZip (λ a b. test b ≡ test a) xs ys → numbers test n ys ≡ numbers test n xs
+numbers_zip test n [] [] zip = refl
+numbers_zip test n [] (y ∷ ys) zip = absurd zip
+numbers_zip test n (x ∷ xs) [] zip = absurd zip
+numbers_zip test n (x ∷ xs) (y ∷ ys) zip =
+    ap (λ l. cond (test y) (n ∷ l) l) (numbers_zip test (n + 1) xs ys zip.1)
+    ∙ ap (λ b. cond b (n ∷ numbers test (n + 1) xs) (numbers test (n + 1) xs)) zip.0
 
 -- of one session other items are kept
 pub kept_changed : (live recent : List ℕ) (watched s : ℕ) (kept : Attendance → List (List ℕ)) (next : Attendance) (old new : List Attendance) → IsRoster live recent watched old
@@ -127,7 +129,7 @@ kept_changed live recent watched s kept next old new roster becomes now =
     let stays : AllZip (λ a b. is_open b ≡ is_open a) old (set old s next) = zip_set (λ a b. is_open b ≡ is_open a) (λ a. refl) old s next (λ free. ap is_open (now free)) in
     let length_is : length old ≡ length new = length_all_zip IsLater old new (subst Q (sym becomes) later) in
     record {
-      live_ones = roster.live_ones ∙ sym (ap (numbers is_open 0) becomes ∙ numbers_zip 0 old (set old s next) stays);
+      live_ones = roster.live_ones ∙ sym (ap (numbers is_open 0) becomes ∙ numbers_zip is_open 0 old (set old s next) stays);
       recent_ones = λ k free within missing.
           let inside : k < length old = omega (arith, length_is, within) in
           (AllZip-get_or IsLater old new k free free (subst Q (sym becomes) later) inside).rest (roster.recent_ones k free inside missing);
@@ -190,13 +192,38 @@ module _ (exact : Bool) (names : List (List ℕ)) (first : ℕ) (reports : List 
   pub spread_closed : (a : Attendance) → is_open a ≡ false → Becomes a a
   spread_closed a is = let found = closed_means a.session is in remained exact (line_for names) first reports found.0 a a found.1 refl
 
-  pub spread_zip : (live : List ℕ) (old new : List Attendance) → live ≡ numbers is_open 0 old → Walks Becomes live old new → AllZip Becomes old new
-  spread_zip live old new ones walks =
+  silent_due : (policy : Policy) (place : ℕ) (rest : List Report) → policy.enable ≡ false → due (line_for names) policy place rest ≡ []
+  silent_due policy place [] silent = refl
+  silent_due policy place (report ∷ rest) silent =
+      let form : selected policy names report ≡ None =
+      ap (λ b. if b && watches policy.device (slice_index_or names report.device []) then body_form policy report.body else None) silent in
+      ap (λ f. map (due_at place) (line_in names report f) ++ due (line_for names) policy (place + 1) rest) form ∙ silent_due policy (place + 1) rest silent
+
+  -- nothing is due to a session that does not listen
+  pub spread_silent : (a : Attendance) → listens a ≡ false → Becomes a a
+  spread_silent a is = by a.session.closing refl
+    where
+      by : (c : Option (ℕ × Close)) → a.session.closing ≡ c → Becomes a a
+      by None none =
+          let off : a.session.policy.enable ≡ false = sym (ap (λ o. o && a.session.policy.enable) (open_is a none)) ∙ is in
+          let P : List Due → Type 0 = λ l. Takes exact l a.session a.session in
+          let takes = subst P (sym (silent_due a.session.policy first reports off)) refl in
+          received exact names first reports a a a none takes refl (sym (ap (λ c. record a { cutter = cutter_left c a.cutter }) none))
+      by (Some closing) some = remained exact (line_for names) first reports closing a a some refl
+
+  pub spread_zip : (listening : List ℕ) (old new : List Attendance) → AreListening listening old → Walks Becomes listening old new → AllZip Becomes old new
+  spread_zip listening old new ones walks =
       let P : List ℕ → Type 0 = λ l. Walks Becomes l old new in
-      walk_zip is_open Becomes spread_closed old new (subst P ones walks)
+      walk_zip listens Becomes spread_silent old new (subst P ones walks)
+
+  -- where none listens
+  pub spread_to_none : (listening : List ℕ) (old : List Attendance) → AreListening listening old → listening ≡ [] → AllZip Becomes old old
+  spread_to_none listening old ones none =
+      let P : List ℕ → Type 0 = λ l. Walks Becomes l old old in
+      spread_zip listening old old ones (subst P (sym none) refl)
 
   -- a closed session stays as it is
-  spread_same : (a b : Attendance) (closing : ℕ × Close) → a.session.closing ≡ Some closing → Becomes a b → b ≡ a
+  pub spread_same : (a b : Attendance) (closing : ℕ × Close) → a.session.closing ≡ Some closing → Becomes a b → b ≡ a
   spread_same a b closing is_closed becomes =
       let R : Option (ℕ × Close) → Type 0 = λ c. ReportsBy c exact (line_for names) first reports a.session b.session in
       let session : Unreported (line_for names) first reports a.session b.session = subst R is_closed becomes.session in
@@ -212,9 +239,8 @@ module _ (exact : Bool) (names : List (List ℕ)) (first : ℕ) (reports : List 
   spread_watched a b becomes = becomes.watched
 
   pub spread_roster : (live recent now_live : List ℕ) (watched : ℕ) (old new : List Attendance) → IsRoster live recent watched old
-      → Walks Becomes live old new → now_live ≡ filter (passes_at is_open new) live → IsRoster now_live recent watched new
-  spread_roster live recent now_live watched old new roster walks left =
-      let each = spread_zip live old new roster.live_ones walks in
+      → AllZip Becomes old new → now_live ≡ filter (passes_at is_open new) live → IsRoster now_live recent watched new
+  spread_roster live recent now_live watched old new roster each left =
       kept_roster live recent now_live watched watched old new roster (zip_weaker Becomes IsLater spread_later old new each) left
       (roster.watched_ones ∙ sym (count_zip old new (zip_weaker Becomes (λ a b. b.watched ≡ a.watched) spread_watched old new each)))
 
@@ -228,7 +254,7 @@ renewed_by a (Some closing) = refl
 renewed_twice : (a : Attendance) → renewed (renewed a) ≡ renewed a
 renewed_twice a = renewed_by a a.session.closing
 
-renewed_open : (a : Attendance) → is_open (renewed a) ≡ is_open a
+pub renewed_open : (a : Attendance) → is_open (renewed a) ≡ is_open a
 renewed_open a = by a.session.closing
   where
     by : (c : Option (ℕ × Close)) → not (is_some (turned_closing c)) ≡ not (is_some c)
@@ -264,11 +290,12 @@ turned_zip live recent watched old new roster walks =
     let P : List Attendance → Type 0 = λ l. AllZip Turns old l in
     subst P (sym (turned_map live recent watched old new roster walks)) (zip_map Turns renewed turns_from old)
 
-numbers_map : (n : ℕ) (xs : List Attendance) → numbers is_open n (map renewed xs) ≡ numbers is_open n xs
-numbers_map n [] = refl
-numbers_map n (x ∷ xs) =
-    ap (λ l. cond (is_open (renewed x)) (n ∷ l) l) (numbers_map (n + 1) xs)
-    ∙ ap (λ b. cond b (n ∷ numbers is_open (n + 1) xs) (numbers is_open (n + 1) xs)) (renewed_open x)
+pub numbers_map : (test : Attendance → Bool) → ((a : Attendance) → test (renewed a) ≡ test a) → (n : ℕ) (xs : List Attendance)
+    → numbers test n (map renewed xs) ≡ numbers test n xs
+numbers_map test still n [] = refl
+numbers_map test still n (x ∷ xs) =
+    ap (λ l. cond (test (renewed x)) (n ∷ l) l) (numbers_map test still (n + 1) xs)
+    ∙ ap (λ b. cond b (n ∷ numbers test (n + 1) xs) (numbers test (n + 1) xs)) (still x)
 
 pub turned_roster : (live recent now_recent : List ℕ) (watched : ℕ) (old new : List Attendance) → IsRoster live recent watched old
     → Walks (λ a b. b ≡ renewed a) recent old new → now_recent ≡ filter (passes_at is_open new) recent → IsRoster live now_recent watched new
@@ -277,7 +304,7 @@ turned_roster live recent now_recent watched old new roster walks left =
     let same : length new ≡ length old = ap length all ∙ length-map old renewed in
     let counted : AllZip (λ a b. b.watched ≡ a.watched) old (map renewed old) = zip_map (λ a b. b.watched ≡ a.watched) renewed (λ a. refl) old in
     record {
-      live_ones = roster.live_ones ∙ sym (ap (numbers is_open 0) all ∙ numbers_map 0 old);
+      live_ones = roster.live_ones ∙ sym (ap (numbers is_open 0) all ∙ numbers_map is_open renewed_open 0 old);
       recent_ones = λ k free within missing.
           let inside : k < length old = omega (arith, same, within) in
           let here : get_or new k free ≡ renewed (get_or old k free) = ap (λ l. get_or l k free) all ∙ get_or-map renewed old k free free inside in

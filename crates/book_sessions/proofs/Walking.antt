@@ -166,36 +166,17 @@ module _ {A : Type 0} (test : A → Bool) where
   pub numbers_push : (xs : List A) (y : A) → test y ≡ true → numbers test 0 (xs ++ y ∷ []) ≡ numbers test 0 xs ++ length xs ∷ []
   numbers_push xs y passes = numbers_push_from 0 xs y passes ∙ ap (λ k. numbers test 0 xs ++ k ∷ []) (let e : 0 + length xs ≡ length xs = omega arith in e)
 
+  -- one that does not pass adds no number
+  numbers_push_none : (n : ℕ) (xs : List A) (y : A) → test y ≡ false → numbers test n (xs ++ y ∷ []) ≡ numbers test n xs
+  numbers_push_none n [] y fails = numbers_by n y [] fails
+  numbers_push_none n (x ∷ xs) y fails = ap (λ l. cond (test x) (n ∷ l) l) (numbers_push_none (n + 1) xs y fails)
+
+  pub numbers_stay : (xs : List A) (y : A) → test y ≡ false → numbers test 0 (xs ++ y ∷ []) ≡ numbers test 0 xs
+  numbers_stay xs y fails = numbers_push_none 0 xs y fails
+
   passes_here : (front : List A) (y : A) (ys : List A) → passes_at test (front ++ y ∷ ys) (length front) ≡ test y
   passes_here [] y ys = refl
   passes_here (x ∷ front) y ys = passes_here front y ys
-
-  Fewer : List A → List A → Type 0
-  Fewer xs ys = AllZip (λ x y. test x ≡ false → test y ≡ false) xs ys
-
-  numbers_left_from : (front : List A) (n : ℕ) (xs ys : List A) → length front ≡ n → AllZip (λ x y. test x ≡ false → test y ≡ false) xs ys
-      → filter (passes_at test (front ++ ys)) (numbers test n xs) ≡ numbers test n ys
-  numbers_left_from front n [] [] at fewer = refl
-  numbers_left_from front n [] (y ∷ ys) at fewer = absurd fewer
-  numbers_left_from front n (x ∷ xs) [] at fewer = absurd fewer
-  numbers_left_from front n (x ∷ xs) (y ∷ ys) at fewer =
-      let Keeps = passes_at test (front ++ y ∷ ys) in
-      let longer : length (front ++ y ∷ []) ≡ n + 1 = omega (arith, at, length-append front (y ∷ [])) in
-      let rest : filter Keeps (numbers test (n + 1) xs) ≡ numbers test (n + 1) ys =
-      ap (λ l. filter (passes_at test l) (numbers test (n + 1) xs)) (sym (append_assoc front (y ∷ []) ys))
-      ∙ numbers_left_from (front ++ y ∷ []) (n + 1) xs ys longer fewer.1 in
-      let here : Keeps n ≡ test y = ap Keeps (sym at) ∙ passes_here front y ys in
-      ⊎_elim
-      (λ passes. ap (filter Keeps) (numbers_with n x xs passes)
-      ∙ ap (λ b. cond b (n ∷ filter Keeps (numbers test (n + 1) xs)) (filter Keeps (numbers test (n + 1) xs))) here
-      ∙ ap (λ l. cond (test y) (n ∷ l) l) rest)
-      (λ fails. ap (filter Keeps) (numbers_by n x xs fails) ∙ rest ∙ sym (numbers_by n y ys (fewer.0 fails)))
-      (cases_Bool (test x))
-
-  -- what stays of the numbers of those that passed
-  pub numbers_left : (xs ys : List A) → AllZip (λ x y. test x ≡ false → test y ≡ false) xs ys
-      → filter (passes_at test ys) (numbers test 0 xs) ≡ numbers test 0 ys
-  numbers_left xs ys fewer = numbers_left_from [] 0 xs ys refl fewer
 
   missing_from : (n : ℕ) (xs : List A) (k : ℕ) (free : A) → k < length xs → list_any (nat_eq (n + k)) (numbers test n xs) ≡ false → test (get_or xs k free) ≡ false
   missing_from n [] k free within missing = absurd (omega arith)
@@ -228,6 +209,31 @@ module _ {A : Type 0} (test : A → Bool) where
   passes_got [] k free within = absurd (omega arith)
   passes_got (x ∷ xs) zero free within = refl
   passes_got (x ∷ xs) (suc k) free within = passes_got xs k free (omega arith)
+
+module _ {A : Type 0} (test now : A → Bool) where
+  numbers_left_from : (front : List A) (n : ℕ) (xs ys : List A) → length front ≡ n → AllZip (λ x y. test x ≡ false → now y ≡ false) xs ys
+      → filter (passes_at now (front ++ ys)) (numbers test n xs) ≡ numbers now n ys
+  numbers_left_from front n [] [] at fewer = refl
+  numbers_left_from front n [] (y ∷ ys) at fewer = absurd fewer
+  numbers_left_from front n (x ∷ xs) [] at fewer = absurd fewer
+  numbers_left_from front n (x ∷ xs) (y ∷ ys) at fewer =
+      let Keeps = passes_at now (front ++ y ∷ ys) in
+      let longer : length (front ++ y ∷ []) ≡ n + 1 = omega (arith, at, length-append front (y ∷ [])) in
+      let rest : filter Keeps (numbers test (n + 1) xs) ≡ numbers now (n + 1) ys =
+      ap (λ l. filter (passes_at now l) (numbers test (n + 1) xs)) (sym (append_assoc front (y ∷ []) ys))
+      ∙ numbers_left_from (front ++ y ∷ []) (n + 1) xs ys longer fewer.1 in
+      let here : Keeps n ≡ now y = ap Keeps (sym at) ∙ passes_here now front y ys in
+      ⊎_elim
+      (λ passes. ap (filter Keeps) (numbers_with test n x xs passes)
+      ∙ ap (λ b. cond b (n ∷ filter Keeps (numbers test (n + 1) xs)) (filter Keeps (numbers test (n + 1) xs))) here
+      ∙ ap (λ l. cond (now y) (n ∷ l) l) rest)
+      (λ fails. ap (filter Keeps) (numbers_by test n x xs fails) ∙ rest ∙ sym (numbers_by now n y ys (fewer.0 fails)))
+      (cases_Bool (test x))
+
+  -- of the numbers of those that passed one test those stay that pass the other now
+  pub numbers_left : (xs ys : List A) → AllZip (λ x y. test x ≡ false → now y ≡ false) xs ys
+      → filter (passes_at now ys) (numbers test 0 xs) ≡ numbers now 0 ys
+  numbers_left xs ys fewer = numbers_left_from [] 0 xs ys refl fewer
 
 -- a number that a filter does not have was not there, or does not pass
 pub filter_misses : (p : ℕ → Bool) (ns : List ℕ) (k : ℕ) → list_any (nat_eq k) (filter p ns) ≡ false → (list_any (nat_eq k) ns ≡ false) ⊎ (p k ≡ false)

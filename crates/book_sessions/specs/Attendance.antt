@@ -1,5 +1,5 @@
 -- What a roster shows of a session, and what its calls make of it. This project's own.
-use Rattle.std.specs.Prelude.{ℕ, Bool, false, not, List, [], Option, Some, None, is_some}
+use Rattle.std.specs.Prelude.{ℕ, Bool, false, not, ◌&&◌, List, [], Option, Some, None, is_some}
 use Rattle.gps_command.specs.Kept.{Kept, kept_open}
 use Rattle.book_replies.specs.Replies.{opening_reply}
 use Rattle.session_core.specs.declared.mark.Close.{Close}
@@ -13,6 +13,10 @@ pub record Attendance : Type 0 where
 
 abbrev pub is_open : Attendance → Bool
 is_open a = not (is_some a.session.closing)
+
+-- it is open and its policy is enabled: no other session is given a report
+abbrev pub listens : Attendance → Bool
+listens a = is_open a && a.session.policy.enable
 
 -- a new session over an empty outlet: it was sent its opening reply
 abbrev pub opened : OutletName → ℕ → ℕ → Attendance

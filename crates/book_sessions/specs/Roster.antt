@@ -8,7 +8,7 @@ use Rattle.session_core.specs.Stretches.{Stretch}
 use Rattle.session_core.specs.Holding.{Selection, Holding, Gains, stretches_left}
 use Rattle.book_sessions.specs.declared.roster.AdmitFault.{AdmitFault}
 use Rattle.book_sessions.specs.declared.roster.AdmitFault.TheVariants.{TooManySessions, NoMemory}
-use Rattle.book_sessions.specs.Attendance.{Attendance, closed, is_open, renewed}
+use Rattle.book_sessions.specs.Attendance.{Attendance, closed, is_open, listens, renewed}
 use Rattle.book_sessions.specs.Walks.{numbers}
 
 abbrev pub was_watched : Attendance → Bool
@@ -16,6 +16,9 @@ was_watched a = a.watched
 
 abbrev pub live_in : List Attendance → ℕ
 live_in roster = count_by is_open roster
+
+abbrev pub listening_in : List Attendance → ℕ
+listening_in roster = count_by listens roster
 
 abbrev pub most_live : ℕ
 most_live = 64
@@ -83,3 +86,7 @@ pub record IsRoster (live recent : List ℕ) (watched : ℕ) (roster : List Atte
   pub watched_ones : watched ≡ count_by was_watched roster
   pub few_live : length live ≤ most_live
   pub few_opened : length roster ≤ most_opened
+
+-- It keeps the numbers of those that listen, too.
+abbrev pub AreListening : List ℕ → List Attendance → Type 0
+AreListening ones roster = ones ≡ numbers listens 0 roster

@@ -6,7 +6,7 @@ ghost use Rattle.session_core.specs.declared.mark.Close.{Close};
 ghost use Rattle.session_core.specs.declared.outlet.Push.{Push};
 ghost use Rattle.session_core.specs.Pushing.{MatchPush};
 ghost use Rattle.session_core.specs.Shown.{last_place};
-ghost use Rattle.book_sessions.specs.Attendance.{Attendance, closed, is_open, opened, renewed, rested, with_kept};
+ghost use Rattle.book_sessions.specs.Attendance.{Attendance, closed, is_open, listens, opened, renewed, rested, with_kept};
 ghost use Rattle.book_sessions.specs.Answering.{Answers, Inputs, MayAnswer, ended, put};
 ghost use Rattle.book_sessions.specs.Roster.{shut_at};
 ghost use Rattle.book_sessions.specs.Spreading.{Spreads};
@@ -138,6 +138,13 @@ impl<O: Outlet> Member<O> {
         ensures { result ≡ is_open self.now }
     {
         self.session.closing().is_none()
+    }
+
+    /// Whether it is open and its policy is enabled.
+    pub(crate) fn listens(&self) -> bool
+        ensures { result ≡ listens self.now }
+    {
+        self.is_open() && self.session.policy().enable
     }
 
     pub(crate) fn closing(&self) -> Option<(u64, Close)>

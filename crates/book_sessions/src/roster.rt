@@ -10,11 +10,14 @@ ghost use Rattle.book_batch.specs.Lines.{line_for};
 ghost use Rattle.book_batch.specs.Sharing.{AreNamed, SharesLines, shares_of};
 ghost use Rattle.book_sessions.specs.Attendance.{Attendance, is_open, opened, renewed, with_kept};
 ghost use Rattle.book_sessions.specs.Answering.{Inputs};
-ghost use Rattle.book_sessions.specs.Roster.{Changes, Closes, IsAfter, IsAfterAll, IsOpenAt, Refuses, Shuts, Turns, live_in, was_watched};
+ghost use Rattle.book_sessions.specs.Roster.{Changes, Closes, IsAfter, IsAfterAll, IsOpenAt, Refuses, Shuts, Turns, listening_in, live_in, was_watched};
 ghost use Rattle.book_sessions.specs.Spreading.{Spreads};
 
 use crate::member::Member;
-use crate::walk::{close_at, close_each, input_at, keep_open, make_room, receive_each, turn_each};
+use crate::walk::{
+    close_at, close_each, copy_of, input_at, keep_listening, keep_open, make_room, receive_each,
+    turn_each,
+};
 use book_batch::Batch;
 use book_replies::Known;
 use gps_fixed::NoMemory;
@@ -44,6 +47,8 @@ pub struct Roster<O: Outlet> {
     members: Vec<Member<O>>,
     /// The numbers of the open ones, in order.
     live: Vec<u32>,
+    /// The numbers of those that are open and have an enabled policy, in order.
+    listening: Vec<u32>,
     /// The numbers of those that were open in this generation.
     recent: Vec<u32>,
     watched: u32,
@@ -52,13 +57,13 @@ pub struct Roster<O: Outlet> {
 impl<O: Outlet> Model for Roster<O> {
     ghost use Rattle.std.specs.Prelude.{List};
     ghost use Rattle.book_sessions.specs.Attendance.{Attendance};
-    ghost use Rattle.book_sessions.specs.Roster.{IsRoster};
+    ghost use Rattle.book_sessions.specs.Roster.{AreListening, IsRoster};
 
     ghost Value = { List Attendance };
 
     ghost view = { λ r. r.members.items };
 
-    ghost invariant = { λ r. IsRoster r.live.items r.recent.items r.watched r.members.items };
+    ghost invariant = { λ r. IsRoster r.live.items r.recent.items r.watched r.members.items × AreListening r.listening.items r.members.items };
 }
 
 impl<O: Outlet> Roster<O> {
@@ -70,6 +75,7 @@ impl<O: Outlet> Roster<O> {
             alloc,
             members: Vec::new(alloc),
             live: Vec::new(alloc),
+            listening: Vec::new(alloc),
             recent: Vec::new(alloc),
             watched: 0,
         }
@@ -82,6 +88,15 @@ impl<O: Outlet> Roster<O> {
         ensures few { result ≤ 64 }
     {
         self.live.len() as u32
+    }
+
+    /// How many sessions are open and have an enabled policy. No other session is given a report.
+    #[tactic(auto, using(crate::proofs::Walking::numbers_count))]
+    pub fn listening(&self) -> u32
+        ensures listening { result ≡ listening_in self.now }
+        ensures few { result ≤ 64 }
+    {
+        self.listening.len() as u32
     }
 
     /// How many sessions were opened.
@@ -188,6 +203,7 @@ impl<O: Outlet> Roster<O> {
         ensures err { OnErr result (self.new ≡ self.old) }
     {
         let alloc = self.alloc;
+        let mut listening = copy_of(alloc, &self.live)?;
         let watched = input_at(
             &mut self.members,
             s as usize,
@@ -198,6 +214,8 @@ impl<O: Outlet> Roster<O> {
             piece,
         )?;
         keep_open(&self.members, &mut self.live);
+        keep_listening(&self.members, &mut listening);
+        self.listening = listening;
         self.watched += u32::from(watched);
         Ok(())
     }
@@ -213,13 +231,14 @@ impl<O: Outlet> Roster<O> {
         let alloc = self.alloc;
         close_at(&mut self.members, s as usize, alloc, place, why);
         keep_open(&self.members, &mut self.live);
+        keep_listening(&self.members, &mut self.listening);
     }
 
-    /// Reports to each open session, in order, each line of the batch that its policy selects, at the place `first` plus the
-    /// report's index, until a full outlet closes that session. Takes no memory.
+    /// Reports to each session that listens, in order, each line of the batch that its policy selects, at the place `first` plus
+    /// the report's index, until a full outlet closes that session. Takes no memory.
     #[tactic(auto, using(crate::proofs::Walking::numbers_within, crate::proofs::Walking::numbers_count))]
     pub fn spread(&mut self, first: u64, batch: Batch, names: &Names)
-        requires shares { live_in self.old ≤ shares_of batch }
+        requires shares { listening_in self.old ≤ shares_of batch }
         requires after { IsAfterAll first self.old }
         requires few { first + length batch.reports < 2 ^ 63 }
         requires named { AreNamed names.now batch.reports }
@@ -227,9 +246,20 @@ impl<O: Outlet> Roster<O> {
         ensures spreads { AllZip (Spreads O.exact (line_for names.now) first batch.reports) self.old self.new }
         ensures after { (later : ℕ) → IsAfterAll later self.old → IsAfterAll later self.new }
     {
+        if self.listening.is_empty() {
+            return;
+        }
         let alloc = self.alloc;
-        receive_each(&mut self.members, &self.live, alloc, first, batch, names);
+        receive_each(
+            &mut self.members,
+            &self.listening,
+            alloc,
+            first,
+            batch,
+            names,
+        );
         keep_open(&self.members, &mut self.live);
+        keep_listening(&self.members, &mut self.listening);
     }
 
     /// A new generation begins: an open session keeps its policy alone, from place 0 on, and a closed one ends there. Takes no
@@ -260,6 +290,7 @@ impl<O: Outlet> Roster<O> {
             Close::DaemonEnd,
         );
         keep_open(&self.members, &mut self.live);
+        keep_listening(&self.members, &mut self.listening);
     }
 }
 

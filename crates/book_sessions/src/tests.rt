@@ -95,7 +95,7 @@ fn report(rt: &(impl Abort + Alloc<A = Global>), roster: &mut Roster<PlainOutlet
 {
     let names = names(rt);
     assert!(rt; names.len() == 2);
-    let batch = Batch::of(rt.alloc(), &reports(), &names, roster.live()).expect(rt, "memory");
+    let batch = Batch::of(rt.alloc(), &reports(), &names, roster.listening()).expect(rt, "memory");
     roster.spread(first, batch, &names);
 }
 

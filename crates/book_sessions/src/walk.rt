@@ -5,7 +5,7 @@ ghost use Rattle.std.specs.Int.{from_bool};
 ghost use Rattle.std.specs.List.{All};
 ghost use Rattle.book_batch.specs.Lines.{line_for};
 ghost use Rattle.book_batch.specs.Sharing.{AreNamed, SharesLines, shares_of};
-ghost use Rattle.book_sessions.specs.Attendance.{Attendance, is_open, renewed};
+ghost use Rattle.book_sessions.specs.Attendance.{Attendance, is_open, listens, renewed};
 ghost use Rattle.book_sessions.specs.Answering.{Inputs};
 ghost use Rattle.book_sessions.specs.Roster.{Changes, Closes, IsAfter, IsAfterAll, IsOpenAt, shut_at, was_watched};
 ghost use Rattle.book_sessions.specs.Spreading.{Spreads};
@@ -33,6 +33,30 @@ pub(crate) fn keep_open<O: Outlet>(members: &Vec<Member<O>>, numbers: &mut Vec<u
     ensures { numbers.new.items ≡ filter (passes_at is_open members.now.items) numbers.old.items }
 {
     numbers.retain(|n| is_open_at(members, *n));
+}
+
+fn listens_at<O: Outlet>(members: &Vec<Member<O>>, n: u32) -> bool
+    ensures { result ≡ passes_at listens members.now.items n }
+{
+    match members.get(n as usize) {
+        Some(member) => member.listens(),
+        None => false,
+    }
+}
+
+/// Of these numbers those of sessions that listen stay.
+pub(crate) fn keep_listening<O: Outlet>(members: &Vec<Member<O>>, numbers: &mut Vec<u32>)
+    ensures { numbers.new.items ≡ filter (passes_at listens members.now.items) numbers.old.items }
+{
+    numbers.retain(|n| listens_at(members, *n));
+}
+
+pub(crate) fn copy_of(alloc: Global, numbers: &Vec<u32>) -> Result<Vec<u32>, NoMemory>
+    ensures { IfOk result (λ copy. copy.items ≡ numbers.now.items) }
+{
+    let mut copy = Vec::new(alloc);
+    copy.extend_from_slice(numbers.as_slice())?;
+    Ok(copy)
 }
 
 /// Room for one more of each.

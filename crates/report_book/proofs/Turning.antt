@@ -1,5 +1,5 @@
 -- A new generation of a book.
-use Rattle.std.proofs.Common.{◌≡◌, ◌≤◌, ◌+◌, ℕ, Bool, true, false, cond, refl, sym, ap, ◌∙◌, subst, List, [], ◌∷◌, ◌++◌, length, map, get_or, append-nil, arith, ◌<◌}
+use Rattle.std.proofs.Common.{◌≡◌, ◌≤◌, ◌+◌, ℕ, Bool, true, false, ◌&&◌, cond, refl, sym, ap, ◌∙◌, subst, List, [], ◌∷◌, ◌++◌, length, map, get_or, append-nil, arith, ◌<◌}
 use Rattle.std.specs.List.{All, AllZip, fold}
 use Rattle.std.proofs.lemmas.List.{length-map}
 use Rattle.std.proofs.lemmas.List.Elements.{AllZip-get_or}
@@ -10,8 +10,8 @@ use Rattle.book_batch.specs.Lines.{line_for}
 use Rattle.book_log.specs.History.{history_after}
 use Rattle.book_log.specs.Logged.{Logged, Holds as LogHolds, turned as turned_log}
 use Rattle.book_log.proofs.LoggedSteps.{turned_holds}
-use Rattle.book_sessions.specs.Attendance.{Attendance, is_open, renewed}
-use Rattle.book_sessions.specs.Roster.{Turns, live_in}
+use Rattle.book_sessions.specs.Attendance.{Attendance, is_open, listens, renewed}
+use Rattle.book_sessions.specs.Roster.{Turns, listening_in}
 use Rattle.book_units.specs.Changes.{EachUnit, Turns as UnitTurns, turned as turned_unit}
 use Rattle.book_units.specs.Units.{UnitView, carried_by, since_turn}
 use Rattle.report_book.specs.BookView.{BookView, renewed_if, turned_if}
@@ -46,7 +46,7 @@ pub book_turned_if : (turns : Bool) (b : BookView) → Holds b → (turns ≡ tr
 book_turned_if true b held sessions units = book_turned b held (sessions refl) (units refl)
 book_turned_if false b held sessions units = held
 
--- a turn closes no session
+-- a turn closes no session, and leaves each policy
 open_still : (a : Attendance) → is_open (renewed a) ≡ is_open a
 open_still a = by a.session.closing
   where
@@ -54,12 +54,15 @@ open_still a = by a.session.closing
     by Rattle.std.specs.Prelude.None = refl
     by (Rattle.std.specs.Prelude.Some closing) = refl
 
-live_from : (n : ℕ) (sessions : List Attendance) → fold (λ (m : ℕ) (a : Attendance). m + cond (is_open a) 1 0) n (map renewed sessions) ≡ fold (λ (m : ℕ) (a : Attendance). m + cond (is_open a) 1 0) n sessions
-live_from n [] = refl
-live_from n (a ∷ sessions) =
-    live_from (n + cond (is_open (renewed a)) 1 0) sessions
-    ∙ ap (λ b. fold (λ (m : ℕ) (x : Attendance). m + cond (is_open x) 1 0) (n + cond b 1 0) sessions) (open_still a)
+listens_still : (a : Attendance) → listens (renewed a) ≡ listens a
+listens_still a = ap (λ o. o && a.session.policy.enable) (open_still a)
 
-pub live_still : (turns : Bool) (sessions : List Attendance) → live_in (renewed_if turns sessions) ≡ live_in sessions
-live_still true sessions = live_from 0 sessions
-live_still false sessions = refl
+listening_from : (n : ℕ) (sessions : List Attendance) → fold (λ (m : ℕ) (a : Attendance). m + cond (listens a) 1 0) n (map renewed sessions) ≡ fold (λ (m : ℕ) (a : Attendance). m + cond (listens a) 1 0) n sessions
+listening_from n [] = refl
+listening_from n (a ∷ sessions) =
+    listening_from (n + cond (listens (renewed a)) 1 0) sessions
+    ∙ ap (λ b. fold (λ (m : ℕ) (x : Attendance). m + cond (listens x) 1 0) (n + cond b 1 0) sessions) (listens_still a)
+
+pub listening_still : (turns : Bool) (sessions : List Attendance) → listening_in (renewed_if turns sessions) ≡ listening_in sessions
+listening_still true sessions = listening_from 0 sessions
+listening_still false sessions = refl

@@ -10,7 +10,7 @@ ghost use Rattle.book_log.specs.Standing.{has_stopped};
 ghost use Rattle.book_batch.specs.Lines.{line_for};
 ghost use Rattle.book_batch.specs.Sharing.{AreNamed, SharesLines, shares_of};
 ghost use Rattle.book_sessions.specs.Attendance.{Attendance, renewed};
-ghost use Rattle.book_sessions.specs.Roster.{IsAfterAll, Turns, live_in, was_watched};
+ghost use Rattle.book_sessions.specs.Roster.{IsAfterAll, Turns, listening_in, live_in, was_watched};
 ghost use Rattle.book_sessions.specs.Spreading.{Spreads};
 ghost use Rattle.book_units.specs.Changes.{EachUnit, Gains as UnitGains, Turns as UnitTurns, turned as turned_unit};
 ghost use Rattle.book_units.specs.Samples.{samples_of};
@@ -78,7 +78,7 @@ fn turn_if<O: Outlet>(turns: bool, roster: &mut Roster<O>, units: &mut Units)
 
 /// Puts in place what came: a new generation where one began, then the samples, then the lines. Takes no memory.
 fn put<O: Outlet>(roster: &mut Roster<O>, units: &mut Units, names: &Names, added: Addition)
-    requires shares { live_in roster.old ≤ shares_of added.batch }
+    requires shares { listening_in roster.old ≤ shares_of added.batch }
     requires after { IsAfterAll added.first (renewed_if added.turned roster.old) }
     requires few { added.first + length added.batch.reports < 2 ^ 63 }
     requires named { AreNamed names.now added.batch.reports }
@@ -183,7 +183,7 @@ impl<O: Outlet> Book<O> {
     {
         self.check_device(d)?;
         self.units.reserve(d, MOST_SAMPLES)?;
-        let shares = self.roster.live();
+        let shares = self.roster.listening();
         let added = self.log.feed(d, at, bytes, &self.names, shares)?;
         put(&mut self.roster, &mut self.units, &self.names, added);
         Ok(())
@@ -198,7 +198,7 @@ impl<O: Outlet> Book<O> {
     {
         self.check_device(d)?;
         self.units.reserve(d, MOST_SAMPLES)?;
-        let shares = self.roster.live();
+        let shares = self.roster.listening();
         let added = self.log.edge(d, &edge, &self.names, shares)?;
         put(&mut self.roster, &mut self.units, &self.names, added);
         Ok(())
@@ -213,7 +213,7 @@ impl<O: Outlet> Book<O> {
     {
         self.check_device(d)?;
         self.units.reserve(d, MOST_SAMPLES)?;
-        let shares = self.roster.live();
+        let shares = self.roster.listening();
         let added = self.log.end_device(d, &self.names, shares)?;
         put(&mut self.roster, &mut self.units, &self.names, added);
         Ok(())

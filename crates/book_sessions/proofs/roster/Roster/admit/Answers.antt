@@ -1,6 +1,7 @@
 use Rattle.std.proofs.Common.{◌≡◌, length, sym, ap, ◌∙◌, arith, List, subst, [], ◌∷◌, ◌++◌}
-use Rattle.book_sessions.specs.Attendance.{Attendance, opened}
+use Rattle.book_sessions.specs.Attendance.{Attendance, listens, opened}
 use Rattle.book_sessions.specs.Roster.{IsAfterAll, live_in}
+use Rattle.book_sessions.proofs.Listening.{listening_admitted}
 use Rattle.book_sessions.proofs.Places.{after_admit}
 use Rattle.book_sessions.proofs.Rosters.{admitted_step}
 use Rattle.book_sessions.proofs.roster.Roster.admit.Goals as goal
@@ -9,12 +10,15 @@ pub invariant_of-self-in-Ok : goal.invariant_of-self-in-Ok
 invariant_of-self-in-Ok g c =
     let old = c.self.inside.members.items in
     let live : live_in old ≡ c.live-live.result = ap live_in c.self.view_is ∙ sym c.live-live.ensures.live in
-    let count : c.opened-opened.result ≡ length old = c.opened-opened.ensures.opened ∙ ap length (sym c.self.view_is) in
-    admitted_step c.self.inside.live.items c.make_room.new.live.items c.push_reserved-in-Ok.new.self.items c.self.inside.recent.items c.make_room.new.recent.items c.push_reserved-in-Ok-2.new.self.items
-    c.self.inside.watched c.opened-opened.result c.in-Ok.member old c.make_room.new.members.items c.push_reserved.new.self.items c.self.invariant
-    c.make_room.ensures.members c.make_room.ensures.live c.make_room.ensures.recent c.push_reserved.ensures.items c.push_reserved-in-Ok.ensures.items c.push_reserved-in-Ok-2.ensures.items
-    count (ap (λ (a : Attendance). a.session.closing) c.in-Ok.ensures.opened) (ap (λ (a : Attendance). a.watched) c.in-Ok.ensures.opened)
-    (omega (arith, live, c.if-live-ge-MOST_LIVE.false)) (omega (arith, count, c.if-opened-ge-MOST_OPENED.false))
+    let count : c.opened-opened.result ≡ length old = c.opened-opened.ensures.opened ∙ ap length (sym c.self.view_is) in (
+      admitted_step c.self.inside.live.items c.make_room.new.live.items c.push_reserved-in-Ok.new.self.items c.self.inside.recent.items c.make_room.new.recent.items c.push_reserved-in-Ok-2.new.self.items
+          c.self.inside.watched c.opened-opened.result c.in-Ok.member old c.make_room.new.members.items c.push_reserved.new.self.items c.self.invariant.0
+          c.make_room.ensures.members c.make_room.ensures.live c.make_room.ensures.recent c.push_reserved.ensures.items c.push_reserved-in-Ok.ensures.items c.push_reserved-in-Ok-2.ensures.items
+          count (ap (λ (a : Attendance). a.session.closing) c.in-Ok.ensures.opened) (ap (λ (a : Attendance). a.watched) c.in-Ok.ensures.opened)
+          (omega (arith, live, c.if-live-ge-MOST_LIVE.false)) (omega (arith, count, c.if-opened-ge-MOST_OPENED.false)),
+      listening_admitted c.self.inside.listening.items c.in-Ok.member old c.make_room.new.members.items c.push_reserved.new.self.items c.self.invariant.1
+          c.make_room.ensures.members c.push_reserved.ensures.items (ap listens c.in-Ok.ensures.opened),
+    )
 
 pub returns-in-Ok-clause-after : goal.returns-in-Ok-clause-after
 returns-in-Ok-clause-after g c = λ later low after.

@@ -1,7 +1,8 @@
-use Rattle.std.proofs.Common.{List, sym, subst, arith, ◌<◌, length, ap}
+use Rattle.std.proofs.Common.{List, sym, subst, arith, ◌<◌, length, ap, ◌∙◌}
 use Rattle.book_sessions.specs.Attendance.{Attendance}
 use Rattle.book_sessions.specs.Answering.{Inputs}
 use Rattle.book_sessions.specs.Roster.{IsAfterAll, Changes, IsOpenAt}
+use Rattle.book_sessions.proofs.Listening.{listening_heard}
 use Rattle.book_sessions.proofs.Places.{after_input}
 use Rattle.book_sessions.proofs.Rosters.{changed_roster}
 use Rattle.book_sessions.proofs.roster.Roster.input.Goals as goal
@@ -10,9 +11,13 @@ pub invariant_of-self-2 : goal.invariant_of-self-2
 invariant_of-self-2 g c =
     let changed = c.in_ok-watched.ensures.input in
     let P : List Attendance → Type 0 = λ l. IsOpenAt c.args.s l in
-    changed_roster c.self.inside.live.items c.self.inside.recent.items c.keep_open.new.numbers.items c.self.inside.watched _ c.args.s changed.0 c.self.inside.members.items c.input_at.new.members.items
-    c.self.invariant (subst P (sym c.self.view_is) c.requires.open) changed.1 c.keep_open.ensures
-    (omega (arith, c.self.invariant.watched_ones, c.in_ok-watched.ensures.watched, c.from.ensures))
+    let was_open = subst P (sym c.self.view_is) c.requires.open in (
+      changed_roster c.self.inside.live.items c.self.inside.recent.items c.keep_open.new.numbers.items c.self.inside.watched _ c.args.s changed.0 c.self.inside.members.items c.input_at.new.members.items
+          c.self.invariant.0 was_open changed.1 c.keep_open.ensures
+          (omega (arith, c.self.invariant.0.watched_ones, c.in_ok-watched.ensures.watched, c.from.ensures)),
+      listening_heard c.in_ok-listening.listening.items c.keep_listening.new.numbers.items c.args.s changed.0 c.self.inside.members.items c.input_at.new.members.items
+          (c.in_ok-listening.ensures ∙ c.self.invariant.0.live_ones) was_open changed.1 c.keep_listening.ensures,
+    )
 
 pub returns-clause-input : goal.returns-clause-input
 returns-clause-input g c =

@@ -5,9 +5,10 @@
 
 PROGRAM is the built program (default crates/gpsrelay/out/gpsrelay, which `rt run` leaves). The inputs are made
 by a fixed seed, so they are the same bytes everywhere. For each input the two programs run by turns, ROUNDS
-times (default 3), from a file to /dev/null; the best round counts. Printed: megabytes a processor second, nanoseconds a
-packet, processor seconds and peak memory (of which some 10 MB are this script's, from before the program begins),
-and the ratio of processor seconds where both ran. Only ratios of one run compare programs.
+times (default 3), from a file to /dev/null, and the first two also into a pipe that another process drains; the best
+round counts. Printed: megabytes a processor second, nanoseconds a packet, processor seconds and peak memory (of which
+some 10 MB are this script's, from before the program begins), and the ratio of processor seconds where both ran. Only
+ratios of one run compare programs.
 """
 import os
 import random
@@ -90,18 +91,39 @@ INPUTS = [("nmea, 16 MB", lambda: nmea(16 * MB)), ("ubx, 16 MB", lambda: ubx(16 
           ("bad sums, 4 MB", lambda: bad_sums(4 * MB)), ("false frame heads, 4 MB", lambda: false_heads(4 * MB))]
 
 
-def run(command, path):
+# The inputs that are also measured into a pipe.
+PIPED = INPUTS[:2]
+
+
+def drain():
+    """A pipe's end to write to, and the process that reads all of it from the other."""
+    reader, writer = os.pipe()
+    pid = os.fork()
+    if pid == 0:
+        os.close(writer)
+        while os.read(reader, 65_536):
+            pass
+        os._exit(0)
+    os.close(reader)
+    return writer, pid
+
+
+def run(command, path, piped):
     """One run: wall seconds, processor seconds, peak kilobytes, status."""
+    out, drainer = drain() if piped else (os.open("/dev/null", os.O_WRONLY), None)
     start = time.monotonic()
     pid = os.fork()
     if pid == 0:
-        source, sink = os.open(path, os.O_RDONLY), os.open("/dev/null", os.O_WRONLY)
-        os.dup2(source, 0)
-        os.dup2(sink, 1)
-        os.dup2(sink, 2)
+        os.dup2(os.open(path, os.O_RDONLY), 0)
+        os.dup2(out, 1)
+        os.dup2(os.open("/dev/null", os.O_WRONLY), 2)
+        os.close(out)
         os.execv(command[0], command)
+    os.close(out)
     _, status, usage = os.wait4(pid, 0)
     wall = time.monotonic() - start
+    if drainer:
+        os.waitpid(drainer, 0)
     return wall, usage.ru_utime + usage.ru_stime, usage.ru_maxrss, os.waitstatus_to_exitcode(status)
 
 
@@ -136,14 +158,14 @@ def main():
         commands["gpsdecode"] = [other]
     print(f"{os.cpu_count()} processors; best of {rounds} rounds, programs by turns")
     with tempfile.TemporaryDirectory() as folder:
-        for name, make in INPUTS:
+        for (name, make), piped in [(it, False) for it in INPUTS] + [(it, True) for it in PIPED]:
             path = os.path.join(folder, "input")
             size, packets = made(make, path)
             results = {each: [] for each in commands}
             for _ in range(rounds):
                 for each, command in commands.items():
-                    results[each].append(run(command, path))
-            print(f"{name} ({size:,} bytes, {packets:,} packets)")
+                    results[each].append(run(command, path, piped))
+            print(f"{name}{', into a pipe' if piped else ''} ({size:,} bytes, {packets:,} packets)")
             for each in commands:
                 print(line(each, min(results[each]), size, packets))
             if other:

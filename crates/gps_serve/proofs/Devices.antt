@@ -6,6 +6,7 @@ use Rattle.gps_fixed.specs.Moment.{Moment}
 use Rattle.gps_lane.specs.Ends.{Putting, Taking}
 use Rattle.hub_laws.specs.declared.ends.DeviceEnd.{DeviceEnd}
 use Rattle.hub_laws.specs.Parts.{LaneNames, Lanes, names_of}
+use Rattle.serve_pieces.specs.declared.piece.Ending.TheVariants.{Failed}
 use Rattle.serve_pieces.specs.declared.piece.Piece.{Piece}
 use Rattle.serve_threads.specs.declared.reading.ReaderDone.{ReaderDone}
 use Rattle.serve_workers.specs.EdgeLines.{HandsLines}
@@ -61,6 +62,7 @@ bytes_served may facts x run rx ready settles =
       unread = ready.fresh.unread;
       ending = run.bytes.ending;
       hands = hands;
+      failed = λ (e : run.bytes.ending ≡ Some Failed). let rose = ready.ran.bytes.failed e in omega (arith, rose);
       lane = record {
         begins = settles.begins;
         settled = settles.behind (devices_tell_last may run.bytes.ending [] run.bytes.pieces.put (facts.content start.source) (facts.content run.bytes.source) hands refl);
@@ -87,6 +89,7 @@ lines_served facts (Some start) (Some first) (Some rx) (Some rx') (Some reader) 
       unread = fresh.1;
       ending = reader.ending;
       hands = hands;
+      failed = λ (e : reader.ending ≡ Some Failed). let rose = ran.failed e in omega (arith, rose);
       lane = record {
         begins = settles.begins;
         settled = settles.behind (edges_tell_last reader.ending [] reader.pieces.put (facts.content start.source) (facts.content reader.source) hands refl);

@@ -1,5 +1,5 @@
 -- The stamps that a clock may give, where the world tells them.
-use Rattle.std.proofs.Common.{◌≡◌, ℕ, Bool, List, [], ◌∷◌, Option, Some, None, IfSome, refl, ap, subst, sym, ◌∙◌}
+use Rattle.std.proofs.Common.{◌≡◌, ◌<◌, ◌⊎◌, inl, inr, ℕ, Bool, true, List, [], ◌∷◌, length, Option, Some, None, IfSome, refl, ap, subst, sym, ◌∙◌}
 use Rattle.std.specs.List.{AllZip}
 use Rattle.gps_fixed.specs.Moment.{Moment}
 use Rattle.gps_lane.specs.Ends.{Putting, Taking}
@@ -20,7 +20,8 @@ use Rattle.serve_pieces.specs.declared.piece.Piece.TheVariants.{Bytes, Line, Inp
 use Rattle.serve_settling.specs.Runs.{SourceFacts}
 use Rattle.serve_workers.specs.Clocks.{MayGive}
 use Rattle.serve_workers.specs.Readings.{Each, HandsOn, IsDevicePiece}
-use Rattle.gps_serve.specs.AtEnd.{AtEnd, BytesServed, DeviceServed, SinkFacts, Told, told_in, told_of}
+use Rattle.gps_serve.specs.AtEnd.{AtEnd, BytesServed, DeviceServed, GateFacts, SinkFacts, Told, told_in, told_of}
+use Rattle.gps_serve.specs.Doors.{NoneLeft, Way}
 
 untold_pieces : (may : Option (List Moment)) (pieces : List Piece) → Each (IsDevicePiece may) pieces → Each (IsDevicePiece None) pieces
 untold_pieces may [] each = tt
@@ -41,6 +42,7 @@ untold_bytes may facts x tx rx source served = record {
   unread = served.unread;
   ending = served.ending;
   hands = untold_hands may served.ending [] tx.put (facts.content served.first) (facts.content source) served.hands;
+  failed = served.failed;
   lane = served.lane;
 }
 
@@ -59,28 +61,83 @@ untold_devices may facts (x ∷ inlets) (d ∷ devices) served = (
   untold_devices may facts inlets devices served.1,
 )
 
-module _ {S K R : Type 0} (told : Told) (sources : SourceFacts S) (sinks : SinkFacts K) (lacks : Bool) (b : BookView) (devices : List (DeviceDone S R))
-    (sessions : List (SessionDone S K R)) (monitors : List MonitorDone) where
-  untold : (may : Option (List Moment)) → AtEnd told may sources sinks lacks b devices sessions monitors → AtEnd told None sources sinks lacks b devices sessions monitors
-  untold may at = record {
+module _ {G S K R : Type 0} (told : Told) (sources : SourceFacts S) (sinks : SinkFacts K) (gates : GateFacts G S K) (full : ℕ) (lacks : Bool) (b : BookView)
+    (devices : List (DeviceDone S R)) (sessions : List (SessionDone S K R)) (monitors : List MonitorDone) (gate : Option G) where
+  untold : (may : Option (List Moment)) (links : Option (List (Way S K))) → AtEnd told may sources sinks gates links full lacks b devices sessions monitors gate
+      → AtEnd told None sources sinks gates links full lacks b devices sessions monitors gate
+  untold may links at = record {
     names = at.names;
     limit = at.limit;
+    queue = at.queue;
     inlets = at.inlets;
-    inputs = at.inputs;
     done = at.done;
     hub = at.hub;
     devices_are = untold_devices may sources at.inlets devices at.devices_are;
     inputs_are = at.inputs_are;
     outlets_are = at.outlets_are;
     numbers = at.numbers;
+    stopped = at.stopped;
+    closed = at.closed;
+    units = at.units;
+    monitor_numbers = at.monitor_numbers;
     monitors_are = at.monitors_are;
+    gate = at.gate;
+    gate_is = at.gate_is;
+    door = at.door;
   }
 
   -- the clock tells what the world told of it
-  pub as_told : (stamps shown : Option Dial) → Tells stamps shown → AtEnd told (dial_of shown) sources sinks lacks b devices sessions monitors
-      → AtEnd told (dial_of stamps) sources sinks lacks b devices sessions monitors
-  as_told None shown tells at = untold (dial_of shown) at
-  as_told (Some dial) shown tells at = subst (λ (s : Option Dial). AtEnd told (dial_of s) sources sinks lacks b devices sessions monitors) tells at
+  pub as_told : (links : Option (List (Way S K))) (stamps shown : Option Dial) → Tells stamps shown
+      → AtEnd told (dial_of shown) sources sinks gates links full lacks b devices sessions monitors gate
+      → AtEnd told (dial_of stamps) sources sinks gates links full lacks b devices sessions monitors gate
+  as_told links None shown tells at = untold (dial_of shown) links at
+  as_told links (Some dial) shown tells at =
+      subst (λ (s : Option Dial). AtEnd told (dial_of s) sources sinks gates links full lacks b devices sessions monitors gate) tells at
+
+  untold_asked : (links : Option (List (Way S K))) (taken : List (Way S K)) (g : G)
+      → (0 < length taken) ⊎ (0 < gates.quiets g) ⊎ (0 < gates.faults g) ⊎ NoneLeft links (gates.links g)
+      → (0 < length taken) ⊎ (0 < gates.quiets g) ⊎ (0 < gates.faults g) ⊎ NoneLeft None (gates.links g)
+  untold_asked links taken g was =
+      elim was [ inl some ↦ inl some | inr (inl quiet) ↦ inr (inl quiet) | inr (inr (inl fault)) ↦ inr (inr (inl fault)) | inr (inr (inr none)) ↦ inr (inr (inr tt)) ]
+
+  untold_links : (may : Option (List Moment)) (links : Option (List (Way S K))) → AtEnd told may sources sinks gates links full lacks b devices sessions monitors gate
+      → AtEnd told may sources sinks gates None full lacks b devices sessions monitors gate
+  untold_links may links at = record {
+    names = at.names;
+    limit = at.limit;
+    queue = at.queue;
+    inlets = at.inlets;
+    done = at.done;
+    hub = at.hub;
+    devices_are = at.devices_are;
+    inputs_are = at.inputs_are;
+    outlets_are = at.outlets_are;
+    numbers = at.numbers;
+    stopped = at.stopped;
+    closed = at.closed;
+    units = at.units;
+    monitor_numbers = at.monitor_numbers;
+    monitors_are = at.monitors_are;
+    gate = at.gate;
+    gate_is = at.gate_is;
+    door = record {
+      taken = at.door.taken;
+      passed = tt;
+      count = at.door.count;
+      none_early = at.door.none_early;
+      each = at.door.each;
+      asked = untold_asked links at.door.taken at.gate at.door.asked;
+      closed = λ (e : at.done ≡ true). elim (at.door.closed e) [ inl none ↦ inl tt | inr fault ↦ inr fault ];
+    };
+  }
+
+  -- the door tells what the world told of it
+  pub as_linked : (may : Option (List Moment)) (links shown : Option (List (Way S K))) → Tells links shown
+      → AtEnd told may sources sinks gates shown full lacks b devices sessions monitors gate
+      → AtEnd told may sources sinks gates links full lacks b devices sessions monitors gate
+  as_linked may None shown tells at = untold_links may shown at
+  as_linked may (Some links) shown tells at =
+      subst (λ (l : Option (List (Way S K))). AtEnd told may sources sinks gates l full lacks b devices sessions monitors gate) tells at
 
 gives : (stamps : Option Dial) → MayGive (dial_of stamps) stamps
 gives None = tt
@@ -90,21 +147,23 @@ gives (Some dial) = refl
 pub may_give : (may : Option (List Moment)) (stamps : Option Dial) → may ≡ dial_of stamps → MayGive may stamps
 may_give may stamps is = subst (λ m. MayGive m stamps) (sym is) (gives stamps)
 
-told : List (List ℕ) → ℕ → ℕ → ℕ → Told
-told names limit wait tries = record { names = names; limit = limit; wait = wait; tries = tries }
+told : List (List ℕ) → ℕ → ℕ → ℕ → ℕ → Told
+told names limit wait queue tries = record { names = names; limit = limit; wait = wait; queue = queue; tries = tries }
 
 same_told : (b : BookView) (first : List Lanes) (plan : Plan) → b.names ≡ plan.names → b.log.limit ≡ plan.limit
-    → told_of (terms_of b first plan.wait) plan.tries ≡ told_in plan
+    → told_of (terms_of b first plan.wait) plan.queue plan.tries ≡ told_in plan
 unfolding told
-same_told b first plan names limit = ap (λ n. told n b.log.limit plan.wait plan.tries) names ∙ ap (λ l. told plan.names l plan.wait plan.tries) limit
+same_told b first plan names limit =
+    ap (λ n. told n b.log.limit plan.wait plan.queue plan.tries) names ∙ ap (λ l. told plan.names l plan.wait plan.queue plan.tries) limit
 
 -- of a book that was made for the plan
-pub told_again : {S K R : Type 0} (sources : SourceFacts S) (sinks : SinkFacts K) (lacks : Bool) (book : Option BookView) (devices : List (DeviceDone S R))
-    (sessions : List (SessionDone S K R)) (monitors : List MonitorDone) (b : BookView) (first : List Lanes) (plan : Plan) (stamps shown : Option Dial)
-    → b.names ≡ plan.names → b.log.limit ≡ plan.limit → Tells stamps shown
-    → IfSome book (λ x. AtEnd (told_of (terms_of b first plan.wait) plan.tries) (dial_of shown) sources sinks lacks x devices sessions monitors)
-    → IfSome book (λ x. AtEnd (told_in plan) (dial_of stamps) sources sinks lacks x devices sessions monitors)
-told_again sources sinks lacks None devices sessions monitors b first plan stamps shown names limit tells so = tt
-told_again sources sinks lacks (Some x) devices sessions monitors b first plan stamps shown names limit tells so =
-    as_told (told_in plan) sources sinks lacks x devices sessions monitors stamps shown tells
-    (subst (λ (t : Told). AtEnd t (dial_of shown) sources sinks lacks x devices sessions monitors) (same_told b first plan names limit) so)
+pub told_again : {G S K R : Type 0} (sources : SourceFacts S) (sinks : SinkFacts K) (gates : GateFacts G S K) (full : ℕ) (lacks : Bool) (book : Option BookView)
+    (devices : List (DeviceDone S R)) (sessions : List (SessionDone S K R)) (monitors : List MonitorDone) (gate : Option G) (b : BookView) (first : List Lanes) (plan : Plan)
+    (stamps shown : Option Dial) (links linked : Option (List (Way S K))) → b.names ≡ plan.names → b.log.limit ≡ plan.limit → Tells stamps shown → Tells links linked
+    → IfSome book (λ x. AtEnd (told_of (terms_of b first plan.wait) plan.queue plan.tries) (dial_of shown) sources sinks gates linked full lacks x devices sessions monitors gate)
+    → IfSome book (λ x. AtEnd (told_in plan) (dial_of stamps) sources sinks gates links full lacks x devices sessions monitors gate)
+told_again sources sinks gates full lacks None devices sessions monitors gate b first plan stamps shown links linked names limit tells tells' so = tt
+told_again sources sinks gates full lacks (Some x) devices sessions monitors gate b first plan stamps shown links linked names limit tells tells' so =
+    as_linked (told_in plan) sources sinks gates full lacks x devices sessions monitors gate (dial_of stamps) links linked tells'
+    (as_told (told_in plan) sources sinks gates full lacks x devices sessions monitors gate linked stamps shown tells
+    (subst (λ (t : Told). AtEnd t (dial_of shown) sources sinks gates linked full lacks x devices sessions monitors gate) (same_told b first plan names limit) so))

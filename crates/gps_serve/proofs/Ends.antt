@@ -1,16 +1,18 @@
 -- What is put together at the end, as one.
-use Rattle.std.proofs.Common.{◌≡◌, ℕ, ◌≤◌, Bool, true, false, ◌||◌, List, [], ◌∷◌, map, length, Option, refl, sym, ◌∙◌, ap, subst, arith, suc}
+use Rattle.std.proofs.Common.{◌≡◌, ℕ, ◌≤◌, Bool, true, false, ◌||◌, List, [], ◌∷◌, map, length, Option, Some, refl, sym, ◌∙◌, ap, subst, arith, suc}
 use Rattle.std.proofs.lemmas.List.Folds.{list_all-map}
-use Rattle.std.specs.List.{AllZip, list_all}
+use Rattle.std.specs.List.{All, AllZip, list_all, range_with_len}
 use Rattle.gps_fixed.specs.Moment.{Moment}
-use Rattle.book_units.specs.Units.{UnitView, segment_of}
+use Rattle.book_units.specs.Units.{IsUnit, UnitView, segment_of}
 use Rattle.gps_lane.specs.Ends.{Taking}
 use Rattle.report_book.specs.BookView.{BookView}
 use Rattle.report_book.specs.Standing.{Holds}
 use Rattle.hub_laws.specs.declared.ends.DeviceEnd.{DeviceEnd}
 use Rattle.hub_laws.specs.DaemonHub.{DaemonHub}
+use Rattle.hub_door.specs.Admissions.{Admissions}
 use Rattle.hub_laws.specs.Given.{is_end}
-use Rattle.hub_laws.specs.Parts.{Lanes, Parts, Terms, terms_of}
+use Rattle.hub_laws.specs.Keeping.{IsClosed}
+use Rattle.hub_laws.specs.Parts.{AreAdmitted, Lanes, Parts, Terms, terms_of}
 use Rattle.serve_pieces.specs.declared.piece.Piece.{Piece}
 use Rattle.serve_parts.specs.declared.done.DeviceDone.{DeviceDone}
 use Rattle.serve_parts.specs.declared.done.MonitorDone.{MonitorDone}
@@ -21,13 +23,19 @@ use Rattle.serve_threads.specs.declared.monitors.WatchDone.{WatchDone}
 use Rattle.serve_threads.specs.declared.monitors.Watcher.{Watcher}
 use Rattle.serve_threads.specs.Segments.{segments_of}
 use Rattle.gps_serve.specs.declared.lanes.DeviceStart.{DeviceStart}
-use Rattle.gps_serve.specs.AtEnd.{AtEnd, DeviceServed, MonitorServed, SinkFacts, told_of, watched_units}
+use Rattle.serve_threads.specs.declared.session.Link.{Link}
+use Rattle.gps_serve.specs.AtEnd.{AtEnd, DeviceServed, GateFacts, GateServed, MonitorServed, SinkFacts, told_of, watched_units}
+use Rattle.gps_serve.specs.Doors.{Way, lanes_of}
 use Rattle.gps_serve.specs.Readies.{AllServed, MonitorReady}
 use Rattle.gps_serve.specs.Runs.{DeviceReady, DevicesRan, RanOn}
 use Rattle.gps_serve.specs.Starts.{IsFreshDevice}
-use Rattle.gps_serve.specs.Statuses.{AllEnded, EachWhole}
+use Rattle.gps_serve.specs.Statuses.{AllEnded, EachWhole, HasStopped}
+use Rattle.gps_serve.specs.Units.{AreAtRest, CountFromZero}
 use Rattle.gps_serve.specs.Works.{WatchedBy, WatchersRan, monitored}
 use Rattle.gps_serve.proofs.Devices.{devices_ready}
+use Rattle.gps_serve.proofs.Gates.{devices_stopped, of_queue}
+use Rattle.gps_serve.proofs.Resting.{all_served}
+use Rattle.gps_serve.proofs.Returned.{all_read, hub_returned}
 use Rattle.gps_serve.proofs.Monitors.{monitors_ready}
 
 pub devices_by : {S R : Type 0} (may : Option (List Moment)) (facts : SourceFacts S) (terms : Terms) (b : BookView) (inlets : List Lanes) (runs : List (DeviceRun S R))
@@ -77,31 +85,52 @@ served_still tries no_memory lacks (u ∷ units) (m ∷ monitors) so served = (
   served_still tries no_memory lacks units monitors so served.1,
 )
 
+segments_of_units : (units : List UnitView) → length (map segment_of units) ≡ length units
+segments_of_units [] = refl
+segments_of_units (u ∷ units) = ap suc (segments_of_units units)
+
 -- the headline, of the parts as they are handed back
-pub at_end_of : {S K R : Type 0} (terms : Terms) (tries : ℕ) (may : Option (List Moment)) (sources : SourceFacts S) (sinks : SinkFacts K) (no_memory lacks done : Bool)
+pub at_end_of : {G S K R : Type 0} (terms : Terms) (queue tries : ℕ) (may : Option (List Moment)) (sources : SourceFacts S) (sinks : SinkFacts K) (gates : GateFacts G S K)
+    (links : Option (List (Way S K))) (full : ℕ) (no_memory lacks : Bool) (seat : Admissions) (ways : List (Link S K R)) (gate : G)
     (b b' b'' : BookView) (inlets : List Lanes) (inputs : List (Taking Piece)) (ends : List (Option DeviceEnd)) (devices : List (DeviceDone S R))
     (sessions : List (SessionDone S K R)) (monitors : List MonitorDone)
     → terms_of b inlets terms.wait ≡ terms
-    → DaemonHub (record { book = b; inlets = inlets; ends = ends; inputs = inputs; done = done; wait = terms.wait })
+    → DaemonHub (record { book = b; inlets = inlets; ends = ends; inputs = inputs; done = seat.done; wait = terms.wait })
+    → AreAdmitted seat.links b.sessions inputs → map (lanes_of queue) ways ≡ seat.links
+    → All IsUnit b.units → AreAtRest (length terms.segments) b.units → CountFromZero terms.segments → All IsClosed b.sessions → All HasStopped ends
     → AllZip (DeviceServed may sources) inlets devices → map (λ (d : DeviceDone S R). d.end) devices ≡ ends
     → b' ≡ b → AllServed sources sinks b.sessions inputs sessions
-    → b'' ≡ b' → AllZip (MonitorServed tries no_memory) (watched_units tries b'.units) monitors → (lacks ≡ false → no_memory ≡ false)
-    → AtEnd (told_of terms tries) may sources sinks lacks b'' devices sessions monitors
-at_end_of {S} {K} {R} terms tries may sources sinks no_memory lacks done b b' b'' inlets inputs ends devices sessions monitors same hub served ends_are is sessions_are is' monitors_are so =
-    subst (λ x. AtEnd (told_of terms tries) may sources sinks lacks x devices sessions monitors) (sym (is' ∙ is)) (
+    → b'' ≡ b' → AllZip (MonitorServed tries no_memory) (watched_units tries b'.units) monitors
+    → map (λ (m : MonitorDone). m.unit) monitors ≡ range_with_len 0 (length monitors) → (lacks ≡ false → no_memory ≡ false)
+    → GateServed sources gates links full lacks seat.done sessions gate
+    → AtEnd (told_of terms queue tries) may sources sinks gates links full lacks b'' devices sessions monitors (Some gate)
+at_end_of {G} {S} {K} {R} terms queue tries may sources sinks gates links full no_memory lacks seat ways gate b b' b'' inlets inputs ends devices sessions monitors same hub admitted lanes keeps
+    rests zeros closed stopped served ends_are is sessions_are is' monitors_are numbers so door =
+    let segments : map segment_of b.units ≡ terms.segments = ap (λ (t : Terms). t.segments) same in
+    subst (λ x. AtEnd (told_of terms queue tries) may sources sinks gates links full lacks x devices sessions monitors (Some gate)) (sym (is' ∙ is)) (
     record {
       names = ap (λ (t : Terms). t.names) same;
       limit = ap (λ (t : Terms). t.limit) same;
+      queue = of_queue queue seat ways b.sessions inputs lanes admitted;
       inlets = inlets;
-      inputs = inputs;
-      done = done;
-      hub = subst (λ (e : List (Option DeviceEnd)). DaemonHub (record { book = b; inlets = inlets; ends = e; inputs = inputs; done = done; wait = terms.wait })) (sym ends_are) hub;
+      done = seat.done;
+      hub = hub_returned sources b inlets (map (λ (d : DeviceDone S R). d.end) devices) inputs seat.done terms.wait sessions closed sessions_are.inputs_are
+          (subst (λ (e : List (Option DeviceEnd)). DaemonHub (record { book = b; inlets = inlets; ends = e; inputs = inputs; done = seat.done; wait = terms.wait })) (sym ends_are) hub);
       devices_are = served;
-      inputs_are = sessions_are.inputs_are;
+      inputs_are = all_read sources inputs sessions sessions_are.inputs_are;
       outlets_are = sessions_are.outlets_are;
       numbers = sessions_are.numbers;
+      stopped = devices_stopped devices ends ends_are stopped;
+      closed = closed;
+      units = all_served b.units (length terms.segments) keeps rests
+          (let count : length terms.segments ≡ length b.units = ap length (sym segments) ∙ segments_of_units b.units in omega (arith, count))
+          (subst CountFromZero (sym segments) zeros);
+      monitor_numbers = numbers;
       monitors_are = served_still tries no_memory lacks (watched_units tries b.units) monitors so
           (subst (λ (x : BookView). AllZip (MonitorServed tries no_memory) (watched_units tries x.units) monitors) is monitors_are);
+      gate = gate;
+      gate_is = refl;
+      door = door;
     }
     )
 
@@ -127,10 +156,6 @@ watchers_ran_on tries terms b first w watchers watchers' watched are segments sa
   segments_are = segments ∙ ap (λ (t : Terms). monitored tries t.segments) (sym are);
   by = subst (λ l. AllZip (WatchedBy tries) l watched) same by;
 }
-
-segments_of_units : (units : List UnitView) → length (map segment_of units) ≡ length units
-segments_of_units [] = refl
-segments_of_units (u ∷ units) = ap suc (segments_of_units units)
 
 pub segments_count : (terms : Terms) (b : BookView) (first : List Lanes) (w : ℕ) → terms ≡ terms_of b first w → length terms.segments ≡ length b.units
 segments_count terms b first w are = ap (λ (t : Terms). length t.segments) are ∙ segments_of_units b.units

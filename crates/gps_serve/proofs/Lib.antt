@@ -8,3 +8,8 @@ pub mod Sessions
 pub mod Monitors
 pub mod Ends
 pub mod Dials
+pub mod Tending
+pub mod Resting
+pub mod Taking
+pub mod Gates
+pub mod Returned

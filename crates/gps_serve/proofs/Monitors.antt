@@ -1,9 +1,9 @@
 -- What is left of the monitors, put together one after another.
 use Rattle.std.proofs.Common.{◌≡◌, ℕ, ◌<◌, ◌≤◌, ◌+◌, ◌*◌, Bool, true, false, ◌&&◌, List, [], ◌∷◌, ◌++◌, map, length, get_or, ◌==◌, if◌then◌else◌, refl, sym, ◌∙◌, ap, subst, append_assoc, arith}
-use Rattle.std.proofs.lemmas.List.{append-nil, length-append}
+use Rattle.std.proofs.lemmas.List.{append-nil, length-append, map-append}
 use Rattle.std.specs.Arc.{arc_value}
 use Rattle.std.specs.Global.{Vec}
-use Rattle.std.specs.List.{AllZip, list_all}
+use Rattle.std.specs.List.{AllZip, list_all, range_with_len}
 use Rattle.book_units.specs.Units.{UnitView, new_unit, segment_of}
 use Rattle.report_book.specs.BookView.{BookView}
 use Rattle.serve_parts.specs.declared.done.MonitorDone.{MonitorDone}
@@ -22,6 +22,7 @@ use Rattle.gps_serve.specs.Readies.{IsNextMonitor, MonitorReady, MonitorsSoFar}
 use Rattle.gps_serve.specs.Statuses.{EachWhole}
 use Rattle.gps_serve.specs.Works.{WatchedBy, monitored}
 use Rattle.gps_serve.proofs.Devices.{zip_length}
+use Rattle.gps_serve.proofs.Sessions.{range_more}
 use Rattle.gps_serve.proofs.Zips.{zip_more}
 
 at : {X : Type 0} (gone rest : List X) (x free : X) → get_or (gone ++ x ∷ rest) (length gone) free ≡ x
@@ -223,3 +224,16 @@ pub same_book : (tries : ℕ) (no_memory : Bool) (b b' : BookView) (watched : Li
     → MonitorsSoFar tries no_memory (watched_units tries b.units) watched unit done → MonitorsSoFar tries no_memory (watched_units tries b'.units) watched unit done
 same_book tries no_memory b b' watched unit done same so =
     subst (λ (c : BookView). MonitorsSoFar tries no_memory (watched_units tries c.units) watched unit done) (sym same) so
+
+-- the monitors have the numbers of their units
+pub numbers_more : (done done' : List MonitorDone) (monitor : MonitorDone) (unit : ℕ) → map (λ (m : MonitorDone). m.unit) done ≡ range_with_len 0 unit → monitor.unit ≡ unit
+    → done' ≡ done ++ monitor ∷ [] → map (λ (m : MonitorDone). m.unit) done' ≡ range_with_len 0 (unit + 1)
+numbers_more done done' monitor unit so is more =
+    ap (map (λ (m : MonitorDone). m.unit)) more ∙ map-append (λ (m : MonitorDone). m.unit) done (monitor ∷ []) ∙ ap (λ l. l ++ monitor.unit ∷ []) so
+    ∙ ap (λ n. range_with_len 0 unit ++ n ∷ []) is ∙ sym (range_more unit)
+
+pub numbers_all : (tries : ℕ) (no_memory : Bool) (units : List UnitView) (watched : List WatchDone) (unit : ℕ) (done : List MonitorDone)
+    → MonitorsSoFar tries no_memory units watched unit done → map (λ (m : MonitorDone). m.unit) done ≡ range_with_len 0 unit
+    → map (λ (m : MonitorDone). m.unit) done ≡ range_with_len 0 (length done)
+numbers_all tries no_memory units watched unit done so numbers =
+    numbers ∙ ap (range_with_len 0) (sym so.count ∙ zip_length (MonitorServed tries no_memory) so.gone done so.served)

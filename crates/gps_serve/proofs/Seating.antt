@@ -1,11 +1,11 @@
 -- The links of sessions that are admitted one after another.
-use Rattle.std.proofs.Common.{◌≡◌, ℕ, ◌≤◌, ◌⊎◌, inl, inr, Bool, true, false, List, [], ◌∷◌, ◌++◌, map, refl, sym, ◌∙◌, ap, subst, arith}
+use Rattle.std.proofs.Common.{◌≡◌, ℕ, ◌≤◌, ◌⊎◌, inl, inr, Bool, true, false, List, [], ◌∷◌, ◌++◌, map, Option, refl, sym, ◌∙◌, ap, subst, arith}
 use Rattle.std.proofs.lemmas.List.{map-append}
 use Rattle.std.specs.List.{AllZip}
 use Rattle.gps_outside.specs.Counts.{Rose}
 use Rattle.hub_door.specs.Admissions.{Admissions, admitting, link_of}
 use Rattle.serve_threads.specs.declared.session.Link.{Link}
-use Rattle.gps_serve.specs.Doors.{AreSeated, EachLink, FailsBy, IsUnused, Tended, lanes_of}
+use Rattle.gps_serve.specs.Doors.{AreSeated, DoorNow, EachLink, FailsBy, IsUnused, Tended, Tends, Way, lanes_of, way_of}
 
 each_more : {L : Type 0} (P : L → Type 0) (links : List L) (link : L) → EachLink P links → P link → EachLink P (links ++ link ∷ [])
 each_more P [] link each p = (p, tt)
@@ -34,9 +34,10 @@ module _ {S K R : Type 0} (P : Link S K R → Type 0) (queue : ℕ) where
   }
 
 -- all that were seated have run
-pub tended : {S K R Run : Type 0} (P : Link S K R → Type 0) (Runs : Link S K R → Run → Type 0) (queue : ℕ) (links : List (Link S K R)) (seat : Admissions) (runs : List Run)
-    → AreSeated P queue links seat → AllZip Runs links runs → Tended P Runs queue seat runs
-tended P Runs queue links seat runs seated ran = record { links = links; seated = seated; ran = ran }
+pub tended : {S K R Run : Type 0} (P : Link S K R → Type 0) (Runs : Link S K R → Run → Type 0) (queue : ℕ) (links : List (Link S K R)) (told : Option (List (Way S K)))
+    (now : DoorNow S K) (seat : Admissions) (runs : List Run) → AreSeated P queue links seat → AllZip Runs links runs → Tends told now (map way_of links) seat.done false
+    → Tended P Runs queue told now seat runs
+tended P Runs queue links told now seat runs seated ran tends = record { links = links; seated = seated; ran = ran; tends = tends }
 
 pub fails_none : (faults : ℕ) → FailsBy false faults faults
 fails_none faults = record { faults_stay = omega arith; cause = λ (e : false ≡ true). absurd cc }

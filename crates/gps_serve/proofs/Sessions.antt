@@ -1,5 +1,5 @@
 -- What is left of the sessions, put together one after another.
-use Rattle.std.proofs.Common.{◌≡◌, ℕ, ◌<◌, ◌≤◌, ◌+◌, suc, List, [], ◌∷◌, ◌++◌, map, length, get_or, refl, sym, ◌∙◌, ap, subst, append_assoc, arith}
+use Rattle.std.proofs.Common.{◌≡◌, ℕ, ◌<◌, ◌≤◌, ◌+◌, suc, List, [], ◌∷◌, ◌++◌, map, length, get_or, Option, Some, refl, sym, ◌∙◌, ap, subst, append_assoc, arith}
 use Rattle.std.proofs.lemmas.List.{append-nil, length-append, map-append}
 use Rattle.std.proofs.lemmas.List.FromFn.{map-range_with_len_more}
 use Rattle.std.specs.List.{AllZip, range_with_len}
@@ -12,6 +12,7 @@ use Rattle.hub_laws.specs.Parts.{AreAdmitted}
 use Rattle.report_book.specs.BookView.{BookView}
 use Rattle.run_lines.specs.declared.closing.SessionEnd.TheVariants.{Drained, WriteFault}
 use Rattle.serve_pieces.specs.Carried.{input_part}
+use Rattle.serve_pieces.specs.declared.piece.Ending.TheVariants.{Failed}
 use Rattle.serve_pieces.specs.declared.piece.Piece.{Piece}
 use Rattle.serve_parts.specs.declared.done.SessionDone.{SessionDone}
 use Rattle.serve_settling.specs.Lanes.{Settles}
@@ -23,9 +24,9 @@ use Rattle.serve_threads.specs.Sessions.{SessionRuns, Wrote}
 use Rattle.serve_workers.specs.Readings.{HandsOn, IsInputPiece, WasRead}
 use Rattle.serve_workers.specs.Writing.{Writes}
 use Rattle.session_core.specs.Naming.{of_table}
-use Rattle.gps_serve.specs.AtEnd.{InputServed, OutletServed, SinkFacts}
-use Rattle.gps_serve.specs.Doors.{EachLink, IsNewLink, IsUnused, Tended, lanes_of}
-use Rattle.gps_serve.specs.Readies.{AllServed, AreReady, IsNext, SessionReady, SessionsSoFar}
+use Rattle.gps_serve.specs.AtEnd.{OutletServed, SinkFacts}
+use Rattle.gps_serve.specs.Doors.{DoorNow, EachLink, IsNewLink, IsUnused, Tended, Way, lanes_of}
+use Rattle.gps_serve.specs.Readies.{AllServed, AreReady, InputLeft, IsNext, SessionReady, SessionsSoFar}
 use Rattle.serve_settling.specs.Runs.{SourceFacts}
 use Rattle.gps_serve.proofs.Zips.{zip_more}
 
@@ -52,9 +53,9 @@ module _ {S K R : Type 0} (sources : SourceFacts S) (sinks : SinkFacts K) where
     all_ready queue links sessions inputs runs (cc names) (cc lanes) unused.1 new.1 ran.1,
   )
 
-  pub sessions_ready : (queue : ℕ) (seat : Admissions) (sessions : List Attendance) (inputs : List (Taking Piece)) (runs : List (SessionRun S K R))
-      → Tended New Runs queue seat runs → AreAdmitted seat.links sessions inputs → AreReady sources sinks sessions inputs runs
-  sessions_ready queue seat sessions inputs runs tended admitted =
+  pub sessions_ready : (queue : ℕ) (told : Option (List (Way S K))) (now : DoorNow S K) (seat : Admissions) (sessions : List Attendance) (inputs : List (Taking Piece))
+      (runs : List (SessionRun S K R)) → Tended New Runs queue told now seat runs → AreAdmitted seat.links sessions inputs → AreReady sources sinks sessions inputs runs
+  sessions_ready queue told now seat sessions inputs runs tended admitted =
       let same = tended.seated.lanes in
       all_ready queue tended.links sessions inputs runs
       (admitted.outlets ∙ ap (map (λ (l : Admitted). of_table l.outlet)) (sym same))
@@ -69,23 +70,25 @@ module _ {S K R : Type 0} (sources : SourceFacts S) (sinks : SinkFacts K) where
   outlet_name a x run ready = ap (λ (rx : Taking (List ℕ)). of_table rx.lane) ready.ran.wrote.lane ∙ ready.outlet
 
   pub input_served : (a : Attendance) (x : Taking Piece) (run : SessionRun S K R) (done : SessionDone S K R) → SessionReady sources sinks a x run
-      → done.source ≡ run.reader.source → done.input_tx ≡ run.reader.pieces → Settles run.reader.pieces x done.input_rx → InputServed sources x done
+      → done.source ≡ run.reader.source → done.input_tx ≡ run.reader.pieces → Settles run.reader.pieces x done.input_rx → InputLeft sources x done
   input_served a x run done ready source tx settles =
       let link = ready.link in
       let hands : HandsOn input_part IsInputPiece run.reader.ending [] run.reader.pieces.put (sources.content link.source) (sources.content run.reader.source) =
       subst (λ put. HandsOn input_part IsInputPiece run.reader.ending put run.reader.pieces.put (sources.content link.source) (sources.content run.reader.source))
       ready.unused.1 ready.ran.reads.hands in
       record {
-        first = link.source;
-        unread = ready.unread;
-        ending = run.reader.ending;
-        hands = subst (λ (s : S). HandsOn input_part IsInputPiece run.reader.ending [] done.input_tx.put (sources.content link.source) (sources.content s)) (sym source)
-            (subst (λ (t : Putting Piece). HandsOn input_part IsInputPiece run.reader.ending [] t.put (sources.content link.source) (sources.content run.reader.source)) (sym tx) hands);
-        read = subst (λ (s : S). Goes (WasRead (sources.faults s) (sources.quiets s)) (sources.content link.source) (sources.content s)) (sym source) ready.ran.reads.read;
-        lane = record {
+        served = record {
+          first = link.source;
+          unread = ready.unread;
+          ending = run.reader.ending;
+          hands = subst (λ (s : S). HandsOn input_part IsInputPiece run.reader.ending [] done.input_tx.put (sources.content link.source) (sources.content s)) (sym source)
+              (subst (λ (t : Putting Piece). HandsOn input_part IsInputPiece run.reader.ending [] t.put (sources.content link.source) (sources.content run.reader.source)) (sym tx) hands);
+          failed = subst (λ (s : S). run.reader.ending ≡ Some Failed → 0 < sources.faults s) (sym source)
+              (λ (e : run.reader.ending ≡ Some Failed). let rose = ready.ran.reads.failed e in omega (arith, rose));
+          read = subst (λ (s : S). Goes (WasRead (sources.faults s) (sources.quiets s)) (sources.content link.source) (sources.content s)) (sym source) ready.ran.reads.read;
           begins = subst (λ (t : Putting Piece). BeginsWith done.input_rx.got t.put) (sym tx) settles.begins;
-          settled = settles.behind (sessions_tell_last run.reader.ending [] run.reader.pieces.put (sources.content link.source) (sources.content run.reader.source) hands refl);
         };
+        settled = settles.behind (sessions_tell_last run.reader.ending [] run.reader.pieces.put (sources.content link.source) (sources.content run.reader.source) hands refl);
       }
 
   pub outlet_served : (a : Attendance) (x : Taking Piece) (run : SessionRun S K R) (done : SessionDone S K R) → SessionReady sources sinks a x run
@@ -112,7 +115,7 @@ module _ {S K R : Type 0} (sources : SourceFacts S) (sinks : SinkFacts K) where
 
   pub input_served_at : (sessions : List Attendance) (number : ℕ) (x : Taking Piece) (run : SessionRun S K R) (done : SessionDone S K R) → number < length sessions
       → ((free : Attendance) → SessionReady sources sinks (get_or sessions number free) x run)
-      → done.source ≡ run.reader.source → done.input_tx ≡ run.reader.pieces → Settles run.reader.pieces x done.input_rx → InputServed sources x done
+      → done.source ≡ run.reader.source → done.input_tx ≡ run.reader.pieces → Settles run.reader.pieces x done.input_rx → InputLeft sources x done
   input_served_at [] number x run done there ready source tx settles = absurd (omega arith)
   input_served_at (a ∷ sessions) number x run done there ready source tx settles =
       input_served (get_or (a ∷ sessions) number a) x run done (ready a) source tx settles
@@ -130,7 +133,7 @@ map_same : (xs : List ℕ) → map (λ (n : ℕ). n) xs ≡ xs
 map_same [] = refl
 map_same (x ∷ xs) = ap (λ l. x ∷ l) (map_same xs)
 
-range_more : (n : ℕ) → range_with_len 0 (n + 1) ≡ range_with_len 0 n ++ n ∷ []
+pub range_more : (n : ℕ) → range_with_len 0 (n + 1) ≡ range_with_len 0 n ++ n ∷ []
 range_more n =
     sym (map_same (range_with_len 0 (n + 1))) ∙ map-range_with_len_more (λ (m : ℕ). m) 0 n n (omega arith) ∙ ap (λ l. l ++ n ∷ []) (map_same (range_with_len 0 n))
 
@@ -187,9 +190,9 @@ module _ {S K R : Type 0} (sources : SourceFacts S) (sinks : SinkFacts K) where
 
   more_of : (gone rest : List Attendance) (a : Attendance) (sessions : List Attendance) (gone_inputs inputs left : List (Taking Piece)) (x : Taking Piece) (run : SessionRun S K R)
       (runs : List (SessionRun S K R)) (number : ℕ) (done : List (SessionDone S K R)) (session : SessionDone S K R)
-      → sessions ≡ gone ++ a ∷ rest → length gone ≡ number → inputs ≡ gone_inputs ++ x ∷ left → AllZip (InputServed sources) gone_inputs done
+      → sessions ≡ gone ++ a ∷ rest → length gone ≡ number → inputs ≡ gone_inputs ++ x ∷ left → AllZip (InputLeft sources) gone_inputs done
       → AllZip (OutletServed sinks) gone done → map (λ (s : SessionDone S K R). s.number) done ≡ range_with_len 0 number
-      → AreReady sources sinks (a ∷ rest) (x ∷ left) (run ∷ runs) → session.number ≡ number → InputServed sources x session
+      → AreReady sources sinks (a ∷ rest) (x ∷ left) (run ∷ runs) → session.number ≡ number → InputLeft sources x session
       → ((free : Attendance) → OutletServed sinks (get_or sessions number free) session)
       → SessionsSoFar sources sinks sessions inputs left runs (number + 1) (done ++ session ∷ [])
   more_of gone rest a sessions gone_inputs inputs left x run runs number done session split count inputs_split ins outs numbers ready is input outlet =
@@ -201,7 +204,7 @@ module _ {S K R : Type 0} (sources : SourceFacts S) (sinks : SinkFacts K) where
         split = split ∙ sym (append_assoc gone (a ∷ []) rest);
         gone_inputs = gone_inputs ++ x ∷ [];
         inputs_split = inputs_split ∙ sym (append_assoc gone_inputs (x ∷ []) left);
-        inputs_are = zip_more (InputServed sources) gone_inputs done x session ins input;
+        inputs_are = zip_more (InputLeft sources) gone_inputs done x session ins input;
         outlets_are = zip_more (OutletServed sinks) gone done a session outs (subst (λ b. OutletServed sinks b session) at_here (outlet a));
         numbers = map-append (λ (s : SessionDone S K R). s.number) done (session ∷ []) ∙ ap (λ l. l ++ session.number ∷ []) numbers
             ∙ ap (λ n. range_with_len 0 number ++ n ∷ []) is ∙ sym (range_more number);
@@ -211,9 +214,9 @@ module _ {S K R : Type 0} (sources : SourceFacts S) (sinks : SinkFacts K) where
 
   more_in : (gone rest : List Attendance) (sessions : List Attendance) (gone_inputs inputs left : List (Taking Piece)) (x : Taking Piece) (run : SessionRun S K R)
       (runs : List (SessionRun S K R)) (number : ℕ) (done : List (SessionDone S K R)) (session : SessionDone S K R)
-      → sessions ≡ gone ++ rest → length gone ≡ number → inputs ≡ gone_inputs ++ x ∷ left → AllZip (InputServed sources) gone_inputs done
+      → sessions ≡ gone ++ rest → length gone ≡ number → inputs ≡ gone_inputs ++ x ∷ left → AllZip (InputLeft sources) gone_inputs done
       → AllZip (OutletServed sinks) gone done → map (λ (s : SessionDone S K R). s.number) done ≡ range_with_len 0 number
-      → AreReady sources sinks rest (x ∷ left) (run ∷ runs) → session.number ≡ number → InputServed sources x session
+      → AreReady sources sinks rest (x ∷ left) (run ∷ runs) → session.number ≡ number → InputLeft sources x session
       → ((free : Attendance) → OutletServed sinks (get_or sessions number free) session)
       → SessionsSoFar sources sinks sessions inputs left runs (number + 1) (done ++ session ∷ [])
   more_in gone [] sessions gone_inputs inputs left x run runs number done session split count inputs_split ins outs numbers ready is input outlet = absurd ready
@@ -223,7 +226,7 @@ module _ {S K R : Type 0} (sources : SourceFacts S) (sinks : SinkFacts K) where
   -- a session more
   pub sessions_more : (sessions : List Attendance) (inputs left : List (Taking Piece)) (x : Taking Piece) (run : SessionRun S K R) (runs : List (SessionRun S K R)) (number : ℕ)
       (done done' : List (SessionDone S K R)) (session : SessionDone S K R)
-      → SessionsSoFar sources sinks sessions inputs (x ∷ left) (run ∷ runs) number done → session.number ≡ number → InputServed sources x session
+      → SessionsSoFar sources sinks sessions inputs (x ∷ left) (run ∷ runs) number done → session.number ≡ number → InputLeft sources x session
       → ((free : Attendance) → OutletServed sinks (get_or sessions number free) session) → done' ≡ done ++ session ∷ []
       → SessionsSoFar sources sinks sessions inputs left runs (number + 1) done'
   sessions_more sessions inputs left x run runs number done done' session so is input outlet more =
@@ -238,11 +241,11 @@ module _ {S K R : Type 0} (sources : SourceFacts S) (sinks : SinkFacts K) where
       subst (λ (c : BookView). SessionsSoFar sources sinks c.sessions inputs left runs number done) (sym same) so
 
   all_in : (gone rest sessions : List Attendance) (gone_inputs inputs left : List (Taking Piece)) (runs : List (SessionRun S K R)) (number : ℕ) (done : List (SessionDone S K R))
-      → sessions ≡ gone ++ rest → length gone ≡ number → inputs ≡ gone_inputs ++ left → AllZip (InputServed sources) gone_inputs done
+      → sessions ≡ gone ++ rest → length gone ≡ number → inputs ≡ gone_inputs ++ left → AllZip (InputLeft sources) gone_inputs done
       → AllZip (OutletServed sinks) gone done → map (λ (s : SessionDone S K R). s.number) done ≡ range_with_len 0 number
       → AreReady sources sinks rest left runs → length sessions ≤ number → AllServed sources sinks sessions inputs done
   all_in gone [] sessions gone_inputs inputs [] [] number done split count inputs_split ins outs numbers ready few = record {
-    inputs_are = subst (λ l. AllZip (InputServed sources) l done) (sym (inputs_split ∙ append-nil gone_inputs)) ins;
+    inputs_are = subst (λ l. AllZip (InputLeft sources) l done) (sym (inputs_split ∙ append-nil gone_inputs)) ins;
     outlets_are = subst (λ l. AllZip (OutletServed sinks) l done) (sym (split ∙ append-nil gone)) outs;
     numbers = numbers ∙ ap (range_with_len 0) (sym count ∙ ap length (sym (split ∙ append-nil gone)));
   }
@@ -256,3 +259,11 @@ module _ {S K R : Type 0} (sources : SourceFacts S) (sinks : SinkFacts K) where
       → SessionsSoFar sources sinks sessions inputs left runs number done → length sessions ≤ number → AllServed sources sinks sessions inputs done
   sessions_all sessions inputs left runs number done so few =
       all_in so.gone so.rest sessions so.gone_inputs inputs left runs number done so.split so.count so.inputs_split so.inputs_are so.outlets_are so.numbers so.ready few
+
+  -- all that ran were put together
+  pub none_left : (sessions : List Attendance) (inputs left : List (Taking Piece)) (runs : List (SessionRun S K R)) (number : ℕ) (done : List (SessionDone S K R))
+      → SessionsSoFar sources sinks sessions inputs left runs number done → length sessions ≤ number → length runs ≡ 0
+  none_left sessions inputs left runs number done so few =
+      let same = same_lengths so.rest left runs so.ready in
+      let size : length sessions ≡ length so.gone + length so.rest = ap length so.split ∙ length-append so.gone so.rest in
+      omega (arith, size, so.count, few, same.1)

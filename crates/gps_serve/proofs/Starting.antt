@@ -1,6 +1,6 @@
 -- What is so before anything came.
-use Rattle.std.proofs.Common.{◌≡◌, ℕ, ◌<◌, ◌≤◌, ◌*◌, zero, suc, List, [], ◌∷◌, length, take, get_or, slice_index_or, Option, Some, None, refl, sym, ◌∙◌, ap, subst, arith}
-use Rattle.std.proofs.lemmas.List.{length-take}
+use Rattle.std.proofs.Common.{◌≡◌, ℕ, ◌<◌, ◌≤◌, ◌*◌, zero, suc, List, [], ◌∷◌, ◌++◌, length, take, get_or, slice_index_or, Option, Some, None, refl, sym, ◌∙◌, ap, subst, append_assoc, arith}
+use Rattle.std.proofs.lemmas.List.{append-nil, length-take, map-append}
 use Rattle.std.specs.List.{All, AllZip}
 use Rattle.gps_lane.specs.Ends.{Taking}
 use Rattle.serve_pieces.specs.declared.piece.Piece.{Piece}
@@ -17,7 +17,7 @@ use Rattle.serve_opening.specs.Opening.{AreUnread, sources_in}
 use Rattle.serve_settling.specs.Runs.{SourceFacts}
 use Rattle.gps_serve.specs.declared.lanes.DeviceStart.{DeviceStart}
 use Rattle.gps_serve.specs.declared.lanes.EdgeStart.{EdgeStart}
-use Rattle.gps_serve.specs.Starts.{IsFreshDevice, IsFreshEdge}
+use Rattle.gps_serve.specs.Starts.{IsFreshDevice, IsFreshEdge, edge_source_of, edges_at, sources_at}
 
 pub unused : {names : List (List ℕ)} {limit : ℕ} {firsts : List ℕ} {b : BookView} → IsNewBook names limit firsts b → IsUnused b
 unused {names} {limit} {firsts} {b} new = unused_new names limit firsts b new
@@ -63,3 +63,20 @@ pub rest_unread : {S : Type 0} (content : S → Option Stream) (faults quiets : 
     → AreUnread content faults quiets (sources_in (source ∷ sources)) → AreUnread content faults quiets (sources_in sources)
 rest_unread content faults quiets None sources are = are
 rest_unread content faults quiets (Some source) sources are = are.1
+
+-- the sources with which the devices begin, one after another
+pub sources_more : {S R : Type 0} (starts starts' : List (DeviceStart S R)) (start : DeviceStart S R) (given now left : List S) (source : S)
+    → sources_at starts ++ now ≡ given → now ≡ source ∷ left → start.source ≡ source → starts' ≡ starts ++ start ∷ [] → sources_at starts' ++ left ≡ given
+sources_more {S} {R} starts starts' start given now left source so is same more =
+    ap (λ l. sources_at l ++ left) more ∙ ap (λ l. l ++ left) (map-append (λ (x : DeviceStart S R). x.source) starts (start ∷ []))
+    ∙ append_assoc (sources_at starts) (start.source ∷ []) left ∙ ap (λ s. sources_at starts ++ s ∷ left) same ∙ ap (λ l. sources_at starts ++ l) (sym is) ∙ so
+
+pub edges_more : {S R : Type 0} (starts starts' : List (DeviceStart S R)) (start : DeviceStart S R) (given now left : List (Option S)) (source : Option S)
+    → edges_at starts ++ now ≡ given → now ≡ source ∷ left → edge_source_of start.edges ≡ source → starts' ≡ starts ++ start ∷ [] → edges_at starts' ++ left ≡ given
+edges_more {S} {R} starts starts' start given now left source so is same more =
+    ap (λ l. edges_at l ++ left) more ∙ ap (λ l. l ++ left) (map-append (λ (x : DeviceStart S R). edge_source_of x.edges) starts (start ∷ []))
+    ∙ append_assoc (edges_at starts) (edge_source_of start.edges ∷ []) left ∙ ap (λ s. edges_at starts ++ s ∷ left) same ∙ ap (λ l. edges_at starts ++ l) (sym is) ∙ so
+
+pub none_behind : {X : Type 0} (front left all : List X) → front ++ left ≡ all → length left ≡ 0 → front ≡ all
+none_behind front [] all so none = sym (append-nil front) ∙ so
+none_behind front (x ∷ left) all so none = absurd cc

@@ -20,6 +20,11 @@ zip_more R [] (b ∷ ys) x y zip r = absurd zip
 zip_more R (a ∷ xs) [] x y zip r = absurd zip
 zip_more R (a ∷ xs) (b ∷ ys) x y zip r = (zip.0, zip_more R xs ys x y zip.1 r)
 
+pub zip_grown : {A B : Type 0} (R : A → B → Type 0) (xs xs' : List A) (ys ys' : List B) (x : A) (y : B) → AllZip R xs ys → R x y → xs' ≡ xs ++ x ∷ [] → ys' ≡ ys ++ y ∷ []
+    → AllZip R xs' ys'
+zip_grown R xs xs' ys ys' x y zip r xs_are ys_are =
+    subst (AllZip R xs') (sym ys_are) (subst (λ l. AllZip R l (ys ++ y ∷ [])) (sym xs_are) (zip_more R xs ys x y zip r))
+
 pub ran_none : {L Run : Type 0} (Runs : L → Run → Type 0) (links : List L) → RanSoFar Runs links links []
 ran_none Runs links = record { done = []; split = refl; ran = tt }
 
@@ -38,6 +43,16 @@ pub ran_end : {L Run : Type 0} (Runs : L → Run → Type 0) (links left : List 
     → AllZip Runs links runs
 ran_end Runs links [] runs so none = ran_all Runs links runs so
 ran_end Runs links (link ∷ left) runs so none = absurd (omega (arith, none))
+
+-- from the iterator's beginning on
+pub ran_begin : {L Run : Type 0} (Runs : L → Run → Type 0) (links left : List L) (runs : List Run) → left ≡ links → runs ≡ [] → RanSoFar Runs links left runs
+ran_begin Runs links left runs is none =
+    subst (λ r. RanSoFar Runs links left r) (sym none) (subst (λ l. RanSoFar Runs links l []) (sym is) (ran_none Runs links))
+
+pub ran_next : {L Run : Type 0} (Runs : L → Run → Type 0) (links left left' : List L) (link : L) (runs runs' : List Run) (run : Run)
+    → RanSoFar Runs links left runs → left ≡ link ∷ left' → Runs link run → runs' ≡ runs ++ run ∷ [] → RanSoFar Runs links left' runs'
+ran_next Runs links left left' link runs runs' run so is r more =
+    subst (RanSoFar Runs links left') (sym more) (ran_more Runs links left' link runs run (subst (λ l. RanSoFar Runs links l runs) is so) r)
 
 -- what was started on the first of these and what came of that
 through : {A B C : Type 0} (P : A → B → Type 0) (Q : A → C → Type 0) (xs : List A) (ys : List B) (zs : List C)

@@ -1,18 +1,20 @@
 -- What a daemon hands back: its book, and what is left of its devices, sessions and monitors, which agree with each other. This project's own.
-use Rattle.std.specs.Prelude.{◌≡◌, ◌*◌, ◌≤◌, ℕ, Bool, false, List, [], length, map, Option, Some, None, ◌==◌, if◌then◌else◌}
-use Rattle.std.specs.List.{AllZip, range_with_len}
+use Rattle.std.specs.Prelude.{◌≡◌, ◌+◌, ◌*◌, ◌^◌, ◌-◌, ◌<◌, ◌≤◌, ◌⊎◌, ℕ, Bool, true, false, List, [], ◌++◌, length, map, Option, Some, None, ◌==◌, if◌then◌else◌}
+use Rattle.std.specs.List.{All, AllZip, range_with_len}
 use Rattle.gps_fixed.specs.Moment.{Moment}
 use Rattle.gps_lane.specs.Ends.{Putting, Taking}
 use Rattle.gps_lane.specs.Lane.{BeginsWith}
 use Rattle.gps_outside.specs.Counts.{Rose}
-use Rattle.gps_outside.specs.Links.{IsUnwritten}
-use Rattle.gps_outside.specs.Told.{Goes}
+use Rattle.gps_outside.specs.Links.{IsUnwritten, PassLinks}
+use Rattle.gps_outside.specs.Told.{Goes, IsPrefix, Stream}
+use Rattle.gps_world.specs.declared.place.Place.{Place}
 use Rattle.book_sessions.specs.Attendance.{Attendance}
 use Rattle.book_units.specs.Units.{UnitView, segment_of}
 use Rattle.report_book.specs.BookView.{BookView}
 use Rattle.run_lines.specs.declared.closing.SessionEnd.TheVariants.{Drained, WriteFault}
 use Rattle.serve_pieces.specs.Carried.{device_part, input_part}
 use Rattle.serve_pieces.specs.declared.piece.Ending.{Ending}
+use Rattle.serve_pieces.specs.declared.piece.Ending.TheVariants.{Failed}
 use Rattle.serve_pieces.specs.declared.piece.Piece.{Piece}
 use Rattle.serve_workers.specs.EdgeLines.{HandsLines}
 use Rattle.serve_workers.specs.Readings.{HandsOn, IsDevicePiece, IsInputPiece, WasRead}
@@ -26,9 +28,13 @@ use Rattle.serve_settling.specs.Lanes.{OneMoreAtMost}
 use Rattle.serve_settling.specs.Outlets.{writer_end}
 use Rattle.serve_settling.specs.Units.{ArePublished}
 use Rattle.hub_laws.specs.DaemonHub.{DaemonHub}
+use Rattle.hub_laws.specs.Keeping.{IsClosed}
 use Rattle.hub_laws.specs.Parts.{Lanes, Terms}
 use Rattle.serve_settling.specs.Runs.{SourceFacts}
+use Rattle.gps_serve.specs.Doors.{NoneLeft, Way}
 use Rattle.gps_serve.specs.Starts.{IsUnreadBy}
+use Rattle.gps_serve.specs.Statuses.{HasStopped}
+use Rattle.gps_serve.specs.Units.{UnitServed}
 
 -- What was got of a lane begins what was put. `x` is the lane as the hub left it; where that had not told how its source ended, one more piece
 -- may be got since.
@@ -37,12 +43,13 @@ pub record LaneServed (x : Taking Piece) (tx : Putting Piece) (rx : Taking Piece
   pub settled : OneMoreAtMost x rx
 
 -- The bytes that a device's reader put, in pieces with stamps that the clock may give, are those that it took from its source, which was
--- unread before.
+-- unread before. It says that the source failed only where its faults are above 0.
 pub record BytesServed {S : Type 0} (may : Option (List Moment)) (facts : SourceFacts S) (x : Taking Piece) (tx : Putting Piece) (rx : Taking Piece) (source : S) : Type 0 where
   pub first : S
   pub unread : IsUnreadBy facts first
   pub ending : Option Ending
   pub hands : HandsOn device_part (IsDevicePiece may) ending [] tx.put (facts.content first) (facts.content source)
+  pub failed : ending ≡ Some Failed → 0 < facts.faults source
   pub lane : LaneServed x tx rx
 
 -- the same of the lines of a device's edges
@@ -51,6 +58,7 @@ pub record LinesServed {S : Type 0} (facts : SourceFacts S) (x : Taking Piece) (
   pub unread : IsUnreadBy facts first
   pub ending : Option Ending
   pub hands : HandsLines ending [] tx.put (facts.content first) (facts.content source)
+  pub failed : ending ≡ Some Failed → 0 < facts.faults source
   pub lane : LaneServed x tx rx
 
 -- of a device that has a source of edges, and of one that has none
@@ -71,14 +79,15 @@ pub record DeviceServed {S R : Type 0} (may : Option (List Moment)) (facts : Sou
   pub bytes : BytesServed may facts x.bytes done.bytes_tx done.bytes_rx source
   pub edges : EdgesServed facts x.edges done.edges_tx done.edges_rx done.edges
 
--- what is left of a session's input: its source, from which nothing was taken before, was read; `x` is its lane as the hub left it
-pub record InputServed {S K R : Type 0} (facts : SourceFacts S) (x : Taking Piece) (done : SessionDone S K R) : Type 0 where
+-- what is left of a session's input: its source, from which nothing was taken before, was read, and what was got of its lane begins what was put
+pub record InputServed {S K R : Type 0} (facts : SourceFacts S) (done : SessionDone S K R) : Type 0 where
   pub first : S
   pub unread : IsUnreadBy facts first
   pub ending : Option Ending
   pub hands : HandsOn input_part IsInputPiece ending [] done.input_tx.put (facts.content first) (facts.content done.source)
+  pub failed : ending ≡ Some Failed → 0 < facts.faults done.source
   pub read : Goes (WasRead (facts.faults done.source) (facts.quiets done.source)) (facts.content first) (facts.content done.source)
-  pub lane : LaneServed x done.input_tx done.input_rx
+  pub begins : BeginsWith done.input_rx.got done.input_tx.put
 
 -- what a sink tells, and what it counts
 pub record SinkFacts (K : Type 0) : Type 0 where
@@ -107,35 +116,97 @@ pub record MonitorServed (tries : ℕ) (no_memory : Bool) (u : UnitView) (done :
   pub all : no_memory ≡ false → done.taken.items ≡ each_once done.monitor.taken
   pub loads : no_memory ≡ false → 2 * tries ≤ length done.monitor.kept
 
--- what a daemon was told to serve, as far as its book knows it
+-- The bytes taken from a source are the first of those that it held.
+abbrev pub TakesFirst : Stream → Stream → Type 0
+TakesFirst before after = IsPrefix after.taken (before.taken ++ before.left)
+
+-- what a door tells, and what it counts
+pub record GateFacts (G S K : Type 0) : Type 0 where
+  pub links : G → Option (List (Way S K))
+  pub faults : G → ℕ
+  pub quiets : G → ℕ
+
+abbrev pub gate_facts : {G S K : Type 0} → (G → Option (List (Way S K))) → (G → ℕ) → (G → ℕ) → GateFacts G S K
+gate_facts links faults quiets = record { links = links; faults = faults; quiets = quiets }
+
+-- the bytes taken from a session's source are the first of those of the link
+abbrev pub ReadsLink : {S K R : Type 0} → SourceFacts S → Way S K → SessionDone S K R → Type 0
+ReadsLink facts way done = Goes TakesFirst (facts.content way.0) (facts.content done.source)
+
+-- What is left of the door. The links that were taken are the next of those that it told; where memory was not wanting and the count of dropped ones
+-- did not reach its greatest value, they are as many as the sessions and those that were dropped; and none was dropped before 64 were admitted. Where
+-- none was dropped, session k has the k-th. It was asked; and it is said to have closed or failed only where no link is left or its faults rose.
+pub record GateServed {G S K R : Type 0} (sources : SourceFacts S) (gates : GateFacts G S K) (told : Option (List (Way S K))) (full : ℕ) (no_memory done : Bool)
+    (sessions : List (SessionDone S K R)) (gate : G) : Type 0 where
+  pub taken : List (Way S K)
+  pub passed : Goes (PassLinks taken) told (gates.links gate)
+  pub count : no_memory ≡ false → full < 2 ^ 64 - 1 → length taken ≡ length sessions + full
+  pub none_early : length sessions < 64 → full ≡ 0
+  pub each : length taken ≡ length sessions → AllZip (ReadsLink sources) taken sessions
+  pub asked : (0 < length taken) ⊎ (0 < gates.quiets gate) ⊎ (0 < gates.faults gate) ⊎ NoneLeft told (gates.links gate)
+  pub closed : done ≡ true → NoneLeft told (gates.links gate) ⊎ (0 < gates.faults gate)
+
+-- what a device's source held, where the world told it; the bytes taken from it are the first of these
+abbrev pub IsFirstOf : Option (List ℕ) → Option Stream → Type 0
+IsFirstOf None content = Unit {0}
+IsFirstOf (Some held) None = ⊥
+IsFirstOf (Some held) (Some stream) = IsPrefix stream.taken held
+
+-- of the source of a device or of its edges, where it has one
+abbrev pub SourceHeld : {S : Type 0} → SourceFacts S → Option (List ℕ) → Option S → Type 0
+SourceHeld facts held None = Unit {0}
+SourceHeld facts held (Some source) = IsFirstOf held (facts.content source)
+
+abbrev pub BytesHeld : {S R : Type 0} → (Place → Option (List ℕ)) → SourceFacts S → Place → DeviceDone S R → Type 0
+BytesHeld behind facts place done = SourceHeld facts (behind place) done.source
+
+abbrev pub EdgesHeld : {S R : Type 0} → (Place → Option (List ℕ)) → SourceFacts S → Option Place → DeviceDone S R → Type 0
+EdgesHeld behind facts None done = done.edges ≡ None
+EdgesHeld behind facts (Some place) done = SourceHeld facts (behind place) done.edges
+
+-- what a daemon was told to serve, but for the places
 pub record Told : Type 0 where
   pub names : List (List ℕ)
   pub limit : ℕ
   pub wait : ℕ
+  pub queue : ℕ
   pub tries : ℕ
 
-abbrev pub told_of : Terms → ℕ → Told
-told_of terms tries = record { names = terms.names; limit = terms.limit; wait = terms.wait; tries = tries }
+abbrev pub told_of : Terms → ℕ → ℕ → Told
+told_of terms queue tries = record { names = terms.names; limit = terms.limit; wait = terms.wait; queue = queue; tries = tries }
 
 abbrev pub told_in : Plan → Told
-told_in plan = record { names = plan.names; limit = plan.limit; wait = plan.wait; tries = plan.tries }
+told_in plan = record { names = plan.names; limit = plan.limit; wait = plan.wait; queue = plan.queue; tries = plan.tries }
 
 -- the units that have a monitor
 abbrev pub watched_units : ℕ → List UnitView → List UnitView
 watched_units tries units = if tries == 0 then [] else units
 
--- What the hub knows holds of the book, of the lanes as the hub left them, and of how each device ended. By the lanes that are handed back, what
--- came into the hub is what was taken from the sources; what a session wrote begins what the book gave it.
-pub record AtEnd {S K R : Type 0} (told : Told) (may : Option (List Moment)) (sources : SourceFacts S) (sinks : SinkFacts K) (no_memory : Bool)
-    (b : BookView) (devices : List (DeviceDone S R)) (sessions : List (SessionDone S K R)) (monitors : List MonitorDone) : Type 0 where
+-- so many items may wait for each session
+abbrev pub AreOfQueue : ℕ → List Attendance → Type 0
+AreOfQueue queue sessions = All (λ (a : Attendance). a.session.cap ≡ queue) sessions
+
+-- What the hub knows holds of the book, of the devices' lanes as the hub left them, of how each device ended, of the sessions' lanes, and of the door. By the lanes that are handed
+-- back, what came into the hub is what was taken from the sources; what a session wrote begins what the book gave it. Each device has stopped, each
+-- session is closed, and all samples are published.
+pub record AtEnd {G S K R : Type 0} (told : Told) (may : Option (List Moment)) (sources : SourceFacts S) (sinks : SinkFacts K) (gates : GateFacts G S K)
+    (links : Option (List (Way S K))) (full : ℕ) (no_memory : Bool) (b : BookView) (devices : List (DeviceDone S R)) (sessions : List (SessionDone S K R))
+    (monitors : List MonitorDone) (given : Option G) : Type 0 where
   pub names : b.names ≡ told.names
   pub limit : b.log.limit ≡ told.limit
+  pub queue : AreOfQueue told.queue b.sessions
   pub inlets : List Lanes
-  pub inputs : List (Taking Piece)
   pub done : Bool
-  pub hub : DaemonHub (record { book = b; inlets = inlets; ends = map (λ (d : DeviceDone S R). d.end) devices; inputs = inputs; done = done; wait = told.wait })
+  pub hub : DaemonHub (record { book = b; inlets = inlets; ends = map (λ (d : DeviceDone S R). d.end) devices; inputs = map (λ (s : SessionDone S K R). s.input_rx) sessions; done = done; wait = told.wait })
   pub devices_are : AllZip (DeviceServed may sources) inlets devices
-  pub inputs_are : AllZip (InputServed sources) inputs sessions
+  pub inputs_are : All (λ (s : SessionDone S K R). InputServed sources s) sessions
   pub outlets_are : AllZip (OutletServed sinks) b.sessions sessions
   pub numbers : map (λ (s : SessionDone S K R). s.number) sessions ≡ range_with_len 0 (length b.sessions)
+  pub stopped : All (λ (d : DeviceDone S R). HasStopped d.end) devices
+  pub closed : All IsClosed b.sessions
+  pub units : All UnitServed b.units
+  pub monitor_numbers : map (λ (m : MonitorDone). m.unit) monitors ≡ range_with_len 0 (length monitors)
   pub monitors_are : AllZip (MonitorServed told.tries no_memory) (watched_units told.tries b.units) monitors
+  pub gate : G
+  pub gate_is : given ≡ Some gate
+  pub door : GateServed sources gates links full no_memory done sessions gate

@@ -5,3 +5,5 @@ pub mod Runs
 pub mod Starts
 pub mod Statuses
 pub mod Works
+pub mod Units
+pub mod Scopes

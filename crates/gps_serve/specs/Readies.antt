@@ -17,6 +17,7 @@ use Rattle.serve_threads.specs.Monitors.{Watched}
 use Rattle.serve_threads.specs.Sessions.{SessionRuns}
 use Rattle.gps_serve.specs.AtEnd.{InputServed, MonitorServed, OutletServed, SinkFacts}
 use Rattle.gps_serve.specs.Doors.{IsUnused}
+use Rattle.serve_settling.specs.Lanes.{OneMoreAtMost}
 use Rattle.serve_settling.specs.Runs.{SourceFacts}
 use Rattle.gps_serve.specs.Starts.{IsUnreadBy}
 
@@ -38,6 +39,15 @@ AreReady sources sinks (a ∷ sessions) [] runs = ⊥
 AreReady sources sinks (a ∷ sessions) (x ∷ inputs) [] = ⊥
 AreReady sources sinks (a ∷ sessions) (x ∷ inputs) (run ∷ runs) = SessionReady sources sinks a x run × AreReady sources sinks sessions inputs runs
 
+-- what is left of a session's input, whose lane the hub left so; where it had not told how its source ended, one more piece may be got since
+pub record InputLeft {S K R : Type 0} (sources : SourceFacts S) (x : Taking Piece) (done : SessionDone S K R) : Type 0 where
+  pub served : InputServed sources done
+  pub settled : OneMoreAtMost x done.input_rx
+
+-- the session has the source that its reader hands back
+abbrev pub IsSourceOf : {S K R : Type 0} → SessionRun S K R → SessionDone S K R → Type 0
+IsSourceOf run done = done.source ≡ run.reader.source
+
 -- these sessions are put together, and those are left
 pub record SessionsSoFar {S K R : Type 0} (sources : SourceFacts S) (sinks : SinkFacts K) (sessions : List Attendance) (inputs left : List (Taking Piece))
     (runs : List (SessionRun S K R)) (number : ℕ) (done : List (SessionDone S K R)) : Type 0 where
@@ -46,7 +56,7 @@ pub record SessionsSoFar {S K R : Type 0} (sources : SourceFacts S) (sinks : Sin
   pub split : sessions ≡ gone ++ rest
   pub gone_inputs : List (Taking Piece)
   pub inputs_split : inputs ≡ gone_inputs ++ left
-  pub inputs_are : AllZip (InputServed sources) gone_inputs done
+  pub inputs_are : AllZip (InputLeft sources) gone_inputs done
   pub outlets_are : AllZip (OutletServed sinks) gone done
   pub numbers : map (λ (s : SessionDone S K R). s.number) done ≡ range_with_len 0 number
   pub count : length gone ≡ number
@@ -59,7 +69,7 @@ pub record IsNext {S K R : Type 0} (sources : SourceFacts S) (sinks : SinkFacts 
 
 -- all of them
 pub record AllServed {S K R : Type 0} (sources : SourceFacts S) (sinks : SinkFacts K) (sessions : List Attendance) (inputs : List (Taking Piece)) (done : List (SessionDone S K R)) : Type 0 where
-  pub inputs_are : AllZip (InputServed sources) inputs done
+  pub inputs_are : AllZip (InputLeft sources) inputs done
   pub outlets_are : AllZip (OutletServed sinks) sessions done
   pub numbers : map (λ (s : SessionDone S K R). s.number) done ≡ range_with_len 0 (length sessions)
 

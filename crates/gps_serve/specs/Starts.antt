@@ -1,5 +1,5 @@
 -- The devices' sources and lanes before anything went through them. This project's own.
-use Rattle.std.specs.Prelude.{◌≡◌, [], Option, Some, None, option_map}
+use Rattle.std.specs.Prelude.{◌≡◌, List, [], Option, Some, None, map, option_map}
 use Rattle.gps_lane.specs.Ends.{Putting, Taking}
 use Rattle.gps_outside.specs.Links.{IsUnread}
 use Rattle.serve_pieces.specs.declared.piece.Piece.{Piece}
@@ -35,3 +35,14 @@ edge_start_of start = record { source = start.source; pieces = start.lines }
 
 abbrev pub starts_of : {S R : Type 0} → DeviceStart S R → ReaderStarts S
 starts_of start = record { bytes = record { source = start.source; pieces = start.bytes }; edges = option_map edge_start_of start.edges }
+
+-- the sources of the devices, in order
+abbrev pub sources_at : {S R : Type 0} → List (DeviceStart S R) → List S
+sources_at {S} {R} starts = map (λ (start : DeviceStart S R). start.source) starts
+
+-- and those of their edges
+abbrev pub edge_source_of : {S R : Type 0} → Option (EdgeStart S R) → Option S
+edge_source_of {S} {R} start = option_map (λ (edge : EdgeStart S R). edge.source) start
+
+abbrev pub edges_at : {S R : Type 0} → List (DeviceStart S R) → List (Option S)
+edges_at {S} {R} starts = map (λ (start : DeviceStart S R). edge_source_of start.edges) starts

@@ -1,6 +1,7 @@
 -- When want of memory was met. This project's own.
-use Rattle.std.specs.Prelude.{◌≡◌, Bool, true, not, ◌&&◌, ◌||◌, List}
+use Rattle.std.specs.Prelude.{◌≡◌, Bool, true, not, ◌&&◌, ◌||◌, is_some, List, Option}
 use Rattle.std.specs.List.{list_all}
+use Rattle.hub_laws.specs.declared.ends.DeviceEnd.{DeviceEnd}
 use Rattle.hub_laws.specs.Given.{is_end}
 use Rattle.serve_parts.specs.declared.done.DeviceDone.{DeviceDone}
 use Rattle.serve_threads.specs.declared.monitors.WatchDone.{WatchDone}
@@ -13,6 +14,10 @@ lacks_memory o = o.no_memory || (not o.read_fault && not o.ended)
 -- each monitor made all its readings
 abbrev pub EachWhole : List WatchDone → Type 0
 EachWhole watched = list_all (λ (watch : WatchDone). watch.whole) watched ≡ true
+
+-- a device has ended or was lost
+abbrev pub HasStopped : Option DeviceEnd → Type 0
+HasStopped end = is_some end ≡ true
 
 -- each device has ended
 abbrev pub AllEnded : {S R : Type 0} → List (DeviceDone S R) → Type 0

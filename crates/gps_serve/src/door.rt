@@ -1,10 +1,10 @@
-ghost use Rattle.std.specs.Prelude.{ℕ, ◌≡◌, ◌≤◌, ◌<◌, ◌+◌, ◌⊎◌, ◌++◌, ◌∷◌, [], length, IfOk, OnOk, true, false, map};
+ghost use Rattle.std.specs.Prelude.{◌≡◌, ◌≤◌, ◌<◌, ◌+◌, ◌⊎◌, ◌++◌, ◌∷◌, ℕ, List, Option, [], length, IfOk, IfSome, OnOk, true, false, map};
 ghost use Rattle.std.specs.List.{AllZip};
 ghost use Rattle.std.specs.Vec.{vec_len, vec_capacity};
 ghost use Rattle.gps_outside.specs.Counts.{Rose};
 ghost use Rattle.gps_outside.specs.Links.{IsUnread, IsUnwritten};
 ghost use Rattle.serve_threads.specs.Sessions.{SessionRuns};
-ghost use Rattle.gps_serve.specs.Doors.{AreSeated, FailsBy, IsNewLink, Tended, links_at};
+ghost use Rattle.gps_serve.specs.Doors.{AreSeated, Deals, FailsBy, IsNewLink, Tended, Tends, Way, door_now, links_at, way_of};
 
 use crate::floor::Floor;
 use gps_fixed::NoMemory;
@@ -14,7 +14,9 @@ use gps_outside::{Door, DoorStep, Sink, Source};
 use report_book::BookFault;
 use serve_parts::SessionDone;
 use serve_pieces::Piece;
-use serve_threads::{Attending, Bells, Link, SessionBells, SessionRun, Work, start, start_session};
+use serve_threads::{
+    Attending, Bells, Link, SessionBells, SessionRun, Work, start_if, start_session,
+};
 use session_core::Item;
 use std::alloc::Global;
 use std::marker::PhantomData;
@@ -98,6 +100,7 @@ pub(crate) struct DoorBegin<
     pub(crate) ghost high: { queue ≤ 65536 },
     pub(crate) ghost none: { room.items ≡ [] },
     pub(crate) ghost new: { seat.links ≡ [] },
+    pub(crate) ghost not_done: { seat.done ≡ false },
 }
 
 /// The bells of a session, once for each who rings them or sleeps on them.
@@ -264,6 +267,8 @@ impl<S: Source, K: Sink, G: Door<In = S, Out = K>, J: HubNaming, R: Wait + Copy>
         ensures seat { self.new.seat ≡ self.old.seat }
         ensures seated { self.new.sessions.seated.items ≡ self.old.sessions.seated.items }
         ensures failed { self.new.failed ≡ self.old.failed }
+        ensures full { self.new.full ≡ self.old.full }
+        ensures no_memory { self.new.no_memory ≡ self.old.no_memory }
         ensures seated_room { OnOk result (vec_len self.new.sessions.seated < vec_capacity self.new.sessions.seated) }
         ensures live_room { OnOk result (vec_len self.new.sessions.live < vec_capacity self.new.sessions.live) }
         ensures runs_room { OnOk result (vec_len self.new.sessions.seated < vec_capacity self.new.sessions.runs) }
@@ -284,6 +289,8 @@ impl<S: Source, K: Sink, G: Door<In = S, Out = K>, J: HubNaming, R: Wait + Copy>
         ensures gate { self.new.gate ≡ self.old.gate }
         ensures seat { self.new.seat ≡ self.old.seat }
         ensures failed { self.new.failed ≡ self.old.failed }
+        ensures full { self.new.full ≡ self.old.full }
+        ensures no_memory { self.new.no_memory ≡ self.old.no_memory }
         ensures seated { self.new.sessions.seated.items ≡ self.old.sessions.seated.items ++ session ∷ [] }
     {
         self.sessions.add(session);
@@ -314,6 +321,8 @@ impl<S: Source, K: Sink, G: Door<In = S, Out = K>, J: HubNaming, R: Wait + Copy>
         ensures seated { AreSeated (IsNewLink S.content S.faults S.quiets K.written K.faults) queue (links_at self.new.sessions.seated.items) self.new.seat }
         ensures gate { self.new.gate ≡ self.old.gate }
         ensures failed { self.new.failed ≡ self.old.failed }
+        ensures done { self.new.seat.done ≡ self.old.seat.done }
+        ensures deals { Deals (source, sink) (map way_of (links_at self.old.sessions.seated.items)) (map way_of (links_at self.new.sessions.seated.items)) self.old.full self.new.full self.old.no_memory self.new.no_memory }
     {
         let Ok(places) = make_places(rt, alloc, queue) else {
             self.no_memory = true;
@@ -346,7 +355,16 @@ impl<S: Source, K: Sink, G: Door<In = S, Out = K>, J: HubNaming, R: Wait + Copy>
                     pieces,
                     items,
                 };
-                let work = start_session(rt, alloc, scope, link, reader, writer, &bells.pump);
+                let work = start_session(
+                    rt,
+                    alloc,
+                    scope,
+                    link,
+                    reader,
+                    writer,
+                    &door,
+                    &bells.pump,
+                );
                 self.seat(Seated { work, bells: door });
             }
             Err(BookFault::TooManySessions { live: _, opened: _ }) => {
@@ -361,6 +379,8 @@ impl<S: Source, K: Sink, G: Door<In = S, Out = K>, J: HubNaming, R: Wait + Copy>
         ensures gate { self.new.gate ≡ self.old.gate }
         ensures sessions { self.new.sessions ≡ self.old.sessions }
         ensures failed { self.new.failed ≡ self.old.failed }
+        ensures full { self.new.full ≡ self.old.full }
+        ensures no_memory { self.new.no_memory ≡ self.old.no_memory }
         ensures links { self.new.seat.links ≡ self.old.seat.links }
     {
         floor.lock(rt).hub.door_done(&mut self.seat);
@@ -388,6 +408,7 @@ impl<S: Source, K: Sink, G: Door<In = S, Out = K>, J: HubNaming, R: Wait + Copy>
         ensures seated { AreSeated (IsNewLink S.content S.faults S.quiets K.written K.faults) queue (links_at self.new.sessions.seated.items) self.new.seat }
         ensures faults_stay { G.faults self.old.gate ≤ G.faults self.new.gate }
         ensures failed { self.new.failed ≡ true → (self.old.failed ≡ true) ⊎ Rose (G.faults self.old.gate) (G.faults self.new.gate) }
+        ensures tends { (told : Option (List (Way S K))) → Tends told (door_now (G.links self.old.gate) (G.faults self.old.gate) (G.quiets self.old.gate) self.old.full self.old.no_memory) (map way_of (links_at self.old.sessions.seated.items)) self.old.seat.done true → Tends told (door_now (G.links self.new.gate) (G.faults self.new.gate) (G.quiets self.new.gate) self.new.full self.new.no_memory) (map way_of (links_at self.new.sessions.seated.items)) self.new.seat.done false }
     {
         match self.gate.accept() {
             DoorStep::Link(source, sink) => {
@@ -420,7 +441,7 @@ impl<S: Source, K: Sink, G: Door<In = S, Out = K>, J: HubNaming, R: Wait + Copy>
         floor: &'s Mutex<Floor<J, R>>,
         bells: &'s Bells,
         queue: u32,
-        open: bool,
+        to_ask: bool,
         last: bool,
     ) -> bool
     where
@@ -432,8 +453,9 @@ impl<S: Source, K: Sink, G: Door<In = S, Out = K>, J: HubNaming, R: Wait + Copy>
         requires seated { AreSeated (IsNewLink S.content S.faults S.quiets K.written K.faults) queue (links_at self.old.sessions.seated.items) self.old.seat }
         ensures seated { AreSeated (IsNewLink S.content S.faults S.quiets K.written K.faults) queue (links_at self.new.sessions.seated.items) self.new.seat }
         ensures fails { (first : ℕ) → FailsBy self.old.failed first (G.faults self.old.gate) → FailsBy self.new.failed first (G.faults self.new.gate) }
+        ensures tends { (told : Option (List (Way S K))) → Tends told (door_now (G.links self.old.gate) (G.faults self.old.gate) (G.quiets self.old.gate) self.old.full self.old.no_memory) (map way_of (links_at self.old.sessions.seated.items)) self.old.seat.done to_ask → Tends told (door_now (G.links self.new.gate) (G.faults self.new.gate) (G.quiets self.new.gate) self.new.full self.new.no_memory) (map way_of (links_at self.new.sessions.seated.items)) self.new.seat.done false }
     {
-        if open {
+        if to_ask {
             self.ask(rt, alloc, scope, floor, bells, queue)
         } else {
             if !last {
@@ -449,6 +471,8 @@ impl<S: Source, K: Sink, G: Door<In = S, Out = K>, J: HubNaming, R: Wait + Copy>
         ensures gate { self.new.gate ≡ self.old.gate }
         ensures seat { self.new.seat ≡ self.old.seat }
         ensures failed { self.new.failed ≡ self.old.failed }
+        ensures full { self.new.full ≡ self.old.full }
+        ensures no_memory { self.new.no_memory ≡ self.old.no_memory }
         ensures links { links_at self.new.sessions.seated.items ≡ links_at self.old.sessions.seated.items }
     {
         self.sessions.join_gone(rt);
@@ -463,7 +487,7 @@ impl<S: Source, K: Sink, G: Door<In = S, Out = K>, J: HubNaming, R: Wait + Copy>
         floor: &'s Mutex<Floor<J, R>>,
         bells: &'s Bells,
         queue: u32,
-        open: bool,
+        to_ask: bool,
         last: bool,
     ) -> bool
     where
@@ -475,10 +499,11 @@ impl<S: Source, K: Sink, G: Door<In = S, Out = K>, J: HubNaming, R: Wait + Copy>
         requires seated { AreSeated (IsNewLink S.content S.faults S.quiets K.written K.faults) queue (links_at self.old.sessions.seated.items) self.old.seat }
         ensures seated { AreSeated (IsNewLink S.content S.faults S.quiets K.written K.faults) queue (links_at self.new.sessions.seated.items) self.new.seat }
         ensures fails { (first : ℕ) → FailsBy self.old.failed first (G.faults self.old.gate) → FailsBy self.new.failed first (G.faults self.new.gate) }
+        ensures tends { (told : Option (List (Way S K))) → Tends told (door_now (G.links self.old.gate) (G.faults self.old.gate) (G.quiets self.old.gate) self.old.full self.old.no_memory) (map way_of (links_at self.old.sessions.seated.items)) self.old.seat.done to_ask → Tends told (door_now (G.links self.new.gate) (G.faults self.new.gate) (G.quiets self.new.gate) self.new.full self.new.no_memory) (map way_of (links_at self.new.sessions.seated.items)) self.new.seat.done false }
     {
-        let open = self.ask_if(rt, alloc, scope, floor, bells, queue, open, last);
+        let to_ask = self.ask_if(rt, alloc, scope, floor, bells, queue, to_ask, last);
         self.join_gone(&rt);
-        open
+        to_ask
     }
 
     /// Tells the sessions that nothing more will come, and waits for their threads.
@@ -486,6 +511,8 @@ impl<S: Source, K: Sink, G: Door<In = S, Out = K>, J: HubNaming, R: Wait + Copy>
         ensures gate { result.gate ≡ self.gate }
         ensures seat { result.seat ≡ self.seat }
         ensures failed { result.failed ≡ self.failed }
+        ensures full { result.full ≡ self.full }
+        ensures no_memory { result.no_memory ≡ self.no_memory }
         ensures runs { AllZip (SessionRuns S.content S.faults S.quiets K.written K.faults) (links_at self.sessions.seated.items) result.runs.items }
     {
         self.sessions.close();
@@ -528,7 +555,7 @@ fn tend<
     bells: &'s Bells,
     begin: DoorBegin<S, K, G, J, R>,
 ) -> DoorDone<S, K, G, J, R>
-    ensures tended { Tended (IsNewLink S.content S.faults S.quiets K.written K.faults) (SessionRuns S.content S.faults S.quiets K.written K.faults) begin.queue result.seat result.runs.items }
+    ensures tended { Tended (IsNewLink S.content S.faults S.quiets K.written K.faults) (SessionRuns S.content S.faults S.quiets K.written K.faults) begin.queue (G.links begin.gate) (door_now (G.links result.gate) (G.faults result.gate) (G.quiets result.gate) result.full result.no_memory) result.seat result.runs.items }
     ensures fails { FailsBy result.failed (G.faults begin.gate) (G.faults result.gate) }
 {
     let DoorBegin {
@@ -546,10 +573,10 @@ fn tend<
         no_memory: false,
         failed: false,
     };
-    let mut open = true;
+    let mut to_ask = true;
     'asks: for _ in rt.forever() {
         let last = bells.door.is_closed();
-        open = doorman.turn(rt, alloc, scope, floor, bells, queue, open, last);
+        to_ask = doorman.turn(rt, alloc, scope, floor, bells, queue, to_ask, last);
         if last {
             return doorman.leave(&rt);
         }
@@ -569,12 +596,12 @@ impl<S: Source, K: Sink, G: Door<In = S, Out = K>, J: HubNaming, R: Wait + Copy>
     DoorDone<S, K, G, J, R>,
 > for Tending<G, J> {
     ghost use Rattle.serve_threads.specs.Sessions.{SessionRuns};
-    ghost use Rattle.gps_serve.specs.Doors.{FailsBy, IsNewLink, Tended};
+    ghost use Rattle.gps_serve.specs.Doors.{FailsBy, IsNewLink, Tended, door_now};
 
-    ghost kept_by = { λ p r. Tended (IsNewLink S.content S.faults S.quiets K.written K.faults) (SessionRuns S.content S.faults S.quiets K.written K.faults) p.queue r.seat r.runs.items × FailsBy r.failed (G.faults p.gate.value) (G.faults r.gate) };
+    ghost kept_by = { λ p r. Tended (IsNewLink S.content S.faults S.quiets K.written K.faults) (SessionRuns S.content S.faults S.quiets K.written K.faults) p.queue (G.links p.gate.value) (door_now (G.links r.gate) (G.faults r.gate) (G.quiets r.gate) r.full r.no_memory) r.seat r.runs.items × FailsBy r.failed (G.faults p.gate.value) (G.faults r.gate) };
 }
 
-/// Starts the door worker.
+/// Starts the door worker, where there is a thread for it.
 pub(crate) fn start_door<
     's,
     E,
@@ -590,16 +617,16 @@ pub(crate) fn start_door<
     floor: &'s Mutex<Floor<J, R>>,
     bells: &'s Bells,
     begin: DoorBegin<S, K, G, J, R>,
-) -> Work<DoorDone<S, K, G, J, R>, Tending<G, J>>
-    ensures gate { result.gate.value ≡ begin.gate }
-    ensures queue { result.queue ≡ begin.queue }
+) -> Option<Work<DoorDone<S, K, G, J, R>, Tending<G, J>>>
+    ensures gate { IfSome result (λ work. work.gate.value ≡ begin.gate) }
+    ensures queue { IfSome result (λ work. work.queue ≡ begin.queue) }
 {
     let promise = Tending {
         gate: Snapshot::of(&begin.gate),
         queue: begin.queue,
         marker: PhantomData,
     };
-    start(scope, promise, move || {
+    start_if(scope, promise, move || {
         tend(rt, alloc, scope, floor, bells, begin)
     })
 }

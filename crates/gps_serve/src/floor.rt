@@ -1,9 +1,13 @@
-ghost use Rattle.std.specs.Prelude.{◌≡◌, ◌<◌, [], length, IfOk, IfSome, OnOk, OnErr, true};
+ghost use Rattle.std.specs.Prelude.{◌≡◌, ◌<◌, [], length, IfOk, IfErr, IfSome, OnOk, OnErr, true, false};
 ghost use Rattle.std.specs.List.{All};
 ghost use Rattle.gps_serve.specs.declared.floor.Burst.TheVariants.{Over};
+ghost use Rattle.gps_hub.specs.Admitting.{IsCrowded};
 ghost use Rattle.hub_laws.specs.Keeping.{IsClosed};
 ghost use Rattle.hub_door.specs.Admissions.{admitting, finished, link_of};
+ghost use Rattle.gps_serve.specs.Statuses.{HasStopped};
+ghost use Rattle.gps_serve.specs.Units.{AreAtRest, IsAtRestIn};
 
+use crate::status::either;
 use gps_hub::{DoorSeat, Hub, HubNaming, Look, Pumped};
 use gps_lane::{Rx, Tx};
 use report_book::{BookFault, UnitStep};
@@ -123,6 +127,7 @@ impl<J: HubNaming, R: Wait + Copy> Floor<J, R> {
     /// Takes what waits in the lanes of devices and sessions. Where all devices have stopped, the book is shut, and the sessions are told.
     pub(crate) fn burst(&mut self) -> Burst
         ensures closed { result ≡ Over → All IsClosed self.new.hub.book.sessions }
+        ensures stopped { result ≡ Over → All HasStopped self.new.hub.ends }
     {
         let fed = self.feed_all();
         let heard = self.attend_all();
@@ -136,26 +141,49 @@ impl<J: HubNaming, R: Wait + Copy> Floor<J, R> {
         }
     }
 
-    fn store(&mut self, unit: u8) -> bool {
-        if unit >= self.units {
-            return false;
-        }
+    /// One store of a unit. False where there is none to make.
+    #[tactic(auto, using(crate::proofs::Resting::empty_rests, crate::proofs::Resting::spent_rests))]
+    fn store(&mut self, unit: u8) -> bool
+        requires { unit < length J.terms.segments }
+        ensures sessions { self.new.hub.book.sessions ≡ self.old.hub.book.sessions }
+        ensures ends { self.new.hub.ends ≡ self.old.hub.ends }
+        ensures none { result ≡ false → (self.new.hub.book.units ≡ self.old.hub.book.units) × IsAtRestIn unit self.new.hub.book.units }
+    {
         match self.hub.publish(unit) {
             UnitStep::Stored { word: _, value: _ } => true,
-            UnitStep::Empty | UnitStep::Spent => false,
+            UnitStep::Empty => false,
+            UnitStep::Spent => false,
         }
     }
 
-    /// Stores the samples of each unit that wait, so many at most.
-    pub(crate) fn publish(&mut self) -> bool {
-        let mut stored = false;
-        for unit in 0..self.units {
-            for _ in 0..STEPS {
-                if !self.store(unit) {
-                    break;
-                }
-                stored = true;
+    /// Stores the samples of a unit that wait, so many at most. False where there is none to store.
+    fn store_some(&mut self, unit: u8) -> bool
+        requires { unit < length J.terms.segments }
+        ensures sessions { self.new.hub.book.sessions ≡ self.old.hub.book.sessions }
+        ensures ends { self.new.hub.ends ≡ self.old.hub.ends }
+        ensures none { result ≡ false → (self.new.hub.book.units ≡ self.old.hub.book.units) × IsAtRestIn unit self.new.hub.book.units }
+    {
+        if !self.store(unit) {
+            return false;
+        }
+        'steps: for _ in 1..STEPS {
+            if !self.store(unit) {
+                break;
             }
+        }
+        true
+    }
+
+    /// Stores the samples of each unit that wait, so many at most. False where there is none to store.
+    pub(crate) fn publish(&mut self) -> bool
+        ensures sessions { self.new.hub.book.sessions ≡ self.old.hub.book.sessions }
+        ensures ends { self.new.hub.ends ≡ self.old.hub.ends }
+        ensures rest { result ≡ false → AreAtRest (length J.terms.segments) self.new.hub.book.units }
+    {
+        let mut stored = false;
+        'units: for unit in 0..self.units {
+            let some = self.store_some(unit);
+            stored = either(stored, some);
         }
         stored
     }
@@ -173,6 +201,7 @@ impl<J: HubNaming, R: Wait + Copy> Floor<J, R> {
         ensures number { IfOk result (λ s. s ≡ length door.old.links) }
         ensures door { OnOk result (door.new ≡ admitting (link_of outlet.lane outlet.cap input.lane) door.old) }
         ensures unchanged { OnErr result (door.new ≡ door.old) }
+        ensures crowded { IfErr result (λ fault. IsCrowded fault (length door.old.links)) }
     {
         if self.sessions.push(bells).is_err() {
             return Err(BookFault::NoMemory);

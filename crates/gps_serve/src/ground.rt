@@ -6,7 +6,8 @@ ghost use Rattle.gps_serve.specs.Works.{monitored};
 ghost use Rattle.hub_laws.specs.Keeping.{IsUnused, NothingGot};
 ghost use Rattle.serve_opening.specs.Opening.{AreUnread, sources_in};
 ghost use Rattle.serve_settling.specs.Runs.{source_facts};
-ghost use Rattle.gps_serve.specs.Starts.{IsFreshDevice};
+ghost use Rattle.gps_serve.specs.Starts.{IsFreshDevice, edges_at, sources_at};
+ghost use Rattle.gps_serve.specs.Units.{CountFromZero};
 
 use crate::lanes::{Lanes, lay};
 use gps_fixed::NoMemory;
@@ -43,6 +44,7 @@ fn new_book<R: Wait + Copy>(
     ensures names { IfOk result (λ book. book.names ≡ names) }
     ensures limit { IfOk result (λ book. book.log.limit ≡ limit) }
     ensures units { IfOk result (λ book. length book.units ≡ 2 * length names) }
+    ensures from { IfOk result (λ book. CountFromZero (map segment_of book.units)) }
     ensures few { length names ≤ 8 }
 {
     let _few = names.len();
@@ -80,6 +82,7 @@ pub(crate) fn prepare<S: Source, R: Wait + Copy>(
     requires some { 1 ≤ limit }
     requires most { limit ≤ 33554432 }
     requires count { length inputs.items ≡ length names }
+    requires each { length edges.items ≡ length names }
     requires inputs { AreUnread S.content S.faults S.quiets inputs.items }
     requires edges { AreUnread S.content S.faults S.quiets (sources_in edges.items) }
     ensures unused { IfOk result (λ ground. IsUnused ground.book) }
@@ -89,6 +92,9 @@ pub(crate) fn prepare<S: Source, R: Wait + Copy>(
     ensures units { IfOk result (λ ground. length ground.book.units ≡ 2 * length ground.book.names) }
     ensures count { IfOk result (λ ground. length ground.lanes.inlets.items ≡ length ground.book.names) }
     ensures nothing { IfOk result (λ ground. All NothingGot ground.lanes.inlets.items) }
+    ensures from { IfOk result (λ ground. CountFromZero (map segment_of ground.book.units)) }
+    ensures sources { IfOk result (λ ground. sources_at ground.lanes.starts.items ≡ inputs.items) }
+    ensures edge_sources { IfOk result (λ ground. edges_at ground.lanes.starts.items ≡ edges.items) }
     ensures watchers { IfOk result (λ ground. segments_of ground.watchers.items ≡ monitored tries (map segment_of ground.book.units)) }
     ensures fresh { IfOk result (λ ground. AllZip (IsFreshDevice (source_facts S.content S.faults S.quiets)) ground.lanes.starts.items ground.lanes.inlets.items) }
 {

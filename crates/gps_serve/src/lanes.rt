@@ -1,10 +1,10 @@
-ghost use Rattle.std.specs.Prelude.{◌≡◌, ◌≤◌, [], length, IfOk};
+ghost use Rattle.std.specs.Prelude.{◌≡◌, ◌≤◌, ◌<◌, ◌∷◌, [], length, IfOk};
 ghost use Rattle.std.specs.List.{AllZip};
 ghost use Rattle.std.specs.Option.{option_to_list};
 ghost use Rattle.std.specs.Vec.Iter.{into_iter_items};
 ghost use Rattle.serve_opening.specs.Opening.{AreUnread, sources_in};
 ghost use Rattle.serve_settling.specs.Runs.{source_facts};
-ghost use Rattle.gps_serve.specs.Starts.{IsFreshDevice, IsFreshEdge, IsUnreadBy};
+ghost use Rattle.gps_serve.specs.Starts.{IsFreshDevice, IsFreshEdge, IsUnreadBy, edge_source_of, edges_at, sources_at};
 
 use crate::door::PIECES;
 use gps_fixed::NoMemory;
@@ -58,7 +58,8 @@ fn lay_edges<S: Source, R: Wait + Copy>(
     source: Option<S>,
 ) -> Result<LaidEdges<S, R>, NoMemory>
     requires { AreUnread S.content S.faults S.quiets (option_to_list source) }
-    ensures { IfOk result (λ laid. IsFreshEdge (source_facts S.content S.faults S.quiets) laid.start laid.inlet) }
+    ensures fresh { IfOk result (λ laid. IsFreshEdge (source_facts S.content S.faults S.quiets) laid.start laid.inlet) }
+    ensures source { IfOk result (λ laid. edge_source_of laid.start ≡ source) }
 {
     match source {
         Some(source) => match lane(rt, alloc, PIECES) {
@@ -83,7 +84,9 @@ fn lay_device<S: Source, R: Wait + Copy>(
 ) -> Result<Laid<S, R>, NoMemory>
     requires source { IsUnreadBy (source_facts S.content S.faults S.quiets) source }
     requires edges { AreUnread S.content S.faults S.quiets (option_to_list edges) }
-    ensures { IfOk result (λ laid. IsFreshDevice (source_facts S.content S.faults S.quiets) laid.start laid.inlets) }
+    ensures fresh { IfOk result (λ laid. IsFreshDevice (source_facts S.content S.faults S.quiets) laid.start laid.inlets) }
+    ensures source { IfOk result (λ laid. laid.start.source ≡ source) }
+    ensures edges { IfOk result (λ laid. edge_source_of laid.start.edges ≡ edges) }
 {
     let (bytes, bytes_rx) = lane(rt, alloc, PIECES)?;
     let LaidEdges { start, inlet } = lay_edges(rt, alloc, edges)?;
@@ -100,16 +103,18 @@ fn lay_device<S: Source, R: Wait + Copy>(
     })
 }
 
-/// The next device's source of edges, where it has one.
+/// The next device's source of edges, where the device has one.
 #[tactic(auto, using(crate::proofs::Starting::next_unread, crate::proofs::Starting::rest_unread))]
 fn next_edge<S: Source>(edges: &mut IntoIter<Option<S>>) -> Option<S>
-    requires { AreUnread S.content S.faults S.quiets (sources_in (into_iter_items edges.old)) }
+    requires unread { AreUnread S.content S.faults S.quiets (sources_in (into_iter_items edges.old)) }
+    requires some { 0 < length (into_iter_items edges.old) }
+    ensures items { into_iter_items edges.old ≡ result ∷ into_iter_items edges.new }
     ensures next { AreUnread S.content S.faults S.quiets (option_to_list result) }
     ensures rest { AreUnread S.content S.faults S.quiets (sources_in (into_iter_items edges.new)) }
 {
     match edges.next() {
         Some(edge) => edge,
-        None => None,
+        None => unreachable!(),
     }
 }
 
@@ -123,6 +128,9 @@ pub(crate) fn lay<S: Source, R: Wait + Copy>(
 ) -> Result<Lanes<S, R>, NoMemory>
     requires inputs { AreUnread S.content S.faults S.quiets inputs.items }
     requires edges { AreUnread S.content S.faults S.quiets (sources_in edges.items) }
+    requires each { length edges.items ≡ length inputs.items }
+    ensures sources { IfOk result (λ lanes. sources_at lanes.starts.items ≡ inputs.items) }
+    ensures edge_sources { IfOk result (λ lanes. edges_at lanes.starts.items ≡ edges.items) }
     ensures fresh { IfOk result (λ lanes. AllZip (IsFreshDevice (source_facts S.content S.faults S.quiets)) lanes.starts.items lanes.inlets.items) }
     ensures count { IfOk result (λ lanes. length lanes.inlets.items ≡ length inputs.items) }
 {

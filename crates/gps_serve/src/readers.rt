@@ -28,7 +28,7 @@ fn start_edge_work<'s, E, S: Source + Send + 's, R: Wait + Copy + Send + Sync + 
     alloc: Global,
     scope: &'s Scope<'s, E>,
     start: Option<EdgeStart<S, R>>,
-    own: &'s Bell,
+    own: &'s DeviceBells,
     pump: &'s Bell,
 ) -> Option<Work<ReaderDone<S, R>, EdgeReading<S, R>>>
     ensures { EdgesAre start result }
@@ -36,7 +36,9 @@ fn start_edge_work<'s, E, S: Source + Send + 's, R: Wait + Copy + Send + Sync + 
     match start {
         Some(start) => {
             let EdgeStart { source, lines } = start;
-            Some(start_edges(rt, alloc, scope, source, lines, own, pump))
+            Some(start_edges(
+                rt, alloc, scope, source, lines, &own.edges, &own.alone, pump,
+            ))
         }
         None => None,
     }
@@ -66,8 +68,10 @@ pub(crate) fn start_readers<
         bytes,
         edges,
     } = start;
-    let bytes = start_device(rt, alloc, scope, source, clock, bytes, &own.bytes, pump);
-    let edges = start_edge_work(rt, alloc, scope, edges, &own.edges, pump);
+    let bytes = start_device(
+        rt, alloc, scope, source, clock, bytes, &own.bytes, &own.alone, pump,
+    );
+    let edges = start_edge_work(rt, alloc, scope, edges, own, pump);
     DeviceWork { bytes, edges }
 }
 

@@ -1,10 +1,10 @@
 ghost use Rattle.std.specs.Prelude.{◌≡◌, ◌≤◌, [], length, IfOk};
 ghost use Rattle.std.specs.List.{AllZip};
 ghost use Rattle.std.specs.Vec.{vec_len, vec_capacity};
-ghost use Rattle.serve_threads.specs.Sessions.{SessionRuns};
-ghost use Rattle.gps_serve.specs.Doors.{FailsBy, IsNewLink, Tended};
 ghost use Rattle.serve_settling.specs.Runs.{RunCause, EachRun, source_facts};
+ghost use Rattle.gps_serve.specs.AtEnd.{gate_facts, sink_facts};
 ghost use Rattle.gps_serve.specs.Runs.{RanOn};
+ghost use Rattle.gps_serve.specs.Scopes.{CausesIf, CountsIf, FailsIf, RanIf, TendedIf, WatchedIf};
 ghost use Rattle.gps_serve.specs.Works.{JoinsDevice, JoinsWatcher, ReadersAre, WatchedBy, WatchesFor};
 
 use crate::door::{DoorBegin, DoorDone, start_door};
@@ -212,7 +212,8 @@ fn join_watchers<T: Threads>(
     watched
 }
 
-/// Starts all threads, pumps until all devices have stopped, and joins them.
+/// Starts all threads, pumps until all devices have stopped, and joins them. None where there is no thread for the door or the publisher;
+/// then no other was started.
 #[tactic(auto, using(crate::proofs::Zips::devices_ran, crate::proofs::Zips::watchers_ran))]
 fn work<
     's,
@@ -233,14 +234,13 @@ fn work<
     bells: &'s Bells,
     tries: u32,
     setup: Setup<S, K, G, D, J, R>,
-) -> Ended<S, K, G, J, R>
-    ensures fails { FailsBy result.door.failed (G.faults setup.door.gate) (G.faults result.door.gate) }
-    ensures tended { Tended (IsNewLink S.content S.faults S.quiets K.written K.faults) (SessionRuns S.content S.faults S.quiets K.written K.faults) setup.door.queue result.door.seat result.door.runs.items }
-    ensures causes { EachRun (RunCause S.faults) result.runs.items }
-    ensures ran { AllZip (RanOn D.may (source_facts S.content S.faults S.quiets)) setup.starts.items result.runs.items }
-    ensures watched { AllZip (WatchedBy tries) setup.watchers.items result.watched.items }
-    ensures runs_count { vec_len result.runs ≡ vec_len setup.starts }
-    ensures watched_count { vec_len result.watched ≡ vec_len setup.watchers }
+) -> Option<Ended<S, K, G, J, R>>
+    ensures fails { FailsIf G.faults setup.door.gate result }
+    ensures tended { TendedIf (source_facts S.content S.faults S.quiets) (sink_facts K.written K.faults) (gate_facts G.links G.faults G.quiets) setup.door.queue setup.door.gate result }
+    ensures causes { CausesIf S.faults result }
+    ensures ran { RanIf D.may (source_facts S.content S.faults S.quiets) setup.starts.items result }
+    ensures watched { WatchedIf tries setup.watchers.items result }
+    ensures counts { CountsIf (vec_len setup.starts) (vec_len setup.watchers) result }
 {
     let Setup {
         starts,
@@ -251,25 +251,29 @@ fn work<
         watching,
         watched,
     } = setup;
-    let door = start_door(rt, alloc, scope, floor, bells, door);
-    let publisher = scope.spawn(move || publish(&rt, floor, &bells.publisher));
+    let Ok(publisher) = scope.spawn(move || publish(&rt, floor, &bells.publisher)) else {
+        return None;
+    };
+    let Some(door) = start_door(rt, alloc, scope, floor, bells, door) else {
+        bells.close();
+        publisher.join(&rt);
+        return None;
+    };
     let watching = start_watchers(rt, alloc, scope, watchers, tries, bells, watching);
     let works = start_devices(rt, alloc, scope, starts, clock, bells, works);
     pump(&rt, floor, bells);
     let runs = join_devices(&rt, works, runs);
     let watched = join_watchers(&rt, watching, watched);
-    if let Ok(publisher) = publisher {
-        publisher.join(&rt);
-    }
+    publisher.join(&rt);
     let door = door.join(&rt);
-    Ended {
+    Some(Ended {
         runs,
         watched,
         door,
-    }
+    })
 }
 
-/// Runs all threads in a scope.
+/// Runs all threads in a scope. None where there is no thread for the door or the publisher.
 pub(crate) fn in_scope<
     'e,
     S: Source + Send + 'e,
@@ -287,14 +291,13 @@ pub(crate) fn in_scope<
     bells: &'e Bells,
     tries: u32,
     setup: Setup<S, K, G, D, J, R>,
-) -> Ended<S, K, G, J, R>
-    ensures fails { FailsBy result.door.failed (G.faults setup.door.gate) (G.faults result.door.gate) }
-    ensures tended { Tended (IsNewLink S.content S.faults S.quiets K.written K.faults) (SessionRuns S.content S.faults S.quiets K.written K.faults) setup.door.queue result.door.seat result.door.runs.items }
-    ensures causes { EachRun (RunCause S.faults) result.runs.items }
-    ensures ran { AllZip (RanOn D.may (source_facts S.content S.faults S.quiets)) setup.starts.items result.runs.items }
-    ensures watched { AllZip (WatchedBy tries) setup.watchers.items result.watched.items }
-    ensures runs_count { vec_len result.runs ≡ vec_len setup.starts }
-    ensures watched_count { vec_len result.watched ≡ vec_len setup.watchers }
+) -> Option<Ended<S, K, G, J, R>>
+    ensures fails { FailsIf G.faults setup.door.gate result }
+    ensures tended { TendedIf (source_facts S.content S.faults S.quiets) (sink_facts K.written K.faults) (gate_facts G.links G.faults G.quiets) setup.door.queue setup.door.gate result }
+    ensures causes { CausesIf S.faults result }
+    ensures ran { RanIf D.may (source_facts S.content S.faults S.quiets) setup.starts.items result }
+    ensures watched { WatchedIf tries setup.watchers.items result }
+    ensures counts { CountsIf (vec_len setup.starts) (vec_len setup.watchers) result }
 {
     thread::scope(
         thread::scope_env(),

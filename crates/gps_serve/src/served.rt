@@ -1,4 +1,4 @@
-ghost use Rattle.std.specs.Prelude.{◌≡◌, ◌≤◌, ◌<◌, ◌+◌, ◌*◌, ◌⊎◌, ◌++◌, [], length, map, None, IsSome, IfSome, IfOk, true, false};
+ghost use Rattle.std.specs.Prelude.{◌≡◌, ◌≤◌, ◌<◌, ◌+◌, ◌*◌, ◌⊎◌, ◌++◌, [], length, map, None, IsSome, IfSome, IfOk, is_some, true, false};
 ghost use Rattle.std.specs.List.{All, AllZip};
 ghost use Rattle.std.specs.Vec.{vec_len, vec_capacity};
 ghost use Rattle.gps_outside.specs.Counts.{Rose};
@@ -6,17 +6,18 @@ ghost use Rattle.book_units.specs.Units.{segment_of};
 ghost use Rattle.hub_laws.specs.Keeping.{IsClosed, IsUnused, NothingGot};
 ghost use Rattle.hub_laws.specs.Parts.{terms_of};
 ghost use Rattle.gps_world.specs.Asking.{asked_nothing};
-ghost use Rattle.serve_opening.specs.Opening.{AsksAll, AsksSome, dial_of, places_in};
+ghost use Rattle.serve_opening.specs.Opening.{AsksAll, AsksSome, GivenOnce, dial_of, places_in};
 ghost use Rattle.serve_parts.specs.Plans.{IsPlan};
 ghost use Rattle.serve_settling.specs.Failing.{DeviceFailed, SomeFailed, SourceFailed};
 ghost use Rattle.serve_settling.specs.Runs.{RunCause, EachRun, source_facts};
 ghost use Rattle.serve_threads.specs.Segments.{segments_of};
 ghost use Rattle.serve_threads.specs.Sessions.{SessionRuns};
-ghost use Rattle.gps_serve.specs.AtEnd.{AtEnd, sink_facts, told_in, told_of};
-ghost use Rattle.gps_serve.specs.Doors.{IsNewLink, Tended};
-ghost use Rattle.gps_serve.specs.Runs.{DevicesRan};
-ghost use Rattle.gps_serve.specs.Starts.{IsFreshDevice};
-ghost use Rattle.gps_serve.specs.Statuses.{AllEnded};
+ghost use Rattle.gps_serve.specs.AtEnd.{AtEnd, BytesHeld, EdgesHeld, gate_facts, sink_facts, told_in, told_of};
+ghost use Rattle.gps_serve.specs.Doors.{IsNewLink, Tended, door_now};
+ghost use Rattle.gps_serve.specs.Runs.{DeviceReads, DevicesRan, IsLeftOf};
+ghost use Rattle.gps_serve.specs.Starts.{IsFreshDevice, edges_at, sources_at};
+ghost use Rattle.gps_serve.specs.Statuses.{AllEnded, HasStopped};
+ghost use Rattle.gps_serve.specs.Units.{AreAtRest, CountFromZero};
 ghost use Rattle.gps_serve.specs.Works.{WatchersRan, monitored};
 
 use crate::door::{DoorBegin, DoorDone};
@@ -35,6 +36,7 @@ use serve_parts::{DeviceDone, MonitorDone, Plan, Served};
 use serve_workers::{Dials, SharedClock};
 use std::alloc::Global;
 use std::marker::Brand;
+use std::snapshot::Snapshot;
 use std::sync::{Mutex, Wait};
 use std::thread::Threads;
 
@@ -56,6 +58,8 @@ fn nothing<W: World, R: Wait + Copy>(alloc: Global, world: W, stop: Stop) -> Ser
     ensures three { result.status ≡ 3 → stop ≡ Stop.Input }
     ensures eight { result.status ≡ 8 → stop ≡ Stop.Listen }
     ensures seven { result.status ≡ 7 → result.no_memory ≡ true }
+    ensures lacked { stop ≡ Stop.NoMemory → result.status ≡ 7 }
+    ensures each { ((result.status ≡ 3) × (stop ≡ Stop.Input)) ⊎ ((result.status ≡ 8) × (stop ≡ Stop.Listen)) ⊎ (result.status ≡ 7) }
 {
     let (status, no_memory) = match stop {
         Stop::Input => (3, false),
@@ -75,23 +79,44 @@ fn nothing<W: World, R: Wait + Copy>(alloc: Global, world: W, stop: Stop) -> Ser
     }
 }
 
-/// Bursts until all devices have stopped, as they have once the pump has ended, and publishes the samples that wait.
-fn shut<J: HubNaming, R: Wait + Copy>(rt: &R, floor: Floor<J, R>) -> Floor<J, R>
-    ensures { All IsClosed result.hub.book.sessions }
+/// Bursts until all devices have stopped, as they have once the pump has ended.
+fn close<J: HubNaming, R: Wait + Copy>(rt: &R, floor: Floor<J, R>) -> Floor<J, R>
+    ensures closed { All IsClosed result.hub.book.sessions }
+    ensures stopped { All HasStopped result.hub.ends }
 {
     let mut floor = floor;
     for _ in rt.forever() {
-        let stored = floor.publish();
         match floor.burst() {
-            Burst::Over => {
-                if !stored {
-                    return floor;
-                }
-            }
+            Burst::Over => return floor,
             Burst::Fed | Burst::Idle => {}
         }
     }
     unreachable!()
+}
+
+/// Publishes the samples that wait.
+fn publish_all<J: HubNaming, R: Wait + Copy>(rt: &R, floor: Floor<J, R>) -> Floor<J, R>
+    ensures sessions { result.hub.book.sessions ≡ floor.hub.book.sessions }
+    ensures ends { result.hub.ends ≡ floor.hub.ends }
+    ensures rest { AreAtRest (length J.terms.segments) result.hub.book.units }
+{
+    let mut floor = floor;
+    'rounds: for _ in rt.forever() {
+        if !floor.publish() {
+            return floor;
+        }
+    }
+    unreachable!()
+}
+
+/// Takes what is left in the lanes, and publishes what waits then.
+fn shut<J: HubNaming, R: Wait + Copy>(rt: &R, floor: Floor<J, R>) -> Floor<J, R>
+    ensures closed { All IsClosed result.hub.book.sessions }
+    ensures stopped { All HasStopped result.hub.ends }
+    ensures rest { AreAtRest (length J.terms.segments) result.hub.book.units }
+{
+    let floor = close(rt, floor);
+    publish_all(rt, floor)
 }
 
 /// Room for what is put together at the end.
@@ -126,13 +151,18 @@ fn gather<W: World, J: HubNaming, D: Dials, R: Wait + Copy>(
     rooms: DoneRooms<W, R>,
     world: W,
     numbers: Numbers,
+    first: Snapshot<W::Gate>,
 ) -> Served<W, R>
     requires ran { DevicesRan D.may (source_facts W.In.content W.In.faults W.In.quiets) J.terms.lanes ended.runs.items }
     requires causes { EachRun (RunCause W.In.faults) ended.runs.items }
     requires cause { ended.door.failed ≡ true → 0 < W.Gate.faults ended.door.gate }
-    requires tended { Tended (IsNewLink W.In.content W.In.faults W.In.quiets W.Out.written W.Out.faults) (SessionRuns W.In.content W.In.faults W.In.quiets W.Out.written W.Out.faults) numbers.queue ended.door.seat ended.door.runs.items }
+    requires tended { Tended (IsNewLink W.In.content W.In.faults W.In.quiets W.Out.written W.Out.faults) (SessionRuns W.In.content W.In.faults W.In.quiets W.Out.written W.Out.faults) numbers.queue (W.Gate.links first.value) (door_now (W.Gate.links ended.door.gate) (W.Gate.faults ended.door.gate) (W.Gate.quiets ended.door.gate) ended.door.full ended.door.no_memory) ended.door.seat ended.door.runs.items }
     requires watched { WatchersRan numbers.tries J.terms.segments ended.watched.items }
     requires wait { J.terms.wait ≡ numbers.wait }
+    requires closed { All IsClosed hub.book.sessions }
+    requires stopped { All HasStopped hub.ends }
+    requires rest { AreAtRest (length J.terms.segments) hub.book.units }
+    requires from { CountFromZero J.terms.segments }
     requires devices { vec_len ended.runs ≤ vec_capacity rooms.devices }
     requires monitors { vec_len ended.watched ≤ vec_capacity rooms.monitors }
     ensures book { IsSome result.book }
@@ -143,7 +173,8 @@ fn gather<W: World, J: HubNaming, D: Dials, R: Wait + Copy>(
     ensures seven { result.status ≡ 7 → result.no_memory ≡ true }
     ensures zero { result.status ≡ 0 → result.no_memory ≡ false }
     ensures ended { result.status ≡ 0 → AllEnded result.devices.items }
-    ensures at_end { IfSome result.book (λ book. AtEnd (told_of J.terms numbers.tries) D.may (source_facts W.In.content W.In.faults W.In.quiets) (sink_facts W.Out.written W.Out.faults) result.no_memory book result.devices.items result.sessions.items result.monitors.items) }
+    ensures left { AllZip IsLeftOf ended.runs.items result.devices.items }
+    ensures at_end { IfSome result.book (λ book. AtEnd (told_of J.terms numbers.queue numbers.tries) D.may (source_facts W.In.content W.In.faults W.In.quiets) (sink_facts W.Out.written W.Out.faults) (gate_facts W.Gate.links W.Gate.faults W.Gate.quiets) (W.Gate.links first.value) result.full result.no_memory book result.devices.items result.sessions.items result.monitors.items result.gate) }
 {
     let Ended {
         runs,
@@ -165,6 +196,7 @@ fn gather<W: World, J: HubNaming, D: Dials, R: Wait + Copy>(
         ends,
         sessions,
     } = hub.part(seat);
+    book.show();
     let DoneRooms { devices, monitors } = rooms;
     let no_memory = lacked(
         no_memory,
@@ -223,6 +255,7 @@ fn begin_of<S: Source, K: Sink, G: Door<In = S, Out = K>, J: HubNaming, R: Wait 
     requires low { 1 ≤ queue }
     requires high { queue ≤ 65536 }
     requires new { seat.links ≡ [] }
+    requires not_done { seat.done ≡ false }
     ensures gate { result.gate ≡ gate }
     ensures queue { result.queue ≡ queue }
 {
@@ -262,6 +295,7 @@ fn run<
     requires units { length ground.book.units ≡ 2 * length ground.book.names }
     requires fresh { AllZip (IsFreshDevice (source_facts W.In.content W.In.faults W.In.quiets)) ground.lanes.starts.items ground.lanes.inlets.items }
     requires watchers { segments_of ground.watchers.items ≡ monitored numbers.tries (map segment_of ground.book.units) }
+    requires from { CountFromZero (map segment_of ground.book.units) }
     requires wait { numbers.wait ≤ 64 }
     requires low { 1 ≤ numbers.queue }
     requires high { numbers.queue ≤ 65536 }
@@ -272,7 +306,9 @@ fn run<
     ensures seven { result.status ≡ 7 → result.no_memory ≡ true }
     ensures zero { result.status ≡ 0 → (result.no_memory ≡ false) × IsSome result.book }
     ensures ended { result.status ≡ 0 → AllEnded result.devices.items }
-    ensures at_end { IfSome result.book (λ book. AtEnd (told_of J.terms numbers.tries) D.may (source_facts W.In.content W.In.faults W.In.quiets) (sink_facts W.Out.written W.Out.faults) result.no_memory book result.devices.items result.sessions.items result.monitors.items) }
+    ensures none { result.book ≡ None → result.status ≡ 7 }
+    ensures reads { IsSome result.book → AllZip (DeviceReads (source_facts W.In.content W.In.faults W.In.quiets)) ground.lanes.starts.items result.devices.items }
+    ensures at_end { IfSome result.book (λ book. AtEnd (told_of J.terms numbers.queue numbers.tries) D.may (source_facts W.In.content W.In.faults W.In.quiets) (sink_facts W.Out.written W.Out.faults) (gate_facts W.Gate.links W.Gate.faults W.Gate.quiets) (W.Gate.links gate) result.full result.no_memory book result.devices.items result.sessions.items result.monitors.items result.gate) }
 {
     let Ground {
         book,
@@ -291,18 +327,21 @@ fn run<
     };
     let floor = Mutex::new(floor_of(alloc, hub, devices));
     let clock = Mutex::new(SharedClock::<W::Now, D>::new(clock));
+    let first = Snapshot::of(&gate);
     let door = begin_of(alloc, gate, seat, numbers.queue);
     let Ok(setup) = set_up::<W::In, W::Out, W::Gate, D, J, R>(alloc, starts, watchers, door) else {
         return nothing(alloc, world, Stop::NoMemory);
     };
-    let ended = in_scope(rt, alloc, &floor, &clock, &bells, numbers.tries, setup);
+    let Some(ended) = in_scope(rt, alloc, &floor, &clock, &bells, numbers.tries, setup) else {
+        return nothing(alloc, world, Stop::NoMemory);
+    };
     let Floor {
         hub,
         devices: _,
         units: _,
         sessions: _,
     } = shut(&rt, floor.into_inner());
-    gather::<W, J, D, R>(&rt, hub, ended, rooms, world, numbers)
+    gather::<W, J, D, R>(&rt, hub, ended, rooms, world, numbers, first)
 }
 
 /// Serves a plan until all its devices have ended.
@@ -321,7 +360,10 @@ pub fn serve<W: World, R: Threads + Wait + Copy + Send + Sync>(
     ensures seven { result.status ≡ 7 → result.no_memory ≡ true }
     ensures zero { result.status ≡ 0 → (result.no_memory ≡ false) × IsSome result.book }
     ensures ended { result.status ≡ 0 → AllEnded result.devices.items }
-    ensures at_end { IfSome result.book (λ book. AtEnd (told_in plan) (dial_of (W.stamps world)) (source_facts W.In.content W.In.faults W.In.quiets) (sink_facts W.Out.written W.Out.faults) result.no_memory book result.devices.items result.sessions.items result.monitors.items) }
+    ensures none { result.book ≡ None → ((result.status ≡ 3) × Rose (W.input_faults world) (W.input_faults result.world)) ⊎ ((result.status ≡ 8) × Rose (W.listen_faults world) (W.listen_faults result.world)) ⊎ (result.status ≡ 7) }
+    ensures at_end { IfSome result.book (λ book. AtEnd (told_in plan) (dial_of (W.stamps world)) (source_facts W.In.content W.In.faults W.In.quiets) (sink_facts W.Out.written W.Out.faults) (gate_facts W.Gate.links W.Gate.faults W.Gate.quiets) (W.links world) result.full result.no_memory book result.devices.items result.sessions.items result.monitors.items result.gate) }
+    ensures held { GivenOnce (plan.inputs.items ++ places_in plan.edges.items) → IsSome result.book → AllZip (BytesHeld (W.behind world) (source_facts W.In.content W.In.faults W.In.quiets)) plan.inputs.items result.devices.items × AllZip (EdgesHeld (W.behind world) (source_facts W.In.content W.In.faults W.In.quiets)) plan.edges.items result.devices.items }
+    ensures edges { IsSome result.book → map (λ device. is_some device.edges) result.devices.items ≡ map is_some plan.edges.items }
     ensures asked { AsksSome (W.asked result.world) (plan.inputs.items ++ places_in plan.edges.items) plan.listen }
     ensures all_asked { IsSome result.book → AsksAll (W.asked result.world) (plan.inputs.items ++ places_in plan.edges.items) plan.listen }
 {

@@ -1,15 +1,16 @@
-ghost use Rattle.std.specs.Prelude.{◌≡◌, ◌≤◌, ◌<◌, ◌||◌, [], ◌∷◌, length, map, true, get_or};
-ghost use Rattle.std.specs.List.{AllZip};
+ghost use Rattle.std.specs.Prelude.{◌≡◌, ◌≤◌, ◌<◌, ◌||◌, [], ◌∷◌, length, map, Some, true, get_or};
+ghost use Rattle.std.specs.List.{AllZip, range_with_len};
 ghost use Rattle.std.specs.Vec.{vec_len, vec_capacity};
 ghost use Rattle.std.specs.Vec.Iter.{into_iter_items};
 ghost use Rattle.book_sessions.specs.Attendance.{Attendance};
 ghost use Rattle.book_units.specs.Units.{UnitView};
-ghost use Rattle.serve_settling.specs.Failing.{DeviceFailed, SomeFailed};
+ghost use Rattle.serve_settling.specs.Failing.{DeviceFailed, SomeFailed, source_of};
 ghost use Rattle.serve_settling.specs.Runs.{RunCause, EachRun, source_facts};
-ghost use Rattle.gps_serve.specs.AtEnd.{DeviceServed, InputServed, MonitorServed, OutletServed, sink_facts, watched_units};
-ghost use Rattle.gps_serve.specs.Readies.{AllServed, AreReady, MonitorReady, SessionReady};
-ghost use Rattle.gps_serve.specs.Runs.{DeviceReady};
+ghost use Rattle.gps_serve.specs.AtEnd.{DeviceServed, MonitorServed, OutletServed, sink_facts, watched_units};
+ghost use Rattle.gps_serve.specs.Readies.{AllServed, AreReady, InputLeft, IsSourceOf, MonitorReady, SessionReady};
+ghost use Rattle.gps_serve.specs.Runs.{DeviceReady, IsLeftOf};
 
+use crate::status::either;
 use gps_hub::{DeviceEnd, Inlets};
 use gps_lane::{Rx, Tx};
 use gps_outside::{Sink, Source};
@@ -34,12 +35,6 @@ fn next_of<T>(rest: &mut IntoIter<T>) -> T
     }
 }
 
-fn either(before: bool, now: bool) -> bool
-    ensures { result ≡ (before || now) }
-{
-    before || now
-}
-
 /// What is left of a device, and whether a source of it failed.
 #[derive(Drop)]
 struct Left<S: Source, R> {
@@ -58,6 +53,8 @@ fn left_of<S: Source, D: Dials, R: Wait + Copy>(
     ensures served { DeviceServed D.may (source_facts S.content S.faults S.quiets) inlets result.device }
     ensures end { result.device.end ≡ end }
     ensures failed { result.failed ≡ true → DeviceFailed S.faults result.device }
+    ensures source { result.device.source ≡ Some run.bytes.source }
+    ensures edges { result.device.edges ≡ source_of run.edges }
 {
     let failed = device_failed(&run);
     let Inlets { bytes, edges } = inlets;
@@ -88,6 +85,7 @@ pub(crate) fn devices_done<S: Source, D: Dials, R: Wait + Copy>(
     ensures served { AllZip (DeviceServed D.may (source_facts S.content S.faults S.quiets)) inlets.items result.devices.items }
     ensures ends { map (λ device. device.end) result.devices.items ≡ ends.items }
     ensures failed { result.failed ≡ true → SomeFailed (DeviceFailed S.faults) result.devices.items }
+    ensures left { AllZip IsLeftOf runs.items result.devices.items }
 {
     let mut devices = room;
     let mut failed = false;
@@ -116,14 +114,15 @@ fn settled<S: Source, K: Sink, R: Wait + Copy>(
     requires ready { (free : Attendance) → SessionReady (source_facts S.content S.faults S.quiets) (sink_facts K.written K.faults) (get_or book.old.sessions number free) input run }
     ensures book { book.new ≡ book.old }
     ensures number { result.number ≡ number }
-    ensures input { InputServed (source_facts S.content S.faults S.quiets) input result }
+    ensures source { result.source ≡ run.reader.source }
+    ensures input { InputLeft (source_facts S.content S.faults S.quiets) input result }
     ensures outlet { (free : Attendance) → OutletServed (sink_facts K.written K.faults) (get_or book.old.sessions number free) result }
 {
     session_done(rt, book, number, run, input)
 }
 
 /// Puts together what is left of the sessions, in order.
-#[tactic(auto, using(crate::proofs::Sessions::sessions_none))]
+#[tactic(auto, using(crate::proofs::Sessions::sessions_none, crate::proofs::Zips::ran_begin))]
 pub(crate) fn sessions_done<S: Source, K: Sink, R: Wait + Copy>(
     rt: &R,
     book: &mut Book<Tx<Item, R>>,
@@ -137,6 +136,7 @@ pub(crate) fn sessions_done<S: Source, K: Sink, R: Wait + Copy>(
     requires enough { vec_len runs ≤ vec_capacity room }
     ensures book { book.new ≡ book.old }
     ensures served { AllServed (source_facts S.content S.faults S.quiets) (sink_facts K.written K.faults) book.old.sessions inputs.items result.items }
+    ensures sources { AllZip IsSourceOf runs.items result.items }
 {
     let mut done = room;
     let mut runs = runs.into_iter();
@@ -161,6 +161,7 @@ fn compared<R: Wait + Copy>(
     requires there { unit < length book.old.units }
     requires ready { (free : UnitView) → MonitorReady tries no_memory (get_or book.old.units unit free) watch }
     ensures book { book.new ≡ book.old }
+    ensures unit { result.unit ≡ unit }
     ensures served { (free : UnitView) → MonitorServed tries no_memory (get_or book.old.units unit free) result }
 {
     monitor_done(book, unit, watch)
@@ -180,6 +181,7 @@ pub(crate) fn monitors_done<R: Wait + Copy>(
     requires enough { vec_len watched ≤ vec_capacity room }
     requires few { length book.old.units ≤ 16 }
     ensures book { book.new ≡ book.old }
+    ensures numbers { map (λ monitor. monitor.unit) result.items ≡ range_with_len 0 (length result.items) }
     ensures served { AllZip (MonitorServed tries no_memory) (watched_units tries book.old.units) result.items }
 {
     let mut done = room;

@@ -1,4 +1,4 @@
-ghost use Rattle.std.specs.Prelude.{◌≡◌, ◌⊎◌, true, false};
+ghost use Rattle.std.specs.Prelude.{◌≡◌, ◌⊎◌, ◌||◌, true, false};
 ghost use Rattle.std.specs.List.{list_all};
 ghost use Rattle.hub_laws.specs.Given.{is_end};
 ghost use Rattle.gps_serve.specs.Statuses.{EachWhole, lacks_memory};
@@ -11,6 +11,12 @@ use serve_settling::DeviceRun;
 use serve_threads::{ReaderDone, SessionRun, WatchDone};
 use session_core::{Close, Item};
 use std::sync::Wait;
+
+pub(crate) fn either(before: bool, now: bool) -> bool
+    ensures { result ≡ (before || now) }
+{
+    before || now
+}
 
 /// How a daemon's work ended.
 #[derive(Clone, Copy)]
@@ -117,7 +123,8 @@ pub(crate) fn lacked<S: Source, K: Sink, R: Wait + Copy>(
     session_runs: &[SessionRun<S, K, R>],
     watched: &[WatchDone],
 ) -> bool
-    ensures { result ≡ false → EachWhole watched.now }
+    ensures whole { result ≡ false → EachWhole watched.now }
+    ensures before { result ≡ false → before ≡ false }
 {
     before || device_lacks(runs) || session_lacks(book, session_runs) || !are_whole(watched)
 }

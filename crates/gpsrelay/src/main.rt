@@ -8,6 +8,8 @@ mod outcome;
 mod replay_tests;
 mod run;
 mod serve;
+#[cfg(test)]
+mod serve_tests;
 mod telling;
 #[cfg(test)]
 mod tests;

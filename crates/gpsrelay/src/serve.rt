@@ -7,9 +7,9 @@ ghost use Rattle.serve_opening.specs.Opening.{dial_of, places_in};
 ghost use Rattle.serve_parts.specs.Plans.{IsPlan};
 ghost use Rattle.serve_settling.specs.Failing.{DeviceFailed, SomeFailed, SourceFailed};
 ghost use Rattle.serve_settling.specs.Runs.{source_facts};
-ghost use Rattle.gps_serve.specs.AtEnd.{AtEnd, sink_facts, told_in};
+ghost use Rattle.gps_serve.specs.AtEnd.{AtEnd, gate_facts, sink_facts, told_in};
 ghost use Rattle.gps_serve.specs.Statuses.{AllEnded};
-ghost use Rattle.gpsrelay.specs.Served.{AsksFor, edge_place_of, place_of, places_of, told_by};
+ghost use Rattle.gpsrelay.specs.Served.{AsksFor, AsksWhole, HaveEdges, HeldBehind, edge_place_of, place_of, places_of, told_by};
 
 use crate::outcome::Outcome;
 use crate::run::REFUSED;
@@ -65,6 +65,8 @@ fn plan_of(alloc: Global, options: ServeOptions) -> Result<Plan, NoMemory>
     ensures plan { IfOk result IsPlan }
     ensures told { IfOk result (λ plan. told_in plan ≡ told_by (shown options)) }
     ensures places { IfOk result (λ plan. plan.inputs.items ++ places_in plan.edges.items ≡ places_of (shown options)) }
+    ensures inputs { IfOk result (λ plan. plan.inputs.items ≡ map place_of options.inputs.items) }
+    ensures edges { IfOk result (λ plan. plan.edges.items ≡ map edge_place_of options.edges.items) }
     ensures listen { IfOk result (λ plan. plan.listen ≡ options.listen) }
 {
     let ServeOptions {
@@ -137,8 +139,12 @@ pub fn serve_main<W: World, R: Threads + Wait + Copy + Send + Sync>(
     ensures seven { result.status ≡ 7 → result.no_memory ≡ true }
     ensures zero { result.status ≡ 0 → (result.no_memory ≡ false) × IsSome result.book }
     ensures ended { result.status ≡ 0 → AllEnded result.devices.items }
+    ensures none { result.book ≡ None → (result.status ≡ 2) ⊎ ((result.status ≡ 3) × Rose (W.input_faults world) (W.input_faults result.world)) ⊎ ((result.status ≡ 8) × Rose (W.listen_faults world) (W.listen_faults result.world)) ⊎ (result.status ≡ 7) }
     ensures asked { AsksFor (serve_asked_of (map string_bytes words.now)) (W.asked result.world) }
-    ensures at_end { IfSome result.book (λ book. IfSome (serve_asked_of (map string_bytes words.now)) (λ s. AtEnd (told_by s) (dial_of (W.stamps world)) (source_facts W.In.content W.In.faults W.In.quiets) (sink_facts W.Out.written W.Out.faults) result.no_memory book result.devices.items result.sessions.items result.monitors.items)) }
+    ensures all_asked { IsSome result.book → IfSome (serve_asked_of (map string_bytes words.now)) (AsksWhole (W.asked result.world)) }
+    ensures edges { IsSome result.book → IfSome (serve_asked_of (map string_bytes words.now)) (HaveEdges result.devices.items) }
+    ensures held { IsSome result.book → IfSome (serve_asked_of (map string_bytes words.now)) (HeldBehind (W.behind world) (source_facts W.In.content W.In.faults W.In.quiets) result.devices.items) }
+    ensures at_end { IfSome result.book (λ book. IfSome (serve_asked_of (map string_bytes words.now)) (λ s. AtEnd (told_by s) (dial_of (W.stamps world)) (source_facts W.In.content W.In.faults W.In.quiets) (sink_facts W.Out.written W.Out.faults) (gate_facts W.Gate.links W.Gate.faults W.Gate.quiets) (W.links world) result.full result.no_memory book result.devices.items result.sessions.items result.monitors.items result.gate)) }
 {
     match serve_asked(alloc, words) {
         Ok(options) => match plan_of(alloc, options) {

@@ -36,7 +36,7 @@ const PVT_LINE: &[u8] =
 
 pub(crate) type Parts<'a> = &'a [&'a [u8]];
 
-fn joined(alloc: Global, parts: Parts<'_>) -> Result<Vec<u8>, NoMemory> {
+pub(crate) fn joined(alloc: Global, parts: Parts<'_>) -> Result<Vec<u8>, NoMemory> {
     let mut bytes = Vec::new(alloc);
     for part in parts {
         bytes.extend_from_slice(*part)?;
@@ -44,7 +44,7 @@ fn joined(alloc: Global, parts: Parts<'_>) -> Result<Vec<u8>, NoMemory> {
     Ok(bytes)
 }
 
-fn words_of(alloc: Global, texts: &[&str]) -> Result<Vec<String>, NoMemory> {
+pub(crate) fn words_of(alloc: Global, texts: &[&str]) -> Result<Vec<String>, NoMemory> {
     let mut words = Vec::new(alloc);
     for text in texts {
         words.push(String::from_str(alloc, *text)?)?;

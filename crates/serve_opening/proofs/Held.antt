@@ -1,6 +1,7 @@
 -- Sources that hold what was behind their places, opened one after another.
-use Rattle.std.proofs.Common.{◌≡◌, ◌≢◌, ℕ, true, false, true≢false, List, [], ◌∷◌, ◌++◌, Option, Some, None, refl, sym, ◌∙◌, ap, subst, append_assoc}
+use Rattle.std.proofs.Common.{◌≡◌, ◌≢◌, ℕ, true, false, true≢false, Bool, List, [], ◌∷◌, ◌++◌, map, Option, Some, None, is_some, length, refl, sym, ◌∙◌, ap, subst, append_assoc}
 use Rattle.std.specs.List.{AllByRecursion, AllZip, IsDistinct}
+use Rattle.std.proofs.lemmas.List.{append-nil, map-append}
 use Rattle.std.specs.Option.{option_to_list}
 use Rattle.std.specs.Cmp.Lexicographic.{nat_list_eq_equiv}
 use Rattle.std.proofs.lemmas.Slice.Zip.{all_zipped_more}
@@ -141,6 +142,22 @@ module _ {S : Type 0} (content : S → Option Stream) where
       opens_more places_in option_to_list refl places_in_step (λ behind. IsEdgeHeld behind content) edge_carry
       behind mid new given now left place sources sources' is so others gains
 
+  pair_of : (behind : Place → Option (List ℕ)) (place : Option Place) (source : Option S) → IsEdgeHeld behind content place source → is_some source ≡ is_some place
+  pair_of behind None None held = refl
+  pair_of behind None (Some source) held = absurd held
+  pair_of behind (Some place) None held = absurd held
+  pair_of behind (Some place) (Some source) held = refl
+
+  -- a source for each place
+  pub pairs_more : (mid : Place → Option (List ℕ)) (given now left : List (Option Place)) (place : Option Place) (sources sources' : List (Option S))
+      → now ≡ place ∷ left → map is_some sources ++ map is_some now ≡ map is_some given → Gains (IsEdgeHeld mid content place) sources sources'
+      → map is_some sources' ++ map is_some left ≡ map is_some given
+  pairs_more mid given now left place sources sources' is so gains =
+      ap (λ l. map is_some l ++ map is_some left) gains.1 ∙ ap (λ l. l ++ map is_some left) (map-append is_some sources (gains.0 ∷ []))
+      ∙ append_assoc (map is_some sources) (is_some gains.0 ∷ []) (map is_some left)
+      ∙ ap (λ (b : Bool). map is_some sources ++ b ∷ map is_some left) (pair_of mid place gains.0 gains.2)
+      ∙ ap (λ l. map is_some sources ++ map is_some l) (sym is) ∙ so
+
   -- first the inputs were opened, and then the places of edges
   pub both_held : (old mid : Place → Option (List ℕ)) (inputs : List Place) (edges : List (Option Place)) (sources : List S) (edge_sources : List (Option S))
       → (GivenOnce inputs → AllZip (IsHeld old content) inputs sources)
@@ -154,3 +171,8 @@ module _ {S : Type 0} (content : S → Option Stream) where
         (all_weaker (λ place. IsNoneOf place inputs) (λ place. old place ≡ mid place) (λ place none. sym (others place none)) (places_in edges) (apart inputs (places_in edges) once))
         (then (once_back inputs (places_in edges) once)),
   )
+
+pub pairs_all : {S : Type 0} (sources : List (Option S)) (given now : List (Option Place)) → length now ≡ 0 → map is_some sources ++ map is_some now ≡ map is_some given
+    → map is_some sources ≡ map is_some given
+pairs_all sources given [] none so = sym (append-nil (map is_some sources)) ∙ so
+pairs_all sources given (place ∷ now) none so = absurd cc

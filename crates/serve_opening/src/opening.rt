@@ -1,4 +1,4 @@
-ghost use Rattle.std.specs.Prelude.{◌≡◌, ◌≢◌, ◌≤◌, ◌<◌, ◌+◌, ◌++◌, ◌⊎◌, [], ◌∷◌, None, Some, length, IfOk, OnOk, IfErr, Ok, Err};
+ghost use Rattle.std.specs.Prelude.{◌≡◌, ◌≢◌, ◌≤◌, ◌<◌, ◌+◌, ◌++◌, ◌⊎◌, [], ◌∷◌, None, Some, length, map, is_some, IfOk, OnOk, IfErr, Ok, Err};
 ghost use Rattle.std.specs.List.{AllZip};
 ghost use Rattle.std.specs.Option.{option_to_list};
 ghost use Rattle.gps_outside.specs.Links.{IsUnread};
@@ -153,6 +153,7 @@ fn open_edges<W: World>(
     ensures count { IfOk result (λ opened. length opened.items ≡ length places.items) }
     ensures tells { TellsAsBefore (W.links world.old) (W.links world.new) (W.stamps world.old) (W.stamps world.new) }
     ensures unread { IfOk result (λ opened. AreUnread W.In.content W.In.faults W.In.quiets (sources_in opened.items)) }
+    ensures pairs { IfOk result (λ opened. map is_some opened.items ≡ map is_some places.items) }
     ensures held { GivenOnce (places_in places.items) → IfOk result (λ opened. AllZip (IsEdgeHeld (W.behind world.old) W.In.content) places.items opened.items) }
 {
     let mut opened = room;
@@ -197,6 +198,7 @@ pub fn open<W: World>(
     ensures inputs { IfOk result (λ outside. length outside.inputs.items ≡ length inputs.items) }
     ensures edges { IfOk result (λ outside. length outside.edges.items ≡ length edges.items) }
     ensures unread { IfOk result (λ outside. AreUnread W.In.content W.In.faults W.In.quiets outside.inputs.items × AreUnread W.In.content W.In.faults W.In.quiets (sources_in outside.edges.items)) }
+    ensures pairs { IfOk result (λ outside. map is_some outside.edges.items ≡ map is_some edges.items) }
     ensures held { GivenOnce (inputs.items ++ places_in edges.items) → IfOk result (λ outside. AllZip (IsHeld (W.behind world.old) W.In.content) inputs.items outside.inputs.items × AllZip (IsEdgeHeld (W.behind world.old) W.In.content) edges.items outside.edges.items) }
     ensures links { IfOk result (λ outside. Tells (W.links world.old) (W.Gate.links outside.gate)) }
     ensures stamps { IfOk result (λ outside. Tells (W.stamps world.old) (W.Now.stamps outside.clock)) }

@@ -1,13 +1,21 @@
 use gps_fixed::NoMemory;
 use gps_lane::Bell;
+use serve_workers::Span;
 use std::alloc::Global;
 use std::sync::atomic::{AtomicBool, Ordering};
 
-/// The bells of a device's readers.
+/// Whether a reader has no thread of its own.
+#[derive(Drop)]
+pub struct Alone {
+    is: AtomicBool,
+}
+
+/// The bells of a device's readers, and whether one of them has no thread.
 #[derive(Drop)]
 pub struct DeviceBells {
     pub bytes: Bell,
     pub edges: Bell,
+    pub alone: Alone,
 }
 
 /// The bells of the daemon's own threads.
@@ -22,11 +30,34 @@ pub struct Bells {
     spare: DeviceBells,
 }
 
+impl Alone {
+    const fn new() -> Alone {
+        Alone {
+            is: AtomicBool::new(false),
+        }
+    }
+
+    /// No thread could be started.
+    pub fn leave(&self) {
+        self.is.store(true, Ordering::SeqCst);
+    }
+
+    /// How long to read.
+    pub fn span(&self) -> Span {
+        if self.is.load(Ordering::SeqCst) {
+            Span::Once
+        } else {
+            Span::Whole
+        }
+    }
+}
+
 impl DeviceBells {
     const fn new() -> DeviceBells {
         DeviceBells {
             bytes: Bell::new(),
             edges: Bell::new(),
+            alone: Alone::new(),
         }
     }
 }
@@ -85,7 +116,7 @@ impl Bells {
     }
 }
 
-/// The bells of a session's two threads, and whether its writer and both have ended.
+/// The bells of a session's two threads, whether one of them could not be started, and whether its writer and both have ended.
 ///
 /// The reader is told to end only once the writer has ended, which lets go of the link: a read that comes then finds the link's end, and so
 /// its file is closed.
@@ -93,6 +124,7 @@ impl Bells {
 pub struct SessionBells {
     pub reader: Bell,
     pub writer: Bell,
+    pub alone: Alone,
     written: AtomicBool,
     gone: AtomicBool,
 }
@@ -102,6 +134,7 @@ impl SessionBells {
         SessionBells {
             reader: Bell::new(),
             writer: Bell::new(),
+            alone: Alone::new(),
             written: AtomicBool::new(false),
             gone: AtomicBool::new(false),
         }

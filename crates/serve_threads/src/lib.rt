@@ -8,8 +8,8 @@ mod reading;
 mod session;
 mod work;
 
-pub use bells::{Bells, DeviceBells, SessionBells};
+pub use bells::{Alone, Bells, DeviceBells, SessionBells};
 pub use monitors::{WatchDone, Watcher, Watching, start_watcher, watchers};
 pub use reading::{DeviceReading, EdgeReading, ReaderDone, start_device, start_edges};
 pub use session::{Attending, Link, SessionRun, WriterDone, start_session};
-pub use work::{Work, start};
+pub use work::{Work, start, start_if};

@@ -94,7 +94,7 @@ fn watch_all<R: Wait>(rt: &R, alloc: Global, watcher: Watcher, tries: u32, own: 
     }
 }
 
-/// Starts a unit's monitor.
+/// Starts a unit's monitor. Without a thread it makes its readings at once.
 pub fn start_watcher<'s, E, R: Wait + Copy + Send + Sync + 's>(
     rt: R,
     alloc: Global,
@@ -110,7 +110,10 @@ pub fn start_watcher<'s, E, R: Wait + Copy + Send + Sync + 's>(
         segment: Snapshot::of(&watcher.segment),
         tries,
     };
-    start(scope, promise, move || {
-        watch_all(&rt, alloc, watcher, tries, own)
-    })
+    start(
+        scope,
+        promise,
+        move || watch_all(&rt, alloc, watcher, tries, own),
+        move || own.close(),
+    )
 }

@@ -3,6 +3,7 @@ ghost use Rattle.serve_pieces.specs.Carried.{device_part, input_part};
 ghost use Rattle.serve_workers.specs.Readings.{IsDevicePiece, IsInputPiece};
 ghost use Rattle.serve_threads.specs.Reading.{Reads, ReadsLines, counts};
 
+use crate::bells::Alone;
 use crate::work::{Work, start};
 use gps_lane::{Bell, Tx};
 use gps_outside::{Clock, Source};
@@ -59,13 +60,23 @@ pub fn device_reader<S: Source, C: Clock, D: Dials, R: Wait + Copy>(
     clock: &Mutex<SharedClock<C, D>>,
     pieces: Tx<Piece, R>,
     own: &Bell,
+    alone: &Alone,
     pump: &Bell,
 ) -> ReaderDone<S, R>
     ensures { Reads device_part (IsDevicePiece D.may) result.ending pieces result.pieces (S.content source) (S.content result.source) (counts (S.faults source) (S.quiets source)) (counts (S.faults result.source) (S.quiets result.source)) }
 {
     let mut source = source;
     let mut pieces = pieces;
-    let ending = read_device(rt, alloc, &mut source, clock, &mut pieces, own, pump);
+    let ending = read_device(
+        rt,
+        alloc,
+        &mut source,
+        clock,
+        &mut pieces,
+        own,
+        pump,
+        alone.span(),
+    );
     ReaderDone {
         source,
         pieces,
@@ -80,13 +91,14 @@ pub fn session_reader<S: Source, R: Wait + Copy>(
     source: S,
     pieces: Tx<Piece, R>,
     own: &Bell,
+    alone: &Alone,
     pump: &Bell,
 ) -> ReaderDone<S, R>
     ensures { Reads input_part IsInputPiece result.ending pieces result.pieces (S.content source) (S.content result.source) (counts (S.faults source) (S.quiets source)) (counts (S.faults result.source) (S.quiets result.source)) }
 {
     let mut source = source;
     let mut pieces = pieces;
-    let ending = read_session(rt, alloc, &mut source, &mut pieces, own, pump);
+    let ending = read_session(rt, alloc, &mut source, &mut pieces, own, pump, alone.span());
     ReaderDone {
         source,
         pieces,
@@ -110,6 +122,7 @@ pub fn start_device<
     clock: &'s Mutex<SharedClock<C, D>>,
     pieces: Tx<Piece, R>,
     own: &'s Bell,
+    alone: &'s Alone,
     pump: &'s Bell,
 ) -> Work<ReaderDone<S, R>, DeviceReading<S, R, D>>
     ensures source { result.source.value ≡ source }
@@ -120,9 +133,12 @@ pub fn start_device<
         pieces: Snapshot::of(&pieces),
         dials: PhantomData,
     };
-    start(scope, promise, move || {
-        device_reader(&rt, alloc, source, clock, pieces, own, pump)
-    })
+    start(
+        scope,
+        promise,
+        move || device_reader(&rt, alloc, source, clock, pieces, own, alone, pump),
+        move || alone.leave(),
+    )
 }
 
 /// Reads the edges of a device to their end.
@@ -132,13 +148,14 @@ pub fn edge_reader<S: Source, R: Wait + Copy>(
     source: S,
     pieces: Tx<Piece, R>,
     own: &Bell,
+    alone: &Alone,
     pump: &Bell,
 ) -> ReaderDone<S, R>
     ensures { ReadsLines result.ending pieces result.pieces (S.content source) (S.content result.source) (counts (S.faults source) (S.quiets source)) (counts (S.faults result.source) (S.quiets result.source)) }
 {
     let mut source = source;
     let mut pieces = pieces;
-    let ending = read_edges(rt, alloc, &mut source, &mut pieces, own, pump);
+    let ending = read_edges(rt, alloc, &mut source, &mut pieces, own, pump, alone.span());
     ReaderDone {
         source,
         pieces,
@@ -154,6 +171,7 @@ pub fn start_edges<'s, E, S: Source + Send + 's, R: Wait + Copy + Send + Sync + 
     source: S,
     pieces: Tx<Piece, R>,
     own: &'s Bell,
+    alone: &'s Alone,
     pump: &'s Bell,
 ) -> Work<ReaderDone<S, R>, EdgeReading<S, R>>
     ensures source { result.source.value ≡ source }
@@ -163,7 +181,10 @@ pub fn start_edges<'s, E, S: Source + Send + 's, R: Wait + Copy + Send + Sync + 
         source: Snapshot::of(&source),
         pieces: Snapshot::of(&pieces),
     };
-    start(scope, promise, move || {
-        edge_reader(&rt, alloc, source, pieces, own, pump)
-    })
+    start(
+        scope,
+        promise,
+        move || edge_reader(&rt, alloc, source, pieces, own, alone, pump),
+        move || alone.leave(),
+    )
 }

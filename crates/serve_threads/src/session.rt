@@ -79,27 +79,8 @@ fn session_writer<K: Sink, R: Wait + Copy>(
     WriterDone { sink, items, end }
 }
 
-fn start_writer<'s, E, K: Sink + Send + 's, R: Wait + Copy + Send + Sync + 's>(
-    rt: R,
-    alloc: Global,
-    scope: &'s Scope<'s, E>,
-    items: Rx<Item, R>,
-    sink: K,
-    bells: Arc<SessionBells>,
-) -> Work<WriterDone<K, R>, Writing<K, R>>
-    ensures sink { result.sink.value ≡ sink }
-    ensures items { result.items.value ≡ items }
-{
-    let promise = Writing {
-        sink: Snapshot::of(&sink),
-        items: Snapshot::of(&items),
-    };
-    start(scope, promise, move || {
-        session_writer(&rt, alloc, items, sink, &bells)
-    })
-}
-
-/// The work of a session: its writer in a thread of its own, its reader here.
+/// The work of a session: its writer in a thread of its own, its reader here. Where no thread can be started, one read is made, the session
+/// is told to end for want of memory, and then it is written what it was given.
 pub fn attend<
     's,
     E,
@@ -123,11 +104,30 @@ pub fn attend<
         pieces,
         items,
     } = link;
-    let writer = start_writer(rt, alloc, scope, items, sink, writers);
-    let reader = session_reader(&rt, alloc, source, pieces, &bells.reader, pump);
-    let writer = writer.join(&rt);
-    bells.leave();
-    SessionRun { reader, writer }
+    let promise = Writing {
+        sink: Snapshot::of(&sink),
+        items: Snapshot::of(&items),
+    };
+    let started = scope.spawn_with(promise, move || {
+        let (items, sink) = (items, sink);
+        session_writer(&rt, alloc, items, sink, &writers)
+    });
+    let own = &bells.reader;
+    match started {
+        Ok(writer) => {
+            let reader = session_reader(&rt, alloc, source, pieces, own, &bells.alone, pump);
+            let writer = writer.join(&rt);
+            bells.leave();
+            SessionRun { reader, writer }
+        }
+        Err(refused) => {
+            bells.alone.leave();
+            let reader = session_reader(&rt, alloc, source, pieces, own, &bells.alone, pump);
+            let writer = (refused.value)();
+            bells.leave();
+            SessionRun { reader, writer }
+        }
+    }
 }
 
 /// Starts the threads of a session.
@@ -144,6 +144,7 @@ pub fn start_session<
     link: Link<S, K, R>,
     bells: Arc<SessionBells>,
     writers: Arc<SessionBells>,
+    own: &SessionBells,
     pump: &'s Bell,
 ) -> Work<SessionRun<S, K, R>, Attending<S, K, R>>
     ensures { result.link.value ≡ link }
@@ -151,7 +152,10 @@ pub fn start_session<
     let promise = Attending {
         link: Snapshot::of(&link),
     };
-    start(scope, promise, move || {
-        attend(rt, alloc, scope, link, bells, writers, pump)
-    })
+    start(
+        scope,
+        promise,
+        move || attend(rt, alloc, scope, link, bells, writers, pump),
+        move || own.alone.leave(),
+    )
 }

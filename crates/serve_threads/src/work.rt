@@ -1,4 +1,4 @@
-ghost use Rattle.std.specs.Prelude.{◌≡◌};
+ghost use Rattle.std.specs.Prelude.{◌≡◌, IfSome};
 
 use std::marker::Model;
 use std::snapshot::Snapshot;
@@ -24,13 +24,38 @@ impl<T: Drop, P: Promise<T> + Drop> Model for Work<T, P> {
         × (w.running ≡ None → IsSome w.done) };
 }
 
-/// Starts a work in a thread of its own; where none can be started, does it here.
-pub fn start<'s, E, P: Promise<T> + Drop, F: FnOnce() -> T + Send + 's, T: Send + Drop + 's>(
+/// Starts a work in a thread of its own, where one can be started.
+pub fn start_if<'s, E, P: Promise<T> + Drop, F: FnOnce() -> T + Send + 's, T: Send + Drop + 's>(
     scope: &Scope<'s, E>,
     promise: P,
     work: F,
-) -> Work<T, P>
+) -> Option<Work<T, P>>
     requires runs { F.pre work }
+    requires keeps { (result : T) → F.post work result → P.kept_by promise result }
+    ensures { IfSome result (λ work. work ≡ promise) }
+{
+    let shown = Snapshot::of(&promise);
+    match scope.spawn_with(promise, work) {
+        Ok(handle) => Some(Work {
+            running: Some(handle),
+            done: None,
+            promise: shown,
+        }),
+        Err(_) => None,
+    }
+}
+
+/// Starts a work in a thread of its own; where none can be started, it is told so, and done here.
+pub fn start<
+    's,
+    E,
+    P: Promise<T> + Drop,
+    F: FnOnce() -> T + Send + 's,
+    A: FnOnce(),
+    T: Send + Drop + 's,
+>(scope: &Scope<'s, E>, promise: P, work: F, alone: A) -> Work<T, P>
+    requires runs { F.pre work }
+    requires tells { A.pre alone }
     requires keeps { (result : T) → F.post work result → P.kept_by promise result }
     ensures { result ≡ promise }
 {
@@ -42,6 +67,7 @@ pub fn start<'s, E, P: Promise<T> + Drop, F: FnOnce() -> T + Send + 's, T: Send 
             promise: shown,
         },
         Err(refused) => {
+            alone();
             let result = (refused.value)();
             Work {
                 running: None,

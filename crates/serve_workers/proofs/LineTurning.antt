@@ -246,3 +246,15 @@ told_to_end put mid before after cuts =
 pub ends_as : (ending ending' : Ending) (bytes : List ℕ) (kept : Kept) (put put' : List Piece) (before after : Option Stream)
     → ending ≡ ending' → LineTurns (Over ending) bytes kept put put' before after → LineTurns (Over ending') bytes kept put put' before after
 ends_as ending ending' bytes kept put put' before after is turns = subst (λ (e : Ending). LineTurns (Over e) bytes kept put put' before after) is turns
+
+-- a reading that ends although its source has not ended
+pub lines_broken_off : (bytes : List ℕ) (kept : Kept) (put put' : List Piece) (before after : Option Stream)
+    → LineTurns On bytes kept put put' before after → LineTurns (Over NoMemory) bytes kept put put' before after
+lines_broken_off bytes kept put put' before after turns = record {
+  more = turns.more;
+  lines = turns.lines;
+  puts = turns.puts;
+  are = ([], turns.are ∙ sym (append-nil (edge_lines bytes ++ turns.lines)));
+  stands = tt;
+  took = goes_as (Passes turns.more) (TakesSome turns.more) before after (passed_some turns.more) turns.took;
+}

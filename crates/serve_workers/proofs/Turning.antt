@@ -164,6 +164,20 @@ unsaid part P last put mid before after turns = record {
   took = took_less last (flat_map part turns.pieces) before after turns.took;
 }
 
+passed_more : (bytes : List ℕ) (x y : Stream) → Passes bytes x y → TakesMore bytes x y
+passed_more bytes x y p =
+    some_more bytes x y (record { rest = y.left; next = p.next; joins = p.joins; kept = inl refl })
+
+-- a reading that ends although its source has not ended
+pub broken_off : (part : Piece → List ℕ) (P : Piece → Type 0) (put put' : List Piece) (before after : Option Stream)
+    → Turns part P On put put' before after → Turns part P (Over ending.NoMemory) put put' before after
+broken_off part P put put' before after turns = record {
+  pieces = turns.pieces;
+  puts = turns.puts;
+  good = turns.good;
+  took = goes_as (Passes (flat_map part turns.pieces)) (TakesMore (flat_map part turns.pieces)) before after (passed_more (flat_map part turns.pieces)) turns.took;
+}
+
 -- the last piece was put, or not
 pub handed : (part : Piece → List ℕ) (P : Piece → Type 0) (result : Option Ending) (last : Ending) (put mid : List Piece) (before after : Option Stream)
     → IfSome result (λ said. said ≡ last)

@@ -8,7 +8,7 @@ ghost use Rattle.serve_workers.specs.EdgeLines.{edge_limit, PutsLine, PutsLines,
 
 use crate::pauses::pause;
 use crate::puts::{put, put_ending};
-use crate::readers::{READ, Turn};
+use crate::readers::{READ, Span, Turn};
 use gps_lane::{Bell, Tx};
 use gps_outside::{ReadStep, Source};
 use serve_pieces::{Ending, Piece};
@@ -154,6 +154,7 @@ fn cut_on<S: Source, R: Wait + Copy>(
     cutter: &mut LineCutter,
     own: &Bell,
     pump: &Bell,
+    span: Span,
 ) -> Option<Ending>
     requires limit { cutter.old.limit ≡ edge_limit }
     requires stands { StandsFor cutter.old [] }
@@ -166,7 +167,11 @@ fn cut_on<S: Source, R: Wait + Copy>(
 {
     'reads: for _ in rt.forever() {
         match cut_once(rt, alloc, source, pieces, cutter, own, pump) {
-            Turn::On => {}
+            Turn::On => {
+                if span == Span::Once {
+                    return Some(Ending::NoMemory);
+                }
+            }
             Turn::Over(ending) => return Some(ending),
             Turn::Closed => return None,
         }
@@ -182,6 +187,7 @@ fn cut_all<S: Source, R: Wait + Copy>(
     pieces: &mut Tx<Piece, R>,
     own: &Bell,
     pump: &Bell,
+    span: Span,
 ) -> Option<Ending>
     ensures cuts { CutsLines result pieces.old.put pieces.new.put (S.content source.old) (S.content source.new) }
     ensures lane { pieces.new ≡ record pieces.old { put = pieces.new.put } }
@@ -190,7 +196,7 @@ fn cut_all<S: Source, R: Wait + Copy>(
     ensures failed { HasCause (over result) (S.faults source.old) (S.faults source.new) }
 {
     let mut cutter = LineCutter::new(alloc, Limit::Text(LONGEST));
-    match cut_on(rt, alloc, source, pieces, &mut cutter, own, pump) {
+    match cut_on(rt, alloc, source, pieces, &mut cutter, own, pump, span) {
         Some(Ending::End) => match put_last(rt, alloc, pieces, &cutter, own, pump) {
             Put::Done => Some(Ending::End),
             Put::NoMemory => Some(Ending::NoMemory),
@@ -212,6 +218,7 @@ pub fn read_edges<S: Source, R: Wait + Copy>(
     pieces: &mut Tx<Piece, R>,
     own: &Bell,
     pump: &Bell,
+    span: Span,
 ) -> Option<Ending>
     ensures hands { HandsLines result pieces.old.put pieces.new.put (S.content source.old) (S.content source.new) }
     ensures lane { pieces.new ≡ record pieces.old { put = pieces.new.put } }
@@ -219,6 +226,6 @@ pub fn read_edges<S: Source, R: Wait + Copy>(
     ensures quiets_stay { S.quiets source.old ≤ S.quiets source.new }
     ensures failed { result ≡ Some Ending.Failed → Rose (S.faults source.old) (S.faults source.new) }
 {
-    let ending = cut_all(rt, alloc, source, pieces, own, pump)?;
+    let ending = cut_all(rt, alloc, source, pieces, own, pump, span)?;
     put_ending(rt, pieces, ending, own, pump)
 }

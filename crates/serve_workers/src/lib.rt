@@ -18,6 +18,6 @@ mod writer;
 
 pub use edges::read_edges;
 pub use monitor::watch;
-pub use readers::{read_device, read_session};
+pub use readers::{Span, read_device, read_session};
 pub use shared_clock::{Dials, SharedClock};
 pub use writer::{SessionEnd, write_items};

@@ -18,6 +18,15 @@ use std::sync::{Mutex, Wait};
 /// The bytes of one read.
 pub(crate) const READ: usize = 512;
 
+/// How long a reader reads.
+#[derive(Clone, Copy, Debug, PartialEq, Eq)]
+pub enum Span {
+    /// To its source's end.
+    Whole,
+    /// Once, because there was no thread for it; then it says that memory was wanting.
+    Once,
+}
+
 /// What one turn of a reader comes to.
 pub(crate) enum Turn {
     On,
@@ -80,6 +89,7 @@ fn read_on<M: Maker, S: Source, R: Wait + Copy>(
     pieces: &mut Tx<Piece, R>,
     own: &Bell,
     pump: &Bell,
+    span: Span,
 ) -> Option<Ending>
     ensures turns { Turns M.part M.good (over result) pieces.old.put pieces.new.put (S.content source.old) (S.content source.new) }
     ensures lane { pieces.new ≡ record pieces.old { put = pieces.new.put } }
@@ -90,7 +100,11 @@ fn read_on<M: Maker, S: Source, R: Wait + Copy>(
 {
     'reads: for _ in rt.forever() {
         match read_once(rt, alloc, maker, source, pieces, own, pump) {
-            Turn::On => {}
+            Turn::On => {
+                if span == Span::Once {
+                    return Some(Ending::NoMemory);
+                }
+            }
             Turn::Over(ending) => return Some(ending),
             Turn::Closed => return None,
         }
@@ -107,6 +121,7 @@ fn read_all<M: Maker, S: Source, R: Wait + Copy>(
     pieces: &mut Tx<Piece, R>,
     own: &Bell,
     pump: &Bell,
+    span: Span,
 ) -> Option<Ending>
     ensures hands { HandsOn M.part M.good result pieces.old.put pieces.new.put (S.content source.old) (S.content source.new) }
     ensures lane { pieces.new ≡ record pieces.old { put = pieces.new.put } }
@@ -115,13 +130,16 @@ fn read_all<M: Maker, S: Source, R: Wait + Copy>(
     ensures quiets_stay { S.quiets source.old ≤ S.quiets source.new }
     ensures failed { result ≡ Some Ending.Failed → Rose (S.faults source.old) (S.faults source.new) }
 {
-    let ending = read_on(rt, alloc, maker, source, pieces, own, pump)?;
+    let ending = read_on(rt, alloc, maker, source, pieces, own, pump, span)?;
     put_ending(rt, pieces, ending, own, pump)
 }
 
 /// Reads a device to its end. Each read that gives bytes makes a piece of them, with the clock's stamp; the last piece
 /// tells how the source ended. None: it was told to end before that was put, by its own bell, which was closed before a read
 /// that gave nothing, or at a full lane.
+///
+/// A reader that reads once makes one read, and its last piece tells that memory was wanting, unless that read was its source's end or
+/// fault.
 ///
 /// It rings the pump after each piece, and sleeps on its own bell while its lane is full.
 pub fn read_device<S: Source, C: Clock, D: Dials, R: Wait + Copy>(
@@ -132,6 +150,7 @@ pub fn read_device<S: Source, C: Clock, D: Dials, R: Wait + Copy>(
     pieces: &mut Tx<Piece, R>,
     own: &Bell,
     pump: &Bell,
+    span: Span,
 ) -> Option<Ending>
     ensures hands { HandsOn device_part (IsDevicePiece D.may) result pieces.old.put pieces.new.put (S.content source.old) (S.content source.new) }
     ensures lane { pieces.new ≡ record pieces.old { put = pieces.new.put } }
@@ -140,7 +159,7 @@ pub fn read_device<S: Source, C: Clock, D: Dials, R: Wait + Copy>(
     ensures quiets_stay { S.quiets source.old ≤ S.quiets source.new }
     ensures failed { result ≡ Some Ending.Failed → Rose (S.faults source.old) (S.faults source.new) }
 {
-    read_all(rt, alloc, &Stamped(clock), source, pieces, own, pump)
+    read_all(rt, alloc, &Stamped(clock), source, pieces, own, pump, span)
 }
 
 /// Reads the requests of a session to their end, as [`read_device`] reads a device. It makes at least one read.
@@ -151,6 +170,7 @@ pub fn read_session<S: Source, R: Wait + Copy>(
     pieces: &mut Tx<Piece, R>,
     own: &Bell,
     pump: &Bell,
+    span: Span,
 ) -> Option<Ending>
     ensures hands { HandsOn input_part IsInputPiece result pieces.old.put pieces.new.put (S.content source.old) (S.content source.new) }
     ensures lane { pieces.new ≡ record pieces.old { put = pieces.new.put } }
@@ -159,5 +179,5 @@ pub fn read_session<S: Source, R: Wait + Copy>(
     ensures quiets_stay { S.quiets source.old ≤ S.quiets source.new }
     ensures failed { result ≡ Some Ending.Failed → Rose (S.faults source.old) (S.faults source.new) }
 {
-    read_all(rt, alloc, &Requests, source, pieces, own, pump)
+    read_all(rt, alloc, &Requests, source, pieces, own, pump, span)
 }

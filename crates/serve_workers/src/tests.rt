@@ -1,6 +1,8 @@
 ghost use Rattle.std.specs.Prelude.{◌≡◌};
 
-use crate::{SessionEnd, SharedClock, read_device, read_edges, read_session, watch, write_items};
+use crate::{
+    SessionEnd, SharedClock, Span, read_device, read_edges, read_session, watch, write_items,
+};
 use gps_fixed::{Bytes, NoMemory, Stamp};
 use gps_lane::{Bell, Rx, lane};
 use gps_outside::{AtEnd, MemoryClock, MemorySink, MemorySource, ReadPlan, WritePlan};
@@ -67,7 +69,16 @@ fn a_device_is_read_to_its_end(rt: HostRuntime) -> Result<(), Fail> {
     let mut source = source(alloc, b"abcdefgh", ReadPlan::Quiet, AtEnd::End)?;
     let (mut tx, mut rx) = lane(rt, alloc, 64)?;
     let (own, pump) = (Bell::new(), Bell::new());
-    let end = read_device(&rt, alloc, &mut source, &clock, &mut tx, &own, &pump);
+    let end = read_device(
+        &rt,
+        alloc,
+        &mut source,
+        &clock,
+        &mut tx,
+        &own,
+        &pump,
+        Span::Whole,
+    );
     assert_eq!(rt; end, Some(Ending::End));
     assert_eq!(rt; seen(alloc, &mut rx)?.as_slice(), b"1abc2defgh.".as_slice());
     Ok(())
@@ -84,10 +95,22 @@ fn a_session_ends_by_a_fault_or_when_it_is_told(rt: HostRuntime) -> Result<(), F
         let (mut tx, mut rx) = lane(rt, alloc, 64)?;
         let (own, pump) = (Bell::new(), Bell::new());
         own.close();
-        let ended = read_session(&rt, alloc, &mut source, &mut tx, &own, &pump);
+        let ended = read_session(&rt, alloc, &mut source, &mut tx, &own, &pump, Span::Whole);
         assert_eq!(rt; ended, end);
         assert_eq!(rt; seen(alloc, &mut rx)?.as_slice(), text);
     }
+    Ok(())
+}
+
+#[test]
+fn a_reader_without_a_thread_reads_once(rt: HostRuntime) -> Result<(), Fail> {
+    let alloc = rt.alloc();
+    let mut source = source(alloc, b"abcdefgh", ReadPlan::Quiet, AtEnd::Quiet)?;
+    let (mut tx, mut rx) = lane(rt, alloc, 64)?;
+    let (own, pump) = (Bell::new(), Bell::new());
+    let end = read_session(&rt, alloc, &mut source, &mut tx, &own, &pump, Span::Once);
+    assert_eq!(rt; end, Some(Ending::NoMemory));
+    assert_eq!(rt; seen(alloc, &mut rx)?.as_slice(), b"?abc~".as_slice());
     Ok(())
 }
 
@@ -98,12 +121,17 @@ fn lines_of_edges_are_put(rt: HostRuntime) -> Result<(), Fail> {
     held.extend_from_slice(b"abcd\r\n")?;
     held.extend_from_slice(&[b'x'; 65])?;
     held.extend_from_slice(b"\ne\nf")?;
-    let mut source = source(alloc, held.as_slice(), ReadPlan::Quiet, AtEnd::End)?;
-    let (mut tx, mut rx) = lane(rt, alloc, 64)?;
-    let (own, pump) = (Bell::new(), Bell::new());
-    let end = read_edges(&rt, alloc, &mut source, &mut tx, &own, &pump);
-    assert_eq!(rt; end, Some(Ending::End));
-    assert_eq!(rt; seen(alloc, &mut rx)?.as_slice(), b"|abcd|e|f.".as_slice());
+    for (span, end, text) in [
+        (Span::Whole, Ending::End, b"|abcd|e|f.".as_slice()),
+        (Span::Once, Ending::NoMemory, b"~"),
+    ] {
+        let mut source = source(alloc, held.as_slice(), ReadPlan::Quiet, AtEnd::End)?;
+        let (mut tx, mut rx) = lane(rt, alloc, 64)?;
+        let (own, pump) = (Bell::new(), Bell::new());
+        let ended = read_edges(&rt, alloc, &mut source, &mut tx, &own, &pump, span);
+        assert_eq!(rt; ended, Some(end));
+        assert_eq!(rt; seen(alloc, &mut rx)?.as_slice(), text);
+    }
     Ok(())
 }
 
@@ -186,7 +214,7 @@ fn a_reader_waits_for_room(rt: HostRuntime) -> Result<(), Fail> {
     let (own, pump) = (&own, &pump);
     let (end, pieces) = thread::join(
         &rt,
-        move || read_session(&rt, alloc, &mut source, &mut tx, own, pump),
+        move || { read_session(&rt, alloc, &mut source, &mut tx, own, pump, Span::Whole) },
         move || count(&rt, &mut rx, own, pump),
     );
     assert_eq!(rt; (end, pieces), (Some(Ending::End), 5));

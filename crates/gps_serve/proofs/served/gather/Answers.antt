@@ -1,7 +1,12 @@
 use Rattle.std.proofs.Common.{◌≤◌, length, sym, ◌∙◌, ap, subst}
-use Rattle.std.specs.List.{list_all}
+use Rattle.std.specs.List.{All, list_all}
 use Rattle.hub_laws.specs.Given.{is_end}
-use Rattle.gps_serve.specs.Statuses.{EachWhole}
+use Rattle.hub_laws.specs.Keeping.{IsClosed}
+use Rattle.serve_settling.specs.Runs.{source_facts}
+use Rattle.gps_serve.specs.AtEnd.{gate_facts, sink_facts}
+use Rattle.gps_serve.specs.Statuses.{EachWhole, HasStopped}
+use Rattle.gps_serve.specs.Units.{AreAtRest}
+use Rattle.gps_serve.proofs.Gates.{gate_served}
 use Rattle.report_book.specs.BookView.{BookView}
 use Rattle.gps_serve.proofs.Ends.{all_ended_by, at_end_of, devices_by, ends_count, monitors_by, not_lacked, units_few}
 use Rattle.gps_serve.proofs.Sessions.{sessions_ready}
@@ -14,12 +19,12 @@ pub devices_done-devices-requires-clause-ends : goal.devices_done-devices-requir
 devices_done-devices-requires-clause-ends g c = ends_count _ c.part-book.ensures.agrees
 
 pub sessions_done-sessions-requires-clause-ready : goal.sessions_done-sessions-requires-clause-ready
-sessions_done-sessions-requires-clause-ready g c = sessions_ready _ _ c.args.numbers.queue c.args.ended.door.seat _ _ _ c.requires.tended c.part-book.ensures.sessions
+sessions_done-sessions-requires-clause-ready g c = sessions_ready _ _ c.args.numbers.queue _ _ c.args.ended.door.seat _ _ _ c.requires.tended c.part-book.ensures.sessions
 
 pub monitors_done-monitors-requires-clause-ready : goal.monitors_done-monitors-requires-clause-ready
 monitors_done-monitors-requires-clause-ready g c =
     monitors_by _ _ g.J.HubNaming.terms c.part-book.result.book _ c.part-book.result.inlets.items _ c.part-book.ensures.terms c.requires.watched
-    (λ e. subst EachWhole c.as_slice-3.ensures.value (c.lacked-no_memory.ensures e))
+    (λ e. subst EachWhole c.as_slice-3.ensures.value (c.lacked-no_memory.ensures.whole e))
     c.sessions_done-sessions.ensures.book
 
 pub monitors_done-monitors-requires-clause-few : goal.monitors_done-monitors-requires-clause-few
@@ -32,7 +37,28 @@ returns-clause-ended g c e =
 
 pub returns-clause-at_end : goal.returns-clause-at_end
 returns-clause-at_end g c =
-    at_end_of g.J.HubNaming.terms c.args.numbers.tries _ _ _ c.lacked-no_memory.result c.lacks.result _ c.part-book.result.book _ _ _ c.part-book.result.sessions.items _ _ _ _
-    c.part-book.ensures.terms c.part-book.ensures.agrees c.devices_done-devices.ensures.served c.devices_done-devices.ensures.ends c.sessions_done-sessions.ensures.book
-    c.sessions_done-sessions.ensures.served c.monitors_done-monitors.ensures.book c.monitors_done-monitors.ensures.served
-    (not_lacked c.lacked-no_memory.result _ c.lacks.result c.lacks.ensures)
+    let sources = source_facts g.W.In.Source.content g.W.In.Source.faults g.W.In.Source.quiets in
+    let sinks = sink_facts g.W.Out.Sink.written g.W.Out.Sink.faults in
+    let gates = gate_facts g.W.Gate.Door.links g.W.Gate.Door.faults g.W.Gate.Door.quiets in
+    let door = c.args.ended.door in
+    let whole = not_lacked c.lacked-no_memory.result _ c.lacks.result c.lacks.ensures in
+    at_end_of g.J.HubNaming.terms c.args.numbers.queue c.args.numbers.tries g.D.Dials.may sources sinks gates (g.W.Gate.Door.links c.args.first.value) door.full
+    c.lacked-no_memory.result c.lacks.result door.seat c.requires.tended.links door.gate c.part-book.result.book _ _ _ c.part-book.result.sessions.items _ _ _ _
+    c.part-book.ensures.terms c.part-book.ensures.agrees c.part-book.ensures.sessions c.requires.tended.seated.lanes c.show.ensures.units
+    (subst (λ (x : BookView). AreAtRest (length g.J.HubNaming.terms.segments) x.units) (sym c.part-book.ensures.same.0) c.requires.rest)
+    c.requires.from
+    (subst (λ (x : BookView). All IsClosed x.sessions) (sym c.part-book.ensures.same.0) c.requires.closed)
+    (subst (All HasStopped) (sym c.part-book.ensures.same.1) c.requires.stopped)
+    c.devices_done-devices.ensures.served c.devices_done-devices.ensures.ends c.sessions_done-sessions.ensures.book
+    c.sessions_done-sessions.ensures.served c.monitors_done-monitors.ensures.book c.monitors_done-monitors.ensures.served c.monitors_done-monitors.ensures.numbers whole
+    (gate_served sources sinks gates c.args.numbers.queue (g.W.Gate.Door.links c.args.first.value) door.gate door.full door.no_memory c.lacks.result door.seat _ _
+    c.requires.tended c.sessions_done-sessions.ensures.sources (λ e. c.lacked-no_memory.ensures.before (whole e)))
+
+pub returns-clause-eight : goal.returns-clause-eight
+returns-clause-eight g c e = c.requires.cause (c.status.ensures.eight e)
+
+pub returns-clause-seven : goal.returns-clause-seven
+returns-clause-seven g c e = c.lacks.ensures ∙ c.status.ensures.seven e
+
+pub returns-clause-zero : goal.returns-clause-zero
+returns-clause-zero g c e = c.lacks.ensures ∙ (c.status.ensures.zero e).0

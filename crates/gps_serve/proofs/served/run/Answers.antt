@@ -1,5 +1,12 @@
-use Rattle.std.proofs.Common.{◌≡◌, ap, arith}
+use Rattle.std.proofs.Common.{◌≡◌, IfSome, ap, sym, subst, arith}
+use Rattle.std.specs.List.{AllZip}
 use Rattle.std.specs.Vec.{vec_len}
+use Rattle.hub_laws.specs.Parts.{Terms}
+use Rattle.serve_settling.specs.Runs.{source_facts}
+use Rattle.gps_serve.specs.AtEnd.{AtEnd, gate_facts, sink_facts, told_of}
+use Rattle.gps_serve.specs.Runs.{RanOn}
+use Rattle.gps_serve.specs.Units.{CountFromZero}
+use Rattle.gps_serve.proofs.Taking.{devices_read}
 use Rattle.gps_serve.proofs.Dials.{may_give}
 use Rattle.gps_serve.proofs.Ends.{devices_ran_on, segments_count, watchers_ran_on}
 use Rattle.gps_serve.proofs.served.run.Goals as goal
@@ -15,17 +22,35 @@ new-requires-2 g c = may_give _ _ c.requires.dials
 pub gather-requires-clause-ran : goal.gather-requires-clause-ran
 gather-requires-clause-ran g c κs within =
     let same : c.in-Ok-set_up.setup.starts.items ≡ c.args.ground.lanes.starts.items = cc c.in-Ok-set_up.ensures.starts in
-    devices_ran_on _ _ g.J.HubNaming.terms c.args.ground.book c.args.numbers.wait _ _ c.args.ground.lanes.inlets.items _ c.requires.terms c.requires.fresh same c.in_scope-ended.ensures.ran
+    devices_ran_on _ _ g.J.HubNaming.terms c.args.ground.book c.args.numbers.wait _ _ c.args.ground.lanes.inlets.items _ c.requires.terms c.requires.fresh same c.in-Some.ensures.ran
 
 pub gather-requires-clause-watched : goal.gather-requires-clause-watched
 gather-requires-clause-watched g c κs within =
     let same : c.in-Ok-set_up.setup.watchers.items ≡ c.args.ground.watchers.items = cc c.in-Ok-set_up.ensures.watchers in
-    watchers_ran_on _ g.J.HubNaming.terms c.args.ground.book c.args.ground.lanes.inlets.items c.args.numbers.wait _ _ _ c.requires.terms c.requires.watchers same c.in_scope-ended.ensures.watched
+    watchers_ran_on _ g.J.HubNaming.terms c.args.ground.book c.args.ground.lanes.inlets.items c.args.numbers.wait _ _ _ c.requires.terms c.requires.watchers same c.in-Some.ensures.watched
 
 pub gather-requires-clause-devices : goal.gather-requires-clause-devices
 gather-requires-clause-devices g c κs within =
-    omega (arith, c.in_scope-ended.ensures.runs_count, ap vec_len c.in-Ok-set_up.ensures.starts, c.len.ensures, c.in-Ok.ensures.devices)
+    omega (arith, c.in-Some.ensures.counts.0, ap vec_len c.in-Ok-set_up.ensures.starts, c.len.ensures, c.in-Ok.ensures.devices)
 
 pub gather-requires-clause-monitors : goal.gather-requires-clause-monitors
 gather-requires-clause-monitors g c κs within =
-    omega (arith, c.in_scope-ended.ensures.watched_count, ap vec_len c.in-Ok-set_up.ensures.watchers, c.len-2.ensures, c.in-Ok.ensures.monitors)
+    omega (arith, c.in-Some.ensures.counts.1, ap vec_len c.in-Ok-set_up.ensures.watchers, c.len-2.ensures, c.in-Ok.ensures.monitors)
+
+pub gather-requires-clause-from : goal.gather-requires-clause-from
+gather-requires-clause-from g c κs within = subst CountFromZero (ap (λ (t : Terms). t.segments) (sym c.requires.terms)) c.requires.from
+
+pub returns-clause-reads : goal.returns-clause-reads
+returns-clause-reads g c some =
+    let same : c.in-Ok-set_up.setup.starts.items ≡ c.args.ground.lanes.starts.items = cc c.in-Ok-set_up.ensures.starts in
+    devices_read (source_facts g.W.In.Source.content g.W.In.Source.faults g.W.In.Source.quiets) g.D.Dials.may _ _ _
+    (subst (λ starts. AllZip (RanOn g.D.Dials.may (source_facts g.W.In.Source.content g.W.In.Source.faults g.W.In.Source.quiets)) starts c.in-Some.ended.runs.items) same c.in-Some.ensures.ran)
+    c.gather.ensures.left
+
+pub returns-clause-at_end : goal.returns-clause-at_end
+returns-clause-at_end g c =
+    subst (λ x. IfSome c.gather.result.book (λ book. AtEnd (told_of g.J.HubNaming.terms c.args.numbers.queue c.args.numbers.tries) g.D.Dials.may
+    (source_facts g.W.In.Source.content g.W.In.Source.faults g.W.In.Source.quiets) (sink_facts g.W.Out.Sink.written g.W.Out.Sink.faults)
+    (gate_facts g.W.Gate.Door.links g.W.Gate.Door.faults g.W.Gate.Door.quiets) (g.W.Gate.Door.links x) c.gather.result.full c.gather.result.no_memory book
+    c.gather.result.devices.items c.gather.result.sessions.items c.gather.result.monitors.items c.gather.result.gate))
+    c.of-first.ensures c.gather.ensures.at_end

@@ -1,8 +1,10 @@
-use Rattle.std.proofs.Common.{◌++◌, Ok, Err, arith}
+use Rattle.std.proofs.Common.{◌++◌, ◌∙◌, Ok, Err, ap, is_some, map, arith}
 use Rattle.serve_opening.specs.Opening.{places_in}
 use Rattle.serve_settling.specs.Runs.{source_facts}
-use Rattle.gps_serve.specs.AtEnd.{sink_facts}
+use Rattle.gps_serve.specs.AtEnd.{gate_facts, sink_facts}
+use Rattle.gps_serve.proofs.Taking.{bytes_held, edges_held, edges_there}
 use Rattle.gps_serve.proofs.Asked.{few_of, some_of, still_asked}
+use Rattle.gps_serve.proofs.Causes.{none_of}
 use Rattle.gps_serve.proofs.Dials.{told_again}
 use Rattle.gps_serve.proofs.served.serve.Goals as goal
 
@@ -18,13 +20,44 @@ returns-in-Err-clause-asked g c =
 
 pub returns-in-Ok-prepare-clause-at_end : goal.returns-in-Ok-prepare-clause-at_end
 returns-in-Ok-prepare-clause-at_end g c =
-    told_again (source_facts g.W.In.Source.content g.W.In.Source.faults g.W.In.Source.quiets) (sink_facts g.W.Out.Sink.written g.W.Out.Sink.faults) c.run.result.no_memory
-    c.run.result.book c.run.result.devices.items c.run.result.sessions.items c.run.result.monitors.items c.in-Ok-prepare.ground.book c.in-Ok-prepare.ground.lanes.inlets.items
-    c.args.plan (g.W.World.stamps c.args.world) (g.W.Now.Clock.stamps c.in-Ok.outside.clock) c.in-Ok-prepare.ensures.names c.in-Ok-prepare.ensures.limit
-    c.in-Ok.ensures.stamps c.run.ensures.at_end
+    told_again (source_facts g.W.In.Source.content g.W.In.Source.faults g.W.In.Source.quiets) (sink_facts g.W.Out.Sink.written g.W.Out.Sink.faults)
+    (gate_facts g.W.Gate.Door.links g.W.Gate.Door.faults g.W.Gate.Door.quiets) c.run.result.full c.run.result.no_memory
+    c.run.result.book c.run.result.devices.items c.run.result.sessions.items c.run.result.monitors.items c.run.result.gate c.in-Ok-prepare.ground.book
+    c.in-Ok-prepare.ground.lanes.inlets.items c.args.plan (g.W.World.stamps c.args.world) (g.W.Now.Clock.stamps c.in-Ok.outside.clock)
+    (g.W.World.links c.args.world) (g.W.Gate.Door.links c.in-Ok.outside.gate) c.in-Ok-prepare.ensures.names c.in-Ok-prepare.ensures.limit
+    c.in-Ok.ensures.stamps c.in-Ok.ensures.links c.run.ensures.at_end
+
+pub returns-in-Ok-prepare-clause-held : goal.returns-in-Ok-prepare-clause-held
+returns-in-Ok-prepare-clause-held g c once some =
+    let facts = source_facts g.W.In.Source.content g.W.In.Source.faults g.W.In.Source.quiets in
+    let held = c.in-Ok.ensures.held once in
+    let reads = c.run.ensures.reads some in (
+      bytes_held facts (g.W.World.behind c.args.world) c.args.plan.inputs.items c.in-Ok.outside.inputs.items c.in-Ok-prepare.ground.lanes.starts.items
+          c.run.result.devices.items c.in-Ok-prepare.ensures.sources held.0 reads,
+      edges_held facts (g.W.World.behind c.args.world) c.args.plan.edges.items c.in-Ok.outside.edges.items c.in-Ok-prepare.ground.lanes.starts.items
+          c.run.result.devices.items c.in-Ok-prepare.ensures.edge_sources held.1 reads,
+    )
+
+pub returns-in-Ok-prepare-clause-edges : goal.returns-in-Ok-prepare-clause-edges
+returns-in-Ok-prepare-clause-edges g c some =
+    edges_there (source_facts g.W.In.Source.content g.W.In.Source.faults g.W.In.Source.quiets) c.in-Ok-prepare.ground.lanes.starts.items c.run.result.devices.items
+    (c.run.ensures.reads some)
+    ∙ ap (map is_some) c.in-Ok-prepare.ensures.edge_sources ∙ c.in-Ok.ensures.pairs
 
 pub returns-in-Ok-prepare-clause-asked : goal.returns-in-Ok-prepare-clause-asked
 returns-in-Ok-prepare-clause-asked g c =
     still_asked g.W.World.asked c.open.new.world c.run.result.world (c.args.plan.inputs.items ++ places_in c.args.plan.edges.items) c.args.plan.listen c.run.ensures.world
+    (some_of {X = Unit {0}} (Ok tt) (g.W.World.asked c.args.world) (g.W.World.asked c.open.new.world)
+    (c.args.plan.inputs.items ++ places_in c.args.plan.edges.items) c.args.plan.listen c.requires.asked c.in-Ok.ensures.asked)
+
+pub returns-in-Err-clause-none : goal.returns-in-Err-clause-none
+returns-in-Err-clause-none g c none =
+    none_of (Unit {0}) g.W.World.input_faults g.W.World.listen_faults c.args.world c.open.new.world c.nothing.result.world c.in-Err.stop c.nothing.result.status
+    c.in-Err.ensures.cause c.nothing.ensures.each c.nothing.ensures.world
+
+pub returns-in-Err-prepare-clause-asked : goal.returns-in-Err-prepare-clause-asked
+returns-in-Err-prepare-clause-asked g c =
+    still_asked g.W.World.asked c.open.new.world c.nothing-in-Err-prepare.result.world (c.args.plan.inputs.items ++ places_in c.args.plan.edges.items) c.args.plan.listen
+    c.nothing-in-Err-prepare.ensures.world
     (some_of {X = Unit {0}} (Ok tt) (g.W.World.asked c.args.world) (g.W.World.asked c.open.new.world)
     (c.args.plan.inputs.items ++ places_in c.args.plan.edges.items) c.args.plan.listen c.requires.asked c.in-Ok.ensures.asked)

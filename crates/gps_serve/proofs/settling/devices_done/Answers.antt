@@ -3,6 +3,8 @@ use Rattle.serve_settling.specs.Failing.{DeviceFailed}
 use Rattle.serve_settling.specs.Runs.{EachRun, RunCause}
 use Rattle.gps_serve.proofs.Causes.{failed_more}
 use Rattle.gps_serve.proofs.Devices.{devices_all, devices_begin, devices_more, ends_all, ends_begin, ends_more, lanes_left, next_device}
+use Rattle.gps_serve.specs.Runs.{IsLeftOf}
+use Rattle.gps_serve.proofs.Zips.{ran_begin, ran_end, ran_next}
 use Rattle.gps_serve.proofs.settling.devices_done.Goals as goal
 
 pub devices-init : goal.devices-init
@@ -11,6 +13,7 @@ devices-init g c =
     let empty = c.requires.empty in
     record {
       so_far = devices_begin _ _ _ _ _ _ _ c.requires.ready c.into_iter-inlets.ensures.rest runs c.requires.none;
+      left_of = ran_begin IsLeftOf _ _ _ runs c.requires.none;
       causes = subst (EachRun (RunCause g.S.Source.faults)) (sym runs) c.requires.causes;
       ends = ends_begin _ _ _ c.requires.none c.into_iter-ends.ensures.rest;
       left = ap length c.into_iter-ends.ensures.rest ∙ c.requires.ends ∙ ap length (sym c.into_iter-inlets.ensures.rest);
@@ -41,6 +44,8 @@ pub devices-preserved : goal.devices-preserved
 devices-preserved g c = record {
   so_far = devices_more _ _ _ _ _ _ _ _ _ _ (next_device _ _ _ _ _ _ _ _ _ _ c.devices.invariant.so_far c.next_of-lanes.ensures c.in-Some.ensures.steps.0)
       c.left_of-left.ensures.served c.push_reserved.ensures.items;
+  left_of = ran_next IsLeftOf _ _ _ _ _ _ _ c.devices.invariant.left_of c.in-Some.ensures.steps.0
+      (record { source = c.left_of-left.ensures.source; edges = c.left_of-left.ensures.edges }) c.push_reserved.ensures.items;
   causes = (subst (EachRun (RunCause g.S.Source.faults)) c.in-Some.ensures.steps.0 c.devices.invariant.causes).1;
   ends = ends_more _ _ _ _ _ _ _ c.devices.invariant.ends c.next_of-end.ensures c.left_of-left.ensures.end c.push_reserved.ensures.items;
   left = omega (arith, c.devices.invariant.left, ap length c.next_of-end.ensures, ap length c.next_of-lanes.ensures);
@@ -58,3 +63,6 @@ returns-clause-ends g c =
 
 pub returns-clause-failed : goal.returns-clause-failed
 returns-clause-failed g c = c.devices.invariant.failed
+
+pub returns-clause-left : goal.returns-clause-left
+returns-clause-left g c = ran_end _ _ _ _ c.devices.invariant.left_of (sym c.devices.run-iterator.rest.ok.0 ∙ c.in-None.ensures.steps.0)

@@ -4,13 +4,15 @@ use Rattle.std.specs.Vec.Iter.{into_iter_items}
 use Rattle.serve_parts.specs.declared.done.DeviceDone.{DeviceDone}
 use Rattle.serve_settling.specs.Failing.{DeviceFailed, SomeFailed}
 use Rattle.serve_settling.specs.Runs.{EachRun, RunCause, source_facts}
-use Rattle.gps_serve.specs.Runs.{DevicesSoFar}
+use Rattle.gps_serve.specs.Doors.{RanSoFar}
+use Rattle.gps_serve.specs.Runs.{DevicesSoFar, IsLeftOf}
 use Rattle.gps_serve.proofs.settling.devices_done.Given as goal
 
 abbrev pub invariant-devices : goal.invariant-devices
 invariant-devices g l = record {
   so_far : DevicesSoFar g.D.Dials.may (source_facts g.S.Source.content g.S.Source.faults g.S.Source.quiets) l.fn.inlets.items (into_iter_items l.inlets)
       (into_iter_items l.run-iterator) l.devices.items;
+  left_of : RanSoFar IsLeftOf l.fn.runs.items (into_iter_items l.run-iterator) l.devices.items;
   causes : EachRun (RunCause g.S.Source.faults) (into_iter_items l.run-iterator);
   ends : map (λ (d : DeviceDone g.row.S.Denot g.row.R.Denot). d.end) l.devices.items ++ into_iter_items l.ends ≡ l.fn.ends.items;
   left : length (into_iter_items l.ends) ≡ length (into_iter_items l.inlets);

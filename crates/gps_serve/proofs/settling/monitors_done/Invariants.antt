@@ -1,6 +1,8 @@
-use Rattle.std.proofs.Common.{◌≡◌, ◌≤◌, ◌+◌, length}
+use Rattle.std.proofs.Common.{◌≡◌, ◌≤◌, ◌+◌, length, map}
+use Rattle.std.specs.List.{range_with_len}
 use Rattle.std.specs.Vec.{vec_len, vec_capacity}
 use Rattle.std.specs.Vec.Iter.{into_iter_items}
+use Rattle.serve_parts.specs.declared.done.MonitorDone.{MonitorDone}
 use Rattle.gps_serve.specs.AtEnd.{watched_units}
 use Rattle.gps_serve.specs.Readies.{MonitorsSoFar}
 use Rattle.gps_serve.proofs.settling.monitors_done.Given as goal
@@ -8,6 +10,7 @@ use Rattle.gps_serve.proofs.settling.monitors_done.Given as goal
 abbrev pub invariant-units : goal.invariant-units
 invariant-units g l = record {
   so_far : MonitorsSoFar l.fn.tries l.fn.no_memory (watched_units l.fn.tries l.book.units) (into_iter_items l.watched) l.unit l.done.items;
+  numbers : map (λ (m : MonitorDone). m.unit) l.done.items ≡ range_with_len 0 l.unit;
   book : l.book ≡ l.initial.book;
   all : l.count ≡ length (watched_units l.fn.tries l.book.units);
   count : vec_len l.done + length (into_iter_items l.watched) ≡ vec_len l.fn.watched;

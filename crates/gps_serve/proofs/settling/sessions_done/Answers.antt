@@ -2,8 +2,9 @@ use Rattle.std.proofs.Common.{◌∙◌, length, sym, ap, subst, arith}
 use Rattle.report_book.specs.BookView.{BookView}
 use Rattle.serve_settling.specs.Runs.{source_facts}
 use Rattle.gps_serve.specs.AtEnd.{sink_facts}
-use Rattle.gps_serve.specs.Readies.{AllServed}
-use Rattle.gps_serve.proofs.Sessions.{is_next, next_session, same_book, sessions_all, sessions_more, some_left}
+use Rattle.gps_serve.specs.Readies.{AllServed, IsSourceOf}
+use Rattle.gps_serve.proofs.Sessions.{is_next, next_session, none_left, same_book, sessions_all, sessions_more, some_left}
+use Rattle.gps_serve.proofs.Zips.{ran_end, ran_next}
 use Rattle.gps_serve.proofs.settling.sessions_done.Goals as goal
 
 pub next_of-run-requires : goal.next_of-run-requires
@@ -26,6 +27,7 @@ sessions-preserved g c = record {
       (sessions_more _ _ _ _ _ _ _ _ _ _ _ _
       (next_session _ _ _ _ _ _ _ _ _ _ _ _ c.sessions.invariant.so_far c.next_of-input.ensures c.next_of-run.ensures)
       c.settled.ensures.number c.settled.ensures.input c.settled.ensures.outlet c.push_reserved.ensures.items);
+  sources = ran_next IsSourceOf _ _ _ _ _ _ _ c.sessions.invariant.sources c.next_of-run.ensures c.settled.ensures.source c.push_reserved.ensures.items;
   book = c.settled.ensures.book ∙ c.sessions.invariant.book;
   all = c.sessions.invariant.all ∙ ap (λ (b : BookView). length b.sessions) (sym c.settled.ensures.book);
   count = omega (arith, c.push_reserved.ensures.len, c.sessions.invariant.count, ap length c.next_of-run.ensures);
@@ -39,3 +41,8 @@ returns-clause-served g c =
     c.sessions.done.items in
     let test = c.sessions-test.false in
     subst P c.sessions.invariant.book (sessions_all _ _ _ _ _ _ _ _ c.sessions.invariant.so_far (omega (arith, test, c.sessions.invariant.all)))
+
+pub returns-clause-sources : goal.returns-clause-sources
+returns-clause-sources g c =
+    let test = c.sessions-test.false in
+    ran_end _ _ _ _ c.sessions.invariant.sources (none_left _ _ _ _ _ _ _ _ c.sessions.invariant.so_far (omega (arith, test, c.sessions.invariant.all)))

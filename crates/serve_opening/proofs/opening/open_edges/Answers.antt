@@ -1,6 +1,6 @@
-use Rattle.std.proofs.Common.{rules}
+use Rattle.std.proofs.Common.{rules, sym, ◌∙◌}
 use Rattle.serve_opening.proofs.Asking.{edge_asks_at, edge_room_at, edge_stopped_at}
-use Rattle.serve_opening.proofs.Held.{edge_more}
+use Rattle.serve_opening.proofs.Held.{edge_more, pairs_all, pairs_more}
 use Rattle.serve_opening.proofs.opening.open_edges.Goals as goal
 
 pub open_next-requires-after_bounds : goal.open_next-requires-after_bounds
@@ -15,5 +15,9 @@ places-preserved g c = record {
   tells = search rules;
   unread = c.in-Ok.ensures.unread c.places.invariant.unread;
   held = edge_more g.W.In.Source.content c.in-Some.ensures.steps.0 c.places.invariant.held c.in-Ok.ensures.others c.in-Ok.ensures.held;
+  pairs = pairs_more g.W.In.Source.content _ _ _ _ _ _ _ c.in-Some.ensures.steps.0 c.places.invariant.pairs c.in-Ok.ensures.held;
   count = search rules;
 }
+
+pub returns-clause-pairs : goal.returns-clause-pairs
+returns-clause-pairs g c = pairs_all _ _ _ (sym c.places.place-iterator.rest.ok.0 ∙ c.in-None.ensures.steps.0) c.places.invariant.pairs

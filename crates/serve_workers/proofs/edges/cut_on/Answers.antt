@@ -2,7 +2,7 @@ use Rattle.std.proofs.Common.{◌∙◌, ap, arith}
 use Rattle.gps_lane.specs.Ends.{Putting}
 use Rattle.serve_pieces.specs.declared.piece.Piece.{Piece}
 use Rattle.serve_workers.specs.declared.readers.Turn.TheVariants.{On, Over, Closed}
-use Rattle.serve_workers.proofs.LineTurning.{line_turns_on}
+use Rattle.serve_workers.proofs.LineTurning.{line_turns_on, lines_broken_off}
 use Rattle.serve_workers.proofs.edges.cut_on.Goals as goal
 
 pub reads-preserved : goal.reads-preserved
@@ -19,3 +19,6 @@ returns-in-Over-clause-turns g c = line_turns_on (Over c.in-Over.ending) _ _ _ _
 
 pub returns-in-Closed-clause-turns : goal.returns-in-Closed-clause-turns
 returns-in-Closed-clause-turns g c = line_turns_on Closed _ _ _ _ _ _ _ _ _ c.reads.invariant.turns c.in-Closed.ensures.turns
+
+pub returns-then-eq-clause-turns : goal.returns-then-eq-clause-turns
+returns-then-eq-clause-turns g c = lines_broken_off _ _ _ _ _ _ (line_turns_on On _ _ _ _ _ _ _ _ _ c.reads.invariant.turns c.in-On.ensures.turns)

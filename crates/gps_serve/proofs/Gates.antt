@@ -1,0 +1,75 @@
+-- What is left of the door, and what it says of the sessions.
+use Rattle.std.proofs.Common.{◌≡◌, ◌<◌, ◌≤◌, ◌+◌, ◌-◌, ◌^◌, inl, inr, ℕ, Bool, true, false, zero, suc, List, [], ◌∷◌, map, length, get_or, Option, Some, None, is_some, refl, sym, ◌∙◌, ap, subst, arith}
+use Rattle.std.specs.List.{All, AllZip}
+use Rattle.book_sessions.specs.Attendance.{Attendance}
+use Rattle.gps_lane.specs.Ends.{Taking}
+use Rattle.hub_door.specs.Admissions.{Admissions, Link as Admitted}
+use Rattle.hub_laws.specs.declared.ends.DeviceEnd.{DeviceEnd}
+use Rattle.hub_laws.specs.Parts.{AreAdmitted}
+use Rattle.serve_parts.specs.declared.done.DeviceDone.{DeviceDone}
+use Rattle.serve_parts.specs.declared.done.SessionDone.{SessionDone}
+use Rattle.serve_pieces.specs.declared.piece.Piece.{Piece}
+use Rattle.serve_settling.specs.Runs.{SourceFacts}
+use Rattle.serve_threads.specs.declared.session.Link.{Link}
+use Rattle.serve_threads.specs.declared.session.SessionRun.{SessionRun}
+use Rattle.serve_threads.specs.Sessions.{SessionRuns}
+use Rattle.gps_serve.specs.AtEnd.{AreOfQueue, GateFacts, GateServed, ReadsLink, SinkFacts}
+use Rattle.gps_serve.specs.Doors.{DoorNow, IsNewLink, Tended, Way, door_now, lanes_of, way_of}
+use Rattle.gps_serve.specs.Readies.{IsSourceOf}
+use Rattle.gps_serve.specs.Statuses.{HasStopped}
+use Rattle.gps_serve.proofs.Devices.{zip_length}
+use Rattle.gps_serve.proofs.Taking.{links_read}
+
+map_length : {A B : Type 0} (f : A → B) (xs : List A) → length (map f xs) ≡ length xs
+map_length f [] = refl
+map_length f (x ∷ xs) = let same = map_length f xs in omega (arith, same)
+
+pub gate_served : {G S K R : Type 0} (sources : SourceFacts S) (sinks : SinkFacts K) (gates : GateFacts G S K) (queue : ℕ) (told : Option (List (Way S K))) (gate : G) (full : ℕ)
+    (no_memory lacks : Bool) (seat : Admissions) (runs : List (SessionRun S K R)) (sessions : List (SessionDone S K R))
+    → Tended (IsNewLink sources.content sources.faults sources.quiets sinks.written sinks.faults)
+    (SessionRuns sources.content sources.faults sources.quiets sinks.written sinks.faults) queue told
+    (door_now (gates.links gate) (gates.faults gate) (gates.quiets gate) full no_memory) seat runs
+    → AllZip IsSourceOf runs sessions → (lacks ≡ false → no_memory ≡ false)
+    → GateServed sources gates told full lacks seat.done sessions gate
+gate_served {G} {S} {K} {R} sources sinks gates queue told gate full no_memory lacks seat runs sessions tended are so =
+    let ran = zip_length (SessionRuns sources.content sources.faults sources.quiets sinks.written sinks.faults) tended.links runs tended.ran in
+    let left = zip_length IsSourceOf runs sessions are in
+    let ways = map_length way_of tended.links in
+    let same : length (map way_of tended.links) ≡ length sessions = omega (arith, ran, left, ways) in
+    let takes = tended.tends.takes in
+    record {
+      taken = tended.tends.taken;
+      passed = takes.passed;
+      count = λ (e : lacks ≡ false) (f : full < 2 ^ 64 - 1). takes.count (so e) f ∙ ap (λ n. n + full) same;
+      none_early = λ (f : length sessions < 64). takes.full (subst (λ n. n < 64) (sym same) f);
+      each = λ (e : length tended.tends.taken ≡ length sessions).
+          subst (λ (l : List (Way S K)). AllZip (ReadsLink sources) l sessions) (takes.each (e ∙ sym same))
+          (links_read sources sinks.written sinks.faults tended.links runs sessions tended.ran are);
+      asked = elim tended.tends.asked [ inl never ↦ absurd (cc never) | inr was ↦ was ];
+      closed = tended.tends.closed;
+    }
+
+module _ {S K R : Type 0} (queue : ℕ) where
+  caps_are : (links : List (Link S K R)) (sessions : List Attendance)
+      → map (λ (a : Attendance). a.session.cap) sessions ≡ map (λ (l : Admitted). l.cap) (map (lanes_of queue) links) → AreOfQueue queue sessions
+  caps_are links [] same k d there = absurd (omega arith)
+  caps_are [] (a ∷ sessions) same k d there = absurd cc
+  caps_are (link ∷ links) (a ∷ sessions) same zero d there = cc same
+  caps_are (link ∷ links) (a ∷ sessions) same (suc k) d there = caps_are links sessions (cc same) k d (omega arith)
+
+  -- so many items may wait for each session that was admitted
+  pub of_queue : (seat : Admissions) (links : List (Link S K R)) (sessions : List Attendance) (inputs : List (Taking Piece)) → map (lanes_of queue) links ≡ seat.links
+      → AreAdmitted seat.links sessions inputs → AreOfQueue queue sessions
+  of_queue seat links sessions inputs same admitted =
+      caps_are links sessions (admitted.caps ∙ ap (map (λ (l : Admitted). l.cap)) (sym same))
+
+pub devices_stopped : {S R : Type 0} (devices : List (DeviceDone S R)) (ends : List (Option DeviceEnd)) → map (λ (d : DeviceDone S R). d.end) devices ≡ ends → All HasStopped ends
+    → All (λ (d : DeviceDone S R). HasStopped d.end) devices
+devices_stopped {S} {R} devices ends are all k d there =
+    by devices k d there (subst (All HasStopped) (sym are) all)
+  where
+    by : (devices : List (DeviceDone S R)) (k : ℕ) (d : DeviceDone S R) → k < length devices → All HasStopped (map (λ (d : DeviceDone S R). d.end) devices)
+        → HasStopped (get_or devices k d).end
+    by [] k d there all = absurd (omega arith)
+    by (x ∷ devices) zero d there all = all zero d.end (omega arith)
+    by (x ∷ devices) (suc k) d there all = by devices k d (omega arith) (λ j e there. all (suc j) e (omega arith))

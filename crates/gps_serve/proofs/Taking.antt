@@ -1,0 +1,168 @@
+-- What was taken from the sources is the first of what they held.
+use Rattle.std.proofs.Common.{◌≡◌, ◌<◌, ℕ, Bool, List, [], ◌∷◌, ◌++◌, map, length, Option, Some, None, is_some, option_map, refl, sym, ◌∙◌, ap, subst, append_assoc, arith}
+use Rattle.std.proofs.lemmas.List.{append-nil}
+use Rattle.std.specs.List.{AllZip, flat_map}
+use Rattle.gps_fixed.specs.Moment.{Moment}
+use Rattle.gps_outside.specs.Told.{Goes, IsPrefix, Stream}
+use Rattle.gps_outside.specs.Turns.{TakesAll, TakesSome}
+use Rattle.gps_outside.proofs.Going.{goes_as}
+use Rattle.gps_world.specs.Opening.{Holds}
+use Rattle.gps_world.specs.declared.place.Place.{Place}
+use Rattle.serve_opening.specs.Opening.{IsEdgeHeld, IsHeld}
+use Rattle.serve_parts.specs.declared.done.DeviceDone.{DeviceDone}
+use Rattle.serve_parts.specs.declared.done.SessionDone.{SessionDone}
+use Rattle.serve_pieces.specs.Carried.{device_part, input_part}
+use Rattle.serve_pieces.specs.declared.piece.Ending.{Ending}
+use Rattle.serve_pieces.specs.declared.piece.Ending.TheVariants as ending
+use Rattle.serve_pieces.specs.declared.piece.Piece.{Piece}
+use Rattle.serve_settling.specs.declared.device.DeviceRun.{DeviceRun}
+use Rattle.serve_settling.specs.Failing.{source_of}
+use Rattle.serve_settling.specs.Runs.{EdgesRan, SourceFacts}
+use Rattle.serve_threads.specs.declared.reading.ReaderDone.{ReaderDone}
+use Rattle.serve_threads.specs.declared.session.Link.{Link}
+use Rattle.serve_threads.specs.declared.session.SessionRun.{SessionRun}
+use Rattle.serve_threads.specs.Sessions.{SessionRuns}
+use Rattle.serve_workers.specs.EdgeLines.{TookLines}
+use Rattle.serve_workers.specs.Readings.{IsDevicePiece, IsInputPiece, TakesMore, Took}
+use Rattle.gps_serve.specs.declared.lanes.DeviceStart.{DeviceStart}
+use Rattle.gps_serve.specs.declared.lanes.EdgeStart.{EdgeStart}
+use Rattle.gps_serve.specs.AtEnd.{BytesHeld, EdgesHeld, IsFirstOf, ReadsLink, SourceHeld, TakesFirst}
+use Rattle.gps_serve.specs.Doors.{Way, way_of}
+use Rattle.gps_serve.specs.Readies.{IsSourceOf}
+use Rattle.gps_serve.specs.Runs.{DeviceReads, EdgesRead, IsLeftOf, RanOn}
+use Rattle.gps_serve.specs.Starts.{edge_source_of, edge_start_of, edges_at, sources_at}
+
+all_first : (bytes : List ℕ) (x y : Stream) → TakesAll bytes x y → TakesFirst x y
+all_first bytes x y p = ([], ap (λ l. x.taken ++ l) p.all ∙ sym p.joins ∙ sym (append-nil y.taken))
+
+some_first : (bytes : List ℕ) (x y : Stream) → TakesSome bytes x y → TakesFirst x y
+some_first bytes x y p = (p.rest, ap (λ l. x.taken ++ l) p.next ∙ sym (append_assoc x.taken bytes p.rest) ∙ ap (λ l. l ++ p.rest) (sym p.joins))
+
+more_first : (bytes : List ℕ) (x y : Stream) → TakesMore bytes x y → TakesFirst x y
+more_first bytes x y p = some_first (bytes ++ p.0) x y p.1.1
+
+pub took_first : (e : Option Ending) (bytes : List ℕ) (before after : Option Stream) → Took e bytes before after → Goes TakesFirst before after
+took_first None bytes before after took = goes_as (TakesMore bytes) TakesFirst before after (more_first bytes) took
+took_first (Some ending.End) bytes before after took = goes_as (TakesAll bytes) TakesFirst before after (all_first bytes) took
+took_first (Some ending.Failed) bytes before after took = goes_as (TakesSome bytes) TakesFirst before after (some_first bytes) took
+took_first (Some ending.NoMemory) bytes before after took = goes_as (TakesMore bytes) TakesFirst before after (more_first bytes) took
+
+pub lines_first : (e : Option Ending) (bytes : List ℕ) (before after : Option Stream) → TookLines e bytes before after → Goes TakesFirst before after
+lines_first None bytes before after took = goes_as (TakesSome bytes) TakesFirst before after (some_first bytes) took
+lines_first (Some ending.End) bytes before after took = goes_as (TakesAll bytes) TakesFirst before after (all_first bytes) took
+lines_first (Some ending.Failed) bytes before after took = goes_as (TakesSome bytes) TakesFirst before after (some_first bytes) took
+lines_first (Some ending.NoMemory) bytes before after took = goes_as (TakesSome bytes) TakesFirst before after (some_first bytes) took
+
+module _ {S : Type 0} (facts : SourceFacts S) where
+  first_of : (held : Option (List ℕ)) (before after : Option Stream) → Holds held before → Goes TakesFirst before after → IsFirstOf held after
+  first_of None before after holds goes = tt
+  first_of (Some bytes) before None holds goes =
+      absurd (subst (λ (c : Option Stream). Goes TakesFirst c None) holds goes)
+  first_of (Some bytes) before (Some y) holds goes = subst (λ (c : Option Stream). Goes TakesFirst c (Some y)) holds goes
+
+  edge_there : (first left : Option S) → EdgesRead facts first left → is_some left ≡ is_some first
+  edge_there None None reads = refl
+  edge_there None (Some source) reads = absurd reads
+  edge_there (Some first) None reads = absurd reads
+  edge_there (Some first) (Some source) reads = refl
+
+module _ {S R : Type 0} (facts : SourceFacts S) where
+  edges_read : (start : Option (EdgeStart S R)) (run : Option (ReaderDone S R)) → EdgesRan facts (option_map edge_start_of start) run
+      → EdgesRead facts (edge_source_of start) (source_of run)
+  edges_read None None ran = tt
+  edges_read None (Some run) ran = absurd ran
+  edges_read (Some start) None ran = absurd ran
+  edges_read (Some start) (Some run) ran = lines_first run.ending ran.hands.bytes (facts.content start.source) (facts.content run.source) ran.hands.took
+
+  device_reads : (may : Option (List Moment)) (start : DeviceStart S R) (run : DeviceRun S R) (done : DeviceDone S R) → RanOn may facts start run → IsLeftOf run done
+      → DeviceReads facts start done
+  device_reads may start run done ran left = record {
+    source = run.bytes.source;
+    source_is = left.source;
+    bytes = took_first run.bytes.ending (flat_map device_part ran.bytes.hands.pieces) (facts.content start.source) (facts.content run.bytes.source) ran.bytes.hands.took;
+    edges = subst (EdgesRead facts (edge_source_of start.edges)) (sym left.edges) (edges_read start.edges run.edges ran.edges);
+  }
+
+  pub devices_read : (may : Option (List Moment)) (starts : List (DeviceStart S R)) (runs : List (DeviceRun S R)) (devices : List (DeviceDone S R))
+      → AllZip (RanOn may facts) starts runs → AllZip IsLeftOf runs devices → AllZip (DeviceReads facts) starts devices
+  devices_read may [] [] [] ran left = tt
+  devices_read may [] [] (d ∷ devices) ran left = absurd left
+  devices_read may [] (run ∷ runs) devices ran left = absurd ran
+  devices_read may (start ∷ starts) [] devices ran left = absurd ran
+  devices_read may (start ∷ starts) (run ∷ runs) [] ran left = absurd left
+  devices_read may (start ∷ starts) (run ∷ runs) (d ∷ devices) ran left =
+      (device_reads may start run d ran.0 left.0, devices_read may starts runs devices ran.1 left.1)
+
+  module _ (behind : Place → Option (List ℕ)) where
+    pub bytes_held : (places : List Place) (sources : List S) (starts : List (DeviceStart S R)) (devices : List (DeviceDone S R))
+        → sources_at starts ≡ sources → AllZip (IsHeld behind facts.content) places sources → AllZip (DeviceReads facts) starts devices
+        → AllZip (BytesHeld behind facts) places devices
+    bytes_held places sources starts devices are held reads = by places starts devices (subst (AllZip (IsHeld behind facts.content) places) (sym are) held) reads
+      where
+        by : (places : List Place) (starts : List (DeviceStart S R)) (devices : List (DeviceDone S R))
+            → AllZip (IsHeld behind facts.content) places (sources_at starts) → AllZip (DeviceReads facts) starts devices → AllZip (BytesHeld behind facts) places devices
+        by [] [] [] held reads = tt
+        by [] [] (d ∷ devices) held reads = absurd reads
+        by [] (start ∷ starts) devices held reads = absurd held
+        by (place ∷ places) [] devices held reads = absurd held
+        by (place ∷ places) (start ∷ starts) [] held reads = absurd reads
+        by (place ∷ places) (start ∷ starts) (d ∷ devices) held reads = (
+          subst (SourceHeld facts (behind place)) (sym reads.0.source_is)
+              (first_of facts (behind place) (facts.content start.source) (facts.content reads.0.source) held.0 reads.0.bytes),
+          by places starts devices held.1 reads.1,
+        )
+
+    edge_held : (place : Option Place) (first : Option S) (d : DeviceDone S R) → IsEdgeHeld behind facts.content place first → EdgesRead facts first d.edges
+        → EdgesHeld behind facts place d
+    edge_held None None d held reads = none d.edges reads
+      where
+        none : (left : Option S) → EdgesRead facts None left → left ≡ None
+        none None reads = refl
+        none (Some source) reads = absurd reads
+    edge_held None (Some first) d held reads = absurd held
+    edge_held (Some place) None d held reads = absurd held
+    edge_held (Some place) (Some first) d held reads = some d.edges reads
+      where
+        some : (left : Option S) → EdgesRead facts (Some first) left → SourceHeld facts (behind place) left
+        some None reads = tt
+        some (Some source) reads = first_of facts (behind place) (facts.content first) (facts.content source) held reads
+
+    pub edges_held : (places : List (Option Place)) (sources : List (Option S)) (starts : List (DeviceStart S R)) (devices : List (DeviceDone S R))
+        → edges_at starts ≡ sources → AllZip (IsEdgeHeld behind facts.content) places sources → AllZip (DeviceReads facts) starts devices
+        → AllZip (EdgesHeld behind facts) places devices
+    edges_held places sources starts devices are held reads = by places starts devices (subst (AllZip (IsEdgeHeld behind facts.content) places) (sym are) held) reads
+      where
+        by : (places : List (Option Place)) (starts : List (DeviceStart S R)) (devices : List (DeviceDone S R))
+            → AllZip (IsEdgeHeld behind facts.content) places (edges_at starts) → AllZip (DeviceReads facts) starts devices → AllZip (EdgesHeld behind facts) places devices
+        by [] [] [] held reads = tt
+        by [] [] (d ∷ devices) held reads = absurd reads
+        by [] (start ∷ starts) devices held reads = absurd held
+        by (place ∷ places) [] devices held reads = absurd held
+        by (place ∷ places) (start ∷ starts) [] held reads = absurd reads
+        by (place ∷ places) (start ∷ starts) (d ∷ devices) held reads =
+            (edge_held place (edge_source_of start.edges) d held.0 reads.0.edges, by places starts devices held.1 reads.1)
+
+  -- a device has a source of edges where it began with one
+  pub edges_there : (starts : List (DeviceStart S R)) (devices : List (DeviceDone S R)) → AllZip (DeviceReads facts) starts devices
+      → map (λ (d : DeviceDone S R). is_some d.edges) devices ≡ map is_some (edges_at starts)
+  edges_there [] [] reads = refl
+  edges_there [] (d ∷ devices) reads = absurd reads
+  edges_there (start ∷ starts) [] reads = absurd reads
+  edges_there (start ∷ starts) (d ∷ devices) reads =
+      ap (λ (b : Bool). b ∷ map (λ (d : DeviceDone S R). is_some d.edges) devices) (edge_there facts (edge_source_of start.edges) d.edges reads.0.edges)
+      ∙ ap (λ l. is_some (edge_source_of start.edges) ∷ l) (edges_there starts devices reads.1)
+
+-- the same of sessions
+pub links_read : {S K R : Type 0} (facts : SourceFacts S) (written : K → Option (List ℕ)) (sink_faults : K → ℕ) (links : List (Link S K R)) (runs : List (SessionRun S K R))
+    (sessions : List (SessionDone S K R)) → AllZip (SessionRuns facts.content facts.faults facts.quiets written sink_faults) links runs → AllZip IsSourceOf runs sessions
+    → AllZip (ReadsLink facts) (map way_of links) sessions
+links_read facts written sink_faults [] [] [] ran are = tt
+links_read facts written sink_faults [] [] (s ∷ sessions) ran are = absurd are
+links_read facts written sink_faults [] (run ∷ runs) sessions ran are = absurd ran
+links_read facts written sink_faults (link ∷ links) [] sessions ran are = absurd ran
+links_read facts written sink_faults (link ∷ links) (run ∷ runs) [] ran are = absurd are
+links_read {S} facts written sink_faults (link ∷ links) (run ∷ runs) (s ∷ sessions) ran are = (
+  subst (λ (x : S). Goes TakesFirst (facts.content link.source) (facts.content x)) (sym are.0)
+      (took_first run.reader.ending (flat_map input_part ran.0.reads.hands.pieces) (facts.content link.source) (facts.content run.reader.source) ran.0.reads.hands.took),
+  links_read facts written sink_faults links runs sessions ran.1 are.1,
+)

@@ -1,0 +1,544 @@
+//! `serve` over a world in memory.
+
+ghost use Rattle.std.specs.Prelude.{◌≡◌, ◌≤◌, [], ◌∷◌, IfOk, None, Some, length};
+ghost use Rattle.gps_outside.specs.DoorPlans.{HaveLinks};
+ghost use Rattle.gps_outside.specs.Links.{IsUnread, IsUnwritten};
+ghost use Rattle.gps_world.specs.MemoryWorlds.{HaveSources};
+
+use crate::serve::serve_main;
+use crate::tests::{Parts, RMC, joined, words_of};
+use gps_fixed::{Bytes, NoMemory, Stamp};
+use gps_outside::{
+    AtEnd, DoorPlan, MemoryClock, MemoryDoor, MemorySink, MemorySource, ReadPlan, ReadStep, Sink,
+    Source, WritePlan, WriteStep,
+};
+use gps_serve::{DeviceEnd, Served};
+use gps_world::{MemoryWorld, Place};
+use std::alloc::Global;
+use std::sync::atomic::{AtomicU64, Ordering};
+use std::sync::{Arc, Wait};
+use std::test::Fail;
+use std::thread::{Threads, yield_now};
+
+const VERSION: &[u8] =
+    b"{\"class\":\"VERSION\",\"release\":\"gpsrelay-1\",\"rev\":\"1\",\"proto_major\":3,\"proto_minor\":1}\r\n";
+
+const DEVICES: &[u8] =
+    b"{\"class\":\"DEVICES\",\"devices\":[{\"class\":\"DEVICE\",\"path\":\"g\"}]}\r\n";
+
+const JSON: &[u8] =
+    b"{\"class\":\"WATCH\",\"enable\":true,\"json\":true,\"nmea\":false,\"raw\":0,\"pps\":false}\r\n";
+
+const NMEA: &[u8] =
+    b"{\"class\":\"WATCH\",\"enable\":true,\"json\":false,\"nmea\":true,\"raw\":0,\"pps\":false}\r\n";
+
+const PPS: &[u8] =
+    b"{\"class\":\"WATCH\",\"enable\":true,\"json\":false,\"nmea\":false,\"raw\":0,\"pps\":true}\r\n";
+
+const ACTIVE: &[u8] =
+    b"{\"class\":\"DEVICE\",\"path\":\"g\",\"activated\":\"1970-01-01T00:00:05.000Z\"}\r\n";
+
+const FIX: &[u8] =
+    b"{\"class\":\"TPV\",\"device\":\"g\",\"mode\":2,\"time\":\"1994-03-23T12:35:19.000Z\",\"lat\":48.117300000,\"lon\":11.516666667,\"track\":84.4000,\"speed\":11.524}\r\n";
+
+const ENDED: &[u8] = b"{\"class\":\"DEVICE\",\"path\":\"g\"}\r\n";
+
+/// What a session is sent that watches from before the device's first byte to its end.
+const WHOLE: Parts<'static> = &[VERSION, DEVICES, JSON, ACTIVE, FIX, ENDED];
+
+const WATCH_JSON: &[u8] = b"?WATCH={\"json\":true};\n";
+
+const UNIT: &[u8] = b"u0 published 1 count 2 left 0\n";
+
+const FIVE: Stamp = Stamp { sec: 5, nsec: 0 };
+
+/// How often is waited, at most, for what another thread does.
+const TURNS: u64 = 1_000_000;
+
+/// A sink in memory, which counts the lines that it was given. Where there is another sink to wait for, its first write waits until that one
+/// was given a line, and fails where none comes.
+#[derive(Drop)]
+struct CountingSink {
+    sink: MemorySink,
+    lines: Arc<AtomicU64>,
+    other: Option<Arc<AtomicU64>>,
+    faults: u64,
+}
+
+impl CountingSink {
+    fn of(
+        alloc: Global,
+        writes: &[WritePlan],
+        lines: &Arc<AtomicU64>,
+        other: Option<Arc<AtomicU64>>,
+    ) -> Result<CountingSink, NoMemory>
+        ensures { IfOk result (λ sink. sink.faults ≡ 0) }
+    {
+        Ok(CountingSink {
+            sink: MemorySink::new(alloc, writes.to_vec(alloc)?, 4_096)?,
+            lines: Arc::try_clone(lines)?,
+            other,
+            faults: 0,
+        })
+    }
+
+    /// Whether there is no other sink to wait for, or one that was given a line.
+    fn may_write(&mut self) -> bool
+        ensures { self.new.faults ≡ self.old.faults }
+    {
+        let Some(other) = self.other.take() else {
+            return true;
+        };
+        for _ in 0..TURNS {
+            if other.load(Ordering::SeqCst) > 0 {
+                return true;
+            }
+            yield_now();
+        }
+        false
+    }
+}
+
+fn lines_in(bytes: &[u8]) -> u64 {
+    bytes.iter().filter(|byte| **byte == b'\n').count() as u64
+}
+
+impl Sink for CountingSink {
+    ghost use Rattle.std.specs.Prelude.{None};
+
+    ghost faults = { λ s. s.faults };
+
+    ghost written = { λ _. None };
+
+    fn write(&mut self, piece: &[u8]) -> WriteStep {
+        let step = if self.may_write() {
+            self.sink.write(piece)
+        } else {
+            WriteStep::Failed
+        };
+        match step {
+            WriteStep::Wrote(n) => {
+                self.lines
+                    .fetch_add(lines_in(&piece[..n]), Ordering::SeqCst);
+            }
+            WriteStep::Failed => self.faults = self.faults.saturating_add(1),
+        }
+        step
+    }
+}
+
+/// What a source does once a sink was given so many lines.
+#[derive(Clone, Copy)]
+enum Cue {
+    Give(u64, &'static [u8]),
+    End(u64),
+}
+
+/// A source that does one thing after another, each at its cue, and is quiet where there is none. It ends where it was quiet too often.
+#[derive(Drop)]
+struct CuedSource {
+    cues: &'static [Cue],
+    at: usize,
+    lines: Arc<AtomicU64>,
+    quiets: u64,
+}
+
+impl CuedSource {
+    fn of(cues: &'static [Cue], lines: &Arc<AtomicU64>) -> Result<CuedSource, NoMemory>
+        ensures { IfOk result (λ source. source.quiets ≡ 0) }
+    {
+        Ok(CuedSource {
+            cues,
+            at: 0,
+            lines: Arc::try_clone(lines)?,
+            quiets: 0,
+        })
+    }
+
+    /// What is to be done now.
+    fn cue(&self) -> Option<Cue> {
+        let lines = self.lines.load(Ordering::SeqCst);
+        match self.cues.get(self.at) {
+            Some(Cue::Give(after, bytes)) if *after <= lines => Some(Cue::Give(*after, *bytes)),
+            Some(Cue::End(after)) if *after <= lines => Some(Cue::End(*after)),
+            _ => None,
+        }
+    }
+}
+
+/// Copies as much of the bytes as the buffer has room for; how much that is.
+fn copy(bytes: &[u8], buf: &mut [u8]) -> usize
+    ensures { result ≤ length buf.old }
+{
+    let n = bytes.len().min(buf.len());
+    buf[..n].copy_from_slice(&bytes[..n]);
+    n
+}
+
+impl Source for CuedSource {
+    ghost use Rattle.std.specs.Prelude.{None};
+
+    ghost faults = { λ _. 0 };
+
+    ghost quiets = { λ s. s.quiets };
+
+    ghost content = { λ _. None };
+
+    fn read(&mut self, buf: &mut [u8]) -> ReadStep {
+        match self.cue() {
+            Some(Cue::Give(_, bytes)) => {
+                self.at = self.at.saturating_add(1);
+                match copy(bytes, buf) {
+                    0 => ReadStep::End,
+                    n => ReadStep::Got(n),
+                }
+            }
+            Some(Cue::End(_)) => ReadStep::End,
+            None => {
+                if self.quiets >= TURNS {
+                    return ReadStep::End;
+                }
+                yield_now();
+                self.quiets = self.quiets.saturating_add(1);
+                ReadStep::Quiet
+            }
+        }
+    }
+}
+
+fn file(alloc: Global, path: &[u8]) -> Result<Place, NoMemory> {
+    Ok(Place::File(Bytes::from_slice(alloc, path)?))
+}
+
+/// A daemon whose sinks count lines.
+type Daemon<I, R> = Served<MemoryWorld<I, CountingSink>, R>;
+
+/// Serves what these words ask for; the clock gives one stamp for ever, and behind its plan the door is quiet.
+fn serve<I, R>(
+    rt: R,
+    alloc: Global,
+    words: &[&str],
+    places: Vec<(Place, I)>,
+    door: Vec<DoorPlan<I, CountingSink>>,
+    stamp: Stamp,
+) -> Result<Daemon<I, R>, NoMemory>
+where
+    I: Source + Send,
+    R: Threads + Wait + Copy + Send + Sync,
+    requires sources { HaveSources (λ source. IsUnread (I.content source) (I.faults source) (I.quiets source)) places.items }
+    requires links { HaveLinks
+        (λ source. IsUnread (I.content source) (I.faults source) (I.quiets source))
+        (λ sink. IsUnwritten None sink.faults) door.items }
+{
+    let words = words_of(alloc, words)?;
+    let door = MemoryDoor::new(door, AtEnd::Quiet);
+    let clock = MemoryClock::new(Vec::new(alloc), stamp);
+    let world = MemoryWorld::new(alloc, places, door, clock);
+    Ok(serve_main(rt, alloc, words.as_slice(), world))
+}
+
+/// Whether a daemon ended with this status and these closing lines, and wrote these items to its sessions, in order.
+fn ended_so<I: Source + Send, R: Wait + Copy>(
+    alloc: Global,
+    daemon: &Daemon<I, R>,
+    status: u8,
+    closing: Parts<'_>,
+    sent: &[Parts<'_>],
+) -> Result<bool, NoMemory> {
+    let wanted = joined(alloc, closing)?;
+    let lines = daemon.lines(alloc)?;
+    if daemon.status != status || lines.as_slice() != wanted.as_slice() {
+        return Ok(false);
+    }
+    for (done, items) in daemon.sessions.as_slice().iter().zip(sent) {
+        if done.sink.sink.written() != joined(alloc, *items)?.as_slice() {
+            return Ok(false);
+        }
+    }
+    Ok(daemon.sessions.len() == sent.len())
+}
+
+fn end_of<I: Source + Send, R: Wait + Copy>(daemon: &Daemon<I, R>) -> Option<DeviceEnd> {
+    match daemon.devices.get(0) {
+        Some(done) => done.end,
+        None => None,
+    }
+}
+
+fn no_lines(alloc: Global) -> Result<Arc<AtomicU64>, NoMemory> {
+    Ok(Arc::new(alloc, AtomicU64::new(0))?)
+}
+
+/// A client that sends this request and then nothing more.
+fn client(
+    alloc: Global,
+    request: &[u8],
+    sink: CountingSink,
+) -> Result<DoorPlan<MemorySource, CountingSink>, NoMemory>
+    requires { sink.faults ≡ 0 }
+    ensures { IfOk result (λ plan. HaveLinks
+        (λ source. IsUnread (Some source.stream) source.faults source.quiets)
+        (λ sink. IsUnwritten None sink.faults) (plan ∷ [])) }
+{
+    let source = MemorySource::new(request.to_vec(alloc)?, Vec::new(alloc), AtEnd::Quiet);
+    Ok(DoorPlan::Link(source, sink))
+}
+
+/// A door through which one client comes that watches fixes; it may fail before.
+fn one_client(
+    alloc: Global,
+    fails: bool,
+    writes: &[WritePlan],
+) -> Result<Vec<DoorPlan<MemorySource, CountingSink>>, NoMemory>
+    ensures { IfOk result (λ plan. HaveLinks
+        (λ source. IsUnread (Some source.stream) source.faults source.quiets)
+        (λ sink. IsUnwritten None sink.faults) plan.items) }
+{
+    let sink = CountingSink::of(alloc, writes, &no_lines(alloc)?, None)?;
+    let link = client(alloc, WATCH_JSON, sink)?;
+    let mut plan = Vec::new(alloc);
+    if fails {
+        plan.push(DoorPlan::Fail)?;
+    }
+    plan.push(link)?;
+    Ok(plan)
+}
+
+/// Two clients, of which the first is not written to before the second one was.
+fn two_clients(alloc: Global) -> Result<Vec<DoorPlan<MemorySource, CountingSink>>, NoMemory>
+    ensures { IfOk result (λ plan. HaveLinks
+        (λ source. IsUnread (Some source.stream) source.faults source.quiets)
+        (λ sink. IsUnwritten None sink.faults) plan.items) }
+{
+    let second = no_lines(alloc)?;
+    let held = CountingSink::of(
+        alloc,
+        &[],
+        &no_lines(alloc)?,
+        Some(Arc::try_clone(&second)?),
+    )?;
+    let free = CountingSink::of(alloc, &[], &second, None)?;
+    let first = client(alloc, WATCH_JSON, held)?;
+    let other = client(alloc, b"?WATCH={\"nmea\":true};\n", free)?;
+    let mut plan = Vec::new(alloc);
+    plan.push(first)?;
+    plan.push(other)?;
+    Ok(plan)
+}
+
+/// The place `x`, behind which there is one sentence.
+fn place_x(alloc: Global, reads: &[ReadPlan]) -> Result<Vec<(Place, MemorySource)>, NoMemory>
+    ensures { IfOk result (λ places. HaveSources (λ source. IsUnread (Some source.stream) source.faults source.quiets) places.items) }
+{
+    let source = MemorySource::new(RMC.to_vec(alloc)?, reads.to_vec(alloc)?, AtEnd::End);
+    let mut places = Vec::new(alloc);
+    places.push((file(alloc, b"x")?, source))?;
+    Ok(places)
+}
+
+/// How the device's source is read, whether the door fails, and how the client's sink is written; and what comes of it. Where no device has an
+/// end, nothing was served.
+struct Row<'a> {
+    words: &'a [&'a str],
+    reads: &'a [ReadPlan],
+    door_fails: bool,
+    writes: &'a [WritePlan],
+    status: u8,
+    end: Option<DeviceEnd>,
+    closing: Parts<'a>,
+    sent: &'a [Parts<'a>],
+}
+
+#[test]
+fn a_client_is_sent_what_came_until_the_end_or_a_fault(rt: HostRuntime) -> Result<(), Fail> {
+    let rows: &[Row<'_>] = &[
+        Row {
+            words: &["serve", "--wait", "1", "g=file:x"],
+            reads: &[],
+            door_fails: false,
+            writes: &[],
+            status: 0,
+            end: Some(DeviceEnd::Ended),
+            closing: &[b"s0 drained daemonend 5\n", UNIT],
+            sent: &[WHOLE],
+        },
+        Row {
+            words: &["serve", "--wait", "1", "--history", "69", "g=file:x"],
+            reads: &[],
+            door_fails: false,
+            writes: &[],
+            status: 0,
+            end: Some(DeviceEnd::Ended),
+            closing: &[b"s0 drained daemonend 5\n", UNIT],
+            sent: &[WHOLE],
+        },
+        Row {
+            words: &["serve", "--wait", "1", "g=file:x"],
+            reads: &[ReadPlan::Give(512), ReadPlan::Fail],
+            door_fails: false,
+            writes: &[],
+            status: 3,
+            end: Some(DeviceEnd::ReadFault),
+            closing: &[b"s0 drained daemonend 3\n", UNIT],
+            sent: &[&[VERSION, DEVICES, JSON, ACTIVE]],
+        },
+        Row {
+            words: &["serve", "--wait", "1", "g=file:x"],
+            reads: &[],
+            door_fails: true,
+            writes: &[],
+            status: 8,
+            end: Some(DeviceEnd::Ended),
+            closing: &[UNIT],
+            sent: &[],
+        },
+        Row {
+            words: &["serve", "--wait", "1", "g=file:x"],
+            reads: &[],
+            door_fails: false,
+            writes: &[WritePlan::Fail],
+            status: 0,
+            end: Some(DeviceEnd::Ended),
+            closing: &[b"s0 writefault daemonend 5\n", UNIT],
+            sent: &[&[]],
+        },
+        Row {
+            words: &["serve", "--wait", "1", "g=file:y"],
+            reads: &[],
+            door_fails: false,
+            writes: &[],
+            status: 3,
+            end: None,
+            closing: &[],
+            sent: &[],
+        },
+    ];
+    let alloc = rt.alloc();
+    for row in rows {
+        let places = place_x(alloc, row.reads)?;
+        let door = one_client(alloc, row.door_fails, row.writes)?;
+        let daemon = serve(rt, alloc, row.words, places, door, FIVE)?;
+        assert_eq!(rt; end_of(&daemon), row.end);
+        assert_eq!(rt; daemon.book.is_some(), row.end.is_some());
+        assert!(rt; ended_so(alloc, &daemon, row.status, row.closing, row.sent)?);
+    }
+    Ok(())
+}
+
+#[test]
+fn a_monitor_takes_what_was_published(rt: HostRuntime) -> Result<(), Fail> {
+    let alloc = rt.alloc();
+    let words = &["serve", "--wait", "1", "--monitor", "100", "g=file:x"];
+    let places = place_x(alloc, &[])?;
+    let door = one_client(alloc, false, &[])?;
+    let daemon = serve(rt, alloc, words, places, door, FIVE)?;
+    let closing: Parts<'_> = &[
+        b"s0 drained daemonend 5\n",
+        UNIT,
+        b"m0 taken 1 764426119.000000000 5.000000000 -1\n",
+    ];
+    let took = ended_so(alloc, &daemon, 0, closing, &[WHOLE])?;
+    // All its readings may have been made before the sample came.
+    let took_none = ended_so(alloc, &daemon, 0, &closing[..2], &[WHOLE])?;
+    assert!(rt; took || took_none);
+    Ok(())
+}
+
+#[test]
+fn a_client_that_takes_nothing_holds_up_no_other(rt: HostRuntime) -> Result<(), Fail> {
+    let alloc = rt.alloc();
+    let words = &["serve", "--wait", "2", "g=file:x"];
+    let places = place_x(alloc, &[])?;
+    let door = two_clients(alloc)?;
+    let daemon = serve(rt, alloc, words, places, door, FIVE)?;
+    let closing: Parts<'_> = &[
+        b"s0 drained daemonend 5\n",
+        b"s1 drained daemonend 3\n",
+        UNIT,
+    ];
+    let sent: &[Parts<'_>] = &[WHOLE, &[VERSION, DEVICES, NMEA, RMC]];
+    assert!(rt; ended_so(alloc, &daemon, 0, closing, sent)?);
+    Ok(())
+}
+
+/// A door through which one client comes that does what it does at its cues.
+fn cued_client(
+    alloc: Global,
+    cues: &'static [Cue],
+    lines: &Arc<AtomicU64>,
+) -> Result<Vec<DoorPlan<CuedSource, CountingSink>>, NoMemory>
+    ensures { IfOk result (λ plan. HaveLinks
+        (λ source. IsUnread None 0 source.quiets)
+        (λ sink. IsUnwritten None sink.faults) plan.items) }
+{
+    let source = CuedSource::of(cues, lines)?;
+    let sink = CountingSink::of(alloc, &[], lines, None)?;
+    let mut plan = Vec::new(alloc);
+    plan.push(DoorPlan::Link(source, sink))?;
+    Ok(plan)
+}
+
+/// The places `x` and `y`, whose sources do what they do at their cues.
+fn cued_places(
+    alloc: Global,
+    x: &'static [Cue],
+    y: &'static [Cue],
+    lines: &Arc<AtomicU64>,
+) -> Result<Vec<(Place, CuedSource)>, NoMemory>
+    ensures { IfOk result (λ places. HaveSources (λ source. IsUnread None 0 source.quiets) places.items) }
+{
+    let first = CuedSource::of(x, lines)?;
+    let second = CuedSource::of(y, lines)?;
+    let mut places = Vec::new(alloc);
+    places.push((file(alloc, b"x")?, first))?;
+    places.push((file(alloc, b"y")?, second))?;
+    Ok(places)
+}
+
+#[test]
+fn a_client_is_heard_and_written_to_while_the_device_goes_on(rt: HostRuntime) -> Result<(), Fail> {
+    let alloc = rt.alloc();
+    let lines = no_lines(alloc)?;
+    let asks: &'static [Cue] = &[Cue::Give(0, WATCH_JSON), Cue::Give(4, b"?VERSION;\n")];
+    let gives: &'static [Cue] = &[Cue::Give(3, RMC), Cue::End(5)];
+    let places = cued_places(alloc, gives, &[], &lines)?;
+    let door = cued_client(alloc, asks, &lines)?;
+    let daemon = serve(rt, alloc, &["serve", "g=file:x"], places, door, FIVE)?;
+    let closing: Parts<'_> = &[b"s0 drained daemonend 6\n", UNIT];
+    let sent: Parts<'_> = &[VERSION, DEVICES, JSON, ACTIVE, VERSION, FIX, ENDED];
+    assert!(rt; ended_so(alloc, &daemon, 0, closing, &[sent])?);
+    Ok(())
+}
+
+#[test]
+fn the_edges_of_a_device_give_its_pulses(rt: HostRuntime) -> Result<(), Fail> {
+    let alloc = rt.alloc();
+    let lines = no_lines(alloc)?;
+    let asks: &'static [Cue] = &[Cue::Give(0, b"?WATCH={\"pps\":true};\n")];
+    let gives: &'static [Cue] = &[Cue::Give(0, RMC), Cue::End(0)];
+    // The second edge comes once the client was sent the time of the sentence.
+    let edges: &'static [Cue] = &[
+        Cue::Give(0, b"assert 99.000000000#4294967295\n"),
+        Cue::Give(4, b"assert 100.000000000#0\n"),
+        Cue::End(4),
+    ];
+    let places = cued_places(alloc, gives, edges, &lines)?;
+    let door = cued_client(alloc, asks, &lines)?;
+    let words = &["serve", "--wait", "1", "g=file:x", "g=edges:y"];
+    let stamp = Stamp { sec: 99, nsec: 1 };
+    let daemon = serve(rt, alloc, words, places, door, stamp)?;
+    let closing: Parts<'_> = &[
+        b"s0 drained daemonend 4\n",
+        UNIT,
+        b"u1 published 1 count 2 left 0\n",
+    ];
+    let sent: Parts<'_> = &[
+        VERSION,
+        DEVICES,
+        PPS,
+        b"{\"class\":\"TOFF\",\"device\":\"g\",\"real_sec\":764426119,\"real_nsec\":0,\"clock_sec\":99,\"clock_nsec\":1}\r\n",
+        b"{\"class\":\"PPS\",\"device\":\"g\",\"real_sec\":764426120,\"real_nsec\":0,\"clock_sec\":100,\"clock_nsec\":0,\"precision\":-20}\r\n",
+    ];
+    assert!(rt; ended_so(alloc, &daemon, 0, closing, &[sent])?);
+    Ok(())
+}

@@ -53,6 +53,7 @@ nothing_sent names log name cap place = record {
     (refl, refl),
     tt,
   );
+  count = refl;
   whole = λ none. refl;
   policy = λ none. refl;
   cutter = λ none. stands_for_none;
@@ -62,6 +63,7 @@ nothing_sent names log name cap place = record {
 pub sent_onward : SentOnward
 sent_onward names log entries old new stretches bytes nothing sent = record {
   asked = asked_longer names log entries stretches (requests bytes) sent.asked;
+  count = sent.count ∙ ap (λ n. 1 + n) (sym nothing.requests);
   whole = λ none. sent.whole (nothing.still none).0;
   policy = λ none. nothing.policy ∙ sent.policy (nothing.still none).0;
   cutter = λ none. (nothing.still none).1 ∙ sent.cutter (nothing.still none).0;
@@ -78,6 +80,7 @@ sent_in_vain names log a stretches bytes piece over sent =
     let P : List RawCommand → Type 0 = λ l. Asked names log stretches l in
     record {
       asked = subst P (sym more.1) (asked_waiting names log stretches (requests bytes) more.0 sent.asked);
+      count = sent.count;
       whole = λ none. absurd (never_none a.session.closing over none);
       policy = λ none. absurd (never_none a.session.closing over none);
       cutter = λ none. absurd (never_none a.session.closing over none);
@@ -115,14 +118,17 @@ sent_more exact names log place piece old new stretches bytes heard is sent =
     let P : List RawCommand → Type 0 = λ l. Asked names log (stretches ++ map (stretch_at whole) put) l in
     let count_is : new.session.closing ≡ None → heard.count ≡ length more =
     λ none. omega (arith, heard.few, none_left place (length more - heard.count) new.session new.session.closing none heard.stops) in
+    let size : length (stretches ++ map (stretch_at whole) put) ≡ length stretches + length put =
+    length-append stretches (map (stretch_at whole) put) ∙ ap (λ n. length stretches + n) (length-map put (stretch_at whole)) in
+    let counted : length stretches ≡ 1 + old.session.requests = sent.count in
+    let answers : new.session.requests ≡ old.session.requests + length put = heard.puts.requests in
     record {
       asked = subst P (sym gains)
           (asked_joined names log stretches (map (stretch_at whole) put) (requests bytes) more long sent.asked
           (λ last within. answers_now names log (requests bytes) more last whole heard.count old.session.policy within refl policy));
+      count = omega (arith, size, counted, answers);
       whole = λ none.
           let count : heard.count ≡ length more = count_is none in
-          let size : length (stretches ++ map (stretch_at whole) put) ≡ length stretches + length put =
-          length-append stretches (map (stretch_at whole) put) ∙ ap (λ n. length stretches + n) (length-map put (stretch_at whole)) in
           let sum : length (requests (bytes ++ piece)) ≡ length (requests bytes) + length more = ap length gains ∙ length-append (requests bytes) more in
           let some : length put ≡ length more = ap length (take_all heard.count all (omega (arith, each, count))) ∙ each in
           omega (arith, size, sum, some, long);
@@ -149,11 +155,13 @@ spread_by : (c : Option (ℕ × Close)) (exact : Bool) (names : List (List ℕ))
     → new.watched ≡ old.watched → HearsNothing old new
 spread_by None exact names first old new reports is reported cutter watched = record {
   policy = reported.stays.policy;
+  requests = reported.stays.requests;
   watched = watched;
   still = λ none. (is, cutter ∙ ap (λ c. cutter_left c old.cutter) none);
 }
 spread_by (Some closing) exact names first old new reports is same cutter watched = record {
   policy = ap (λ (s : Shown). s.policy) same.same;
+  requests = ap (λ (s : Shown). s.requests) same.same;
   watched = watched;
   still = λ none. (sym (ap (λ (s : Shown). s.closing) same.same) ∙ none, cutter);
 }
@@ -170,6 +178,7 @@ open_before (Some closing) none = absurd (cc)
 renewed_unheard : (old new : Attendance) → HearsNothing (renewed old) new → HearsNothing old new
 renewed_unheard old new nothing = record {
   policy = nothing.policy;
+  requests = nothing.requests;
   watched = nothing.watched;
   still = λ none. (open_before old.session.closing (nothing.still none).0, (nothing.still none).1);
 }
@@ -190,19 +199,19 @@ pub closings_unheard : ClosingsAreNotHeard
 closings_unheard place why old new closes =
     let P : Attendance → Type 0 = λ a. HearsNothing old a in
     let none_of : (closed place why old).session.closing ≡ None → ⊥ = λ none. absurd (cc) in
-    subst P (sym closes.becomes) (record { policy = refl; watched = refl; still = λ none. absurd (none_of none) })
+    subst P (sym closes.becomes) (record { policy = refl; requests = refl; watched = refl; still = λ none. absurd (none_of none) })
 
 pub taking_unheard : TakingIsNotHeard
-taking_unheard kept a = record { policy = refl; watched = refl; still = λ none. (none, refl) }
+taking_unheard kept a = record { policy = refl; requests = refl; watched = refl; still = λ none. (none, refl) }
 
 pub same_unheard : (a : Attendance) → HearsNothing a a
-same_unheard a = record { policy = refl; watched = refl; still = λ none. (none, refl) }
+same_unheard a = record { policy = refl; requests = refl; watched = refl; still = λ none. (none, refl) }
 
 shut_by_unheard : (c : Option (ℕ × Close)) (place : ℕ) (why : Close) (old new : Attendance) → ShutsBy c place why old new → HearsNothing old new
 shut_by_unheard None place why old new shuts = closings_unheard place why old new shuts
 shut_by_unheard (Some closing) place why old new shuts =
     let P : Attendance → Type 0 = λ a. HearsNothing old a in
-    subst P (sym shuts) (record { policy = refl; watched = refl; still = λ none. (none, refl) })
+    subst P (sym shuts) (record { policy = refl; requests = refl; watched = refl; still = λ none. (none, refl) })
 
 pub shuts_unheard : ShutsAreNotHeard
 shuts_unheard place why old new shuts = shut_by_unheard old.session.closing place why old new shuts

@@ -47,9 +47,11 @@ Asked names log (opening ∷ stretches) asked = (moment : ℕ) × BeginsAt log 0
 abbrev pub is_enabled : Stretch → Bool
 is_enabled stretch = stretch.policy.enable
 
--- Its client has sent these bytes. While it is open each request of them is answered, and it waits for what goes on behind them.
+-- Its client has sent these bytes. It counts its answered requests, one for each stretch behind the opening. While it is open each request of
+-- them is answered, and it waits for what goes on behind them.
 pub record HasSent (names : List (List ℕ)) (log : List Entry) (a : Attendance) (stretches : List Stretch) (bytes : List ℕ) : Type 0 where
   pub asked : Asked names log stretches (requests bytes)
+  pub count : length stretches ≡ 1 + a.session.requests
   pub whole : a.session.closing ≡ None → length stretches ≡ 1 + length (requests bytes)
   pub policy : a.session.closing ≡ None → a.session.policy ≡ policy_of (requests bytes)
   pub cutter : a.session.closing ≡ None → input.StandsFor a.cutter bytes
@@ -58,5 +60,6 @@ pub record HasSent (names : List (List ℕ)) (log : List Entry) (a : Attendance)
 -- It heard nothing: while it is open, it waits as it did.
 pub record HearsNothing (old new : Attendance) : Type 0 where
   pub policy : new.session.policy ≡ old.session.policy
+  pub requests : new.session.requests ≡ old.session.requests
   pub watched : new.watched ≡ old.watched
   pub still : new.session.closing ≡ None → (old.session.closing ≡ None) × (new.cutter ≡ old.cutter)

@@ -1,7 +1,7 @@
 -- The fields of a sentence: what stands between the commas of its body. The first is the address, and the others are numbered from 1.
 -- A text of fields is empty, or begins with the comma before its first field. NMEA 0183.
-use Rattle.std.specs.Prelude.{ℕ, zero, suc, ◌-◌, ◌==◌, Bool, List, [], ◌∷◌, drop, count_by}
-use Rattle.std.specs.List.{before_first, position_or_len}
+use Rattle.std.specs.Prelude.{ℕ, zero, suc, ◌-◌, ◌==◌, Bool, List, [], ◌∷◌, drop, count_by, map}
+use Rattle.std.specs.List.{before_first, flat_map, list_any, position_or_len, range_with_len}
 
 abbrev pub is_comma : ℕ → Bool
 is_comma c = c == 44
@@ -27,6 +27,17 @@ field_at k text = field (skipped (k - 1) text)
 -- each field has one comma before it
 abbrev pub field_count : List ℕ → ℕ
 field_count text = count_by is_comma text
+
+-- the fields in order, from number 1 to the last
+abbrev pub list_of_fields : List ℕ → List (List ℕ)
+list_of_fields text = map (λ k. field_at k text) (range_with_len 1 (field_count text))
+
+-- fields in a row, a comma before each
+abbrev pub joined : List (List ℕ) → List ℕ
+joined fields = flat_map (λ text. 44 ∷ text) fields
+
+abbrev pub has_comma : List ℕ → Bool
+has_comma text = list_any is_comma text
 
 -- of a body: its address, and the text of its other fields
 abbrev pub address_of : List ℕ → List ℕ

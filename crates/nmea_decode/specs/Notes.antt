@@ -1,6 +1,6 @@
 -- What each kind of sentence says, field by field. NMEA 0183; the place of a GSA's system id, and the system of a GSV's satellites, are this
 -- project's own.
-use Rattle.std.specs.Prelude.{ℕ, ◌&&◌, ◌==◌, nat_le, Bool, true, false, List, [], ◌∷◌, take, Option, Some, None, codes, if◌then◌else◌}
+use Rattle.std.specs.Prelude.{ℕ, ◌/◌, ◌&&◌, ◌==◌, nat_le, Bool, true, false, List, [], ◌∷◌, length, take, Option, Some, None, codes, if◌then◌else◌}
 use Rattle.std.specs.Option.{option_map}
 use Rattle.std.specs.Str.{bytes_eq}
 use Rattle.gps_report.specs.Note.{empty_note}
@@ -9,7 +9,7 @@ use Rattle.gps_report.specs.declared.note.NoteKind.{NoteKind}
 use Rattle.gps_report.specs.declared.note.NoteKind.TheVariants.{Gga, Rmc, Gll, Gsa, Gsv, Vtg, Zda, Other}
 use Rattle.gps_report.specs.declared.note.Tag.TheVariants.{Tod}
 use Rattle.nmea_frame.specs.Sentence.{body_of}
-use Rattle.nmea_decode.specs.Fields.{address_of, field_at, fields_of, skipped}
+use Rattle.nmea_decode.specs.Fields.{address_of, field_at, field_count, fields_of, skipped}
 use Rattle.nmea_decode.specs.Kinds.{kind_of, talker_system, stated_system, dim_of}
 use Rattle.nmea_decode.specs.Places.{position_of}
 use Rattle.nmea_decode.specs.Readings.{time_of, tod_of, day_with, date_of, long_date_of, track_of, speed_of, height_of, dilution_of}
@@ -102,3 +102,16 @@ body_note body = note_of_kind (kind_of (address_of body)) (take 2 (address_of bo
 
 unfoldable pub sentence_note : List ℕ → Note
 sentence_note sentence = body_note (body_of sentence)
+
+-- How many entries the list of a note may get: the readable ids of a GSA, the whole groups of a GSV. No other kind has a list, and only a
+-- list takes memory.
+abbrev pub entries_by_kind : NoteKind → List ℕ → ℕ
+entries_by_kind Gsa text = length (ids_in 12 (skipped 2 text))
+entries_by_kind Gsv text = field_count (skipped 3 text) / 4
+entries_by_kind _ text = 0
+
+abbrev pub body_entries : List ℕ → ℕ
+body_entries body = entries_by_kind (kind_of (address_of body)) (fields_of body)
+
+abbrev pub entries_of : List ℕ → ℕ
+entries_of sentence = body_entries (body_of sentence)

@@ -6,11 +6,13 @@
 
 mod fields;
 mod kinds;
+mod laws;
 mod notes;
 mod places;
 mod readings;
 mod satellites;
 
+pub use laws::bodies_are_split_at_commas;
 pub use notes::note_of;
 
 #[cfg(test)]

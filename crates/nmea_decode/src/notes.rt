@@ -1,8 +1,10 @@
-ghost use Rattle.std.specs.Prelude.{◌≡◌, ◌==◌, ◌≤◌, IfOk, length};
+ghost use Rattle.std.specs.Prelude.{◌≡◌, ◌==◌, ◌<◌, ◌≤◌, ◌/◌, IfOk, OnErr, length};
 ghost use Rattle.std.specs.List.{position_or_len};
 ghost use Rattle.gps_report.specs.Fits.{Fits};
 ghost use Rattle.nmea_frame.specs.Sentence.{body_of};
-ghost use Rattle.nmea_decode.specs.Notes.{body_note, gga, gll, gsa, gsv, letter_status, note_of_kind, quality_status, rmc, sentence_note, timed, vtg, where_valid, zda};
+ghost use Rattle.nmea_decode.specs.Fields.{field_count, skipped};
+ghost use Rattle.nmea_decode.specs.Satellites.{ids_in};
+ghost use Rattle.nmea_decode.specs.Notes.{body_entries, body_note, entries_by_kind, entries_of, gga, gll, gsa, gsv, letter_status, note_of_kind, quality_status, rmc, sentence_note, timed, vtg, where_valid, zda};
 
 use crate::fields::{next, skip, split_address};
 use crate::kinds::{dimensions, kind, system_of_talker, system_stated};
@@ -132,7 +134,8 @@ fn read_gll(alloc: Global, text: &[u8]) -> Note
 
 #[tactic(auto, unfolding(crate::specs::Notes::gsa))]
 fn read_gsa(alloc: Global, text: &[u8]) -> Result<Note, NoMemory>
-    ensures { IfOk result (λ note. note ≡ gsa text.now) }
+    ensures note { IfOk result (λ note. note ≡ gsa text.now) }
+    ensures memory { OnErr result (0 < length (ids_in 12 (skipped 2 text.now))) }
 {
     let (dim, ids_text) = next(skip(text, 1));
     let mut used = Vec::new(alloc);
@@ -154,7 +157,8 @@ fn read_gsa(alloc: Global, text: &[u8]) -> Result<Note, NoMemory>
 
 #[tactic(auto, unfolding(crate::specs::Notes::gsv))]
 fn read_gsv(alloc: Global, talker: &[u8], text: &[u8]) -> Result<Note, NoMemory>
-    ensures { IfOk result (λ note. note ≡ gsv talker.now text.now) }
+    ensures note { IfOk result (λ note. note ≡ gsv talker.now text.now) }
+    ensures memory { OnErr result (0 < field_count (skipped 3 text.now) / 4) }
 {
     let sats = satellites(alloc, skip(text, 3), system_of_talker(talker))?;
     Ok(Note {
@@ -196,7 +200,8 @@ fn read_zda(alloc: Global, text: &[u8]) -> Note
 // is kept.
 #[inline(always)]
 fn read_kind(alloc: Global, kind: NoteKind, talker: &[u8], text: &[u8]) -> Result<Note, NoMemory>
-    ensures { IfOk result (λ note. note ≡ note_of_kind kind talker.now text.now) }
+    ensures note { IfOk result (λ note. note ≡ note_of_kind kind talker.now text.now) }
+    ensures memory { OnErr result (0 < entries_by_kind kind text.now) }
 {
     match kind {
         NoteKind::Gga => Ok(read_gga(alloc, text)),
@@ -213,7 +218,8 @@ fn read_kind(alloc: Global, kind: NoteKind, talker: &[u8], text: &[u8]) -> Resul
 #[inline(always)]
 #[tactic(auto, unfolding(crate::specs::Notes::body_note))]
 fn read_body(alloc: Global, body: &[u8]) -> Result<Note, NoMemory>
-    ensures { IfOk result (λ note. note ≡ body_note body.now) }
+    ensures note { IfOk result (λ note. note ≡ body_note body.now) }
+    ensures memory { OnErr result (0 < body_entries body.now) }
 {
     let (address, text) = split_address(body);
     let talker = &address[..address.len().min(2)];
@@ -248,11 +254,15 @@ fn body(sentence: &[u8]) -> &[u8]
 ///
 /// The `$`, the checksum and the line's end are the framer's to look at: of bytes that are no sentence, what stands up to the first `*` is
 /// read in the same way. The tables of fields are those of NMEA 0183. Every note keeps the ranges that the grouping into epochs asks for.
+///
+/// Takes memory only for a GSA with at least one readable id and for a GSV with at least one whole group of four fields: `NoMemory` comes
+/// where there is none for these, and for no other sentence.
 #[inline(always)]
 #[tactic(auto, unfolding(crate::specs::Notes::sentence_note))]
 pub fn note_of(alloc: Global, sentence: &[u8]) -> Result<Note, NoMemory>
     ensures note { IfOk result (λ note. note ≡ sentence_note sentence.now) }
     ensures fits { IfOk result (λ note. Fits note) }
+    ensures memory { OnErr result (0 < entries_of sentence.now) }
 {
     read_body(alloc, body(sentence))
 }

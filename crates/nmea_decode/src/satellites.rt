@@ -1,4 +1,4 @@
-ghost use Rattle.std.specs.Prelude.{◌≡◌, ◌≤◌, ◌++◌, IfOk, IfSome, OnOk, OnErr};
+ghost use Rattle.std.specs.Prelude.{◌≡◌, ◌<◌, ◌≤◌, ◌++◌, ◌/◌, IfOk, IfSome, OnOk, OnErr, length};
 ghost use Rattle.std.specs.Option.{option_to_list};
 ghost use Rattle.nmea_frame.specs.Sentence.{hex_value};
 ghost use Rattle.nmea_decode.specs.Fields.{field_count, skipped};
@@ -58,7 +58,8 @@ fn satellites_of_groups(
     system: Option<u8>,
     signal: Option<u8>,
 ) -> Result<Vec<Satellite>, NoMemory>
-    ensures { IfOk result (λ sats. sats.items ≡ satellites_in groups system signal text.now) }
+    ensures satellites { IfOk result (λ sats. sats.items ≡ satellites_in groups system signal text.now) }
+    ensures memory { OnErr result (0 < groups) }
 {
     let mut sats = Vec::with_capacity(alloc, groups)?;
     let mut rest = text;
@@ -108,7 +109,8 @@ fn signal(text: &[u8], fields: usize) -> Option<u8>
 /// The satellites of a GSV, from the fields behind its first three.
 #[tactic(auto, unfolding(crate::specs::Satellites::satellites_of))]
 pub(crate) fn satellites(alloc: Global, text: &[u8], system: Option<u8>) -> Result<Sats, NoMemory>
-    ensures { IfOk result (λ sats. sats ≡ satellites_of system text.now) }
+    ensures satellites { IfOk result (λ sats. sats ≡ satellites_of system text.now) }
+    ensures memory { OnErr result (0 < field_count text.now / 4) }
 {
     let fields = count(text);
     let sats = satellites_of_groups(alloc, text, fields / 4, system, signal(text, fields))?;
@@ -117,7 +119,8 @@ pub(crate) fn satellites(alloc: Global, text: &[u8], system: Option<u8>) -> Resu
 
 /// Adds an id at the end. The first one takes the room of all that a sentence may have.
 fn push_id(ids: &mut Vec<u32>, id: Option<u32>) -> Result<(), NoMemory>
-    ensures { OnOk result (ids.new.items ≡ ids.old.items ++ option_to_list id) }
+    ensures ids { OnOk result (ids.new.items ≡ ids.old.items ++ option_to_list id) }
+    ensures memory { OnErr result (0 < length (option_to_list id)) }
 {
     if let Some(id) = id {
         if ids.is_empty() {
@@ -136,6 +139,7 @@ pub(crate) fn push_ids<'a>(
 ) -> Result<&'a [u8], NoMemory>
     ensures ids { OnOk result (ids.new.items ≡ ids.old.items ++ ids_in fields text.now) }
     ensures behind { IfOk result (λ rest. rest.now ≡ skipped fields text.now) }
+    ensures memory { OnErr result (0 < length (ids.old.items ++ ids_in fields text.now)) }
 {
     let mut rest = text;
     let mut left = fields;

@@ -1,5 +1,5 @@
 -- A list that is too short for a frame has no payload, and so no message that is read.
-use Rattle.std.proofs.Common.{◌≡◌, ℕ, zero, suc, ◌-◌, ◌+◌, ◌*◌, ◌<◌, ◌==◌, ◌&&◌, Bool, true, false, cond, refl, sym, List, [], ◌∷◌, length, take, drop, slice_index, slice_index_or, ap, ◌∙◌, arith, lt-ltb, Fits, w8}
+use Rattle.std.proofs.Common.{◌≡◌, ℕ, suc, ◌-◌, ◌<◌, ◌==◌, ◌&&◌, Bool, true, false, cond, refl, sym, List, [], ◌∷◌, length, take, drop, slice_index_or, ap, ◌∙◌, arith, lt-ltb, Fits, w8}
 use Rattle.std.specs.List.{list_all}
 use Rattle.gps_report.specs.Note.{empty_note}
 use Rattle.gps_report.specs.declared.note.Note.{Note}

@@ -44,3 +44,11 @@ note_by_kind kind payload = empty_note kind
 
 unfoldable pub note_of : List ℕ → Note
 note_of frame = note_by_kind (kind_of (class_of frame) (id_of frame) (payload_of frame)) (payload_of frame)
+
+-- How many entries the list of a note gets: the satellites of a NAV-SAT. No other message has a list, and only a list takes memory.
+abbrev pub entries_by_kind : NoteKind → List ℕ → ℕ
+entries_by_kind Sat payload = slice_index payload 5
+entries_by_kind kind payload = 0
+
+abbrev pub entries_of : List ℕ → ℕ
+entries_of frame = entries_by_kind (kind_of (class_of frame) (id_of frame) (payload_of frame)) (payload_of frame)

@@ -1,6 +1,6 @@
-ghost use Rattle.std.specs.Prelude.{◌≡◌, ◌+◌, ◌*◌, ◌==◌, length, slice_index, IfOk};
+ghost use Rattle.std.specs.Prelude.{◌≡◌, ◌<◌, ◌+◌, ◌*◌, ◌==◌, length, slice_index, IfOk, OnErr};
 ghost use Rattle.gps_report.specs.Fits.{Fits};
-ghost use Rattle.ubx_decode.specs.Message.{HasItsLength, dop_note, kind_of, note_by_kind, note_of};
+ghost use Rattle.ubx_decode.specs.Message.{HasItsLength, dop_note, entries_by_kind, entries_of, kind_of, note_by_kind, note_of};
 
 use crate::pvt::pvt_note;
 use crate::sat::sat_note;
@@ -15,11 +15,13 @@ const SHORTEST_FRAME: usize = 8;
 ///
 /// A frame of a class, id or payload length that is not read gives a note of kind Other with nothing in it. A field that is not
 /// readable is an absent quantity. The sync characters, the length and the checksum are the framer's to look at: of bytes that are no
-/// frame, the same fields are read. `NoMemory` comes only where the satellites of a NAV-SAT found none.
+/// frame, the same fields are read. Takes memory only for a NAV-SAT of at least one satellite: `NoMemory` comes where there is none for it,
+/// and for no other frame.
 #[tactic(auto, using(crate::proofs::Short::short_note))]
 pub fn note_of_frame(alloc: Global, frame: &[u8]) -> Result<Note, NoMemory>
     ensures note { IfOk result (λ note. note ≡ note_of frame.now) }
     ensures fits { IfOk result Fits }
+    ensures memory { OnErr result (0 < entries_of frame.now) }
 {
     if frame.len() < SHORTEST_FRAME {
         return Ok(Note::empty(alloc, NoteKind::Other));
@@ -69,6 +71,7 @@ fn dop_note(alloc: Global, payload: &[u8]) -> Note
 
 fn note_of_message(alloc: Global, class: u8, id: u8, payload: &[u8]) -> Result<Note, NoMemory>
     ensures note { IfOk result (λ note. note ≡ note_by_kind (kind_of class id payload.now) payload.now) }
+    ensures memory { OnErr result (0 < entries_by_kind (kind_of class id payload.now) payload.now) }
 {
     match kind_of(class, id, payload) {
         NoteKind::Pvt => Ok(pvt_note(alloc, payload)),

@@ -1,6 +1,6 @@
 //! UBX-NAV-SAT: the satellites in view.
 
-ghost use Rattle.std.specs.Prelude.{◌≡◌, ◌+◌, ◌*◌, ◌≤◌, length, slice_index, IfOk};
+ghost use Rattle.std.specs.Prelude.{◌≡◌, ◌+◌, ◌*◌, ◌<◌, ◌≤◌, length, slice_index, IfOk, OnErr};
 ghost use Rattle.ubx_decode.specs.Sat.{azimuth_of, elevation_of, sat_note, satellite_of, satellites_of};
 
 use crate::fields::is_set;
@@ -58,7 +58,8 @@ fn satellite_of(group: &[u8]) -> Satellite
 #[tactic(auto, using(crate::proofs::Satellites::one_more), unfolding(crate::specs::Sat::satellites_of))]
 fn satellites_of(alloc: Global, count: usize, groups: &[u8]) -> Result<Vec<Satellite>, NoMemory>
     requires { length groups.now ≡ 12 * count }
-    ensures { IfOk result (λ sats. sats.items ≡ satellites_of count groups.now) }
+    ensures satellites { IfOk result (λ sats. sats.items ≡ satellites_of count groups.now) }
+    ensures memory { OnErr result (0 < count) }
 {
     let mut sats = Vec::with_capacity(alloc, count)?;
     for place in 0..count {
@@ -72,7 +73,8 @@ fn satellites_of(alloc: Global, count: usize, groups: &[u8]) -> Result<Vec<Satel
 #[tactic(auto, unfolding(crate::specs::Sat::sat_note))]
 pub(crate) fn sat_note(alloc: Global, payload: &[u8]) -> Result<Note, NoMemory>
     requires { length payload.now ≡ 8 + 12 * slice_index payload.now 5 }
-    ensures { IfOk result (λ note. note ≡ sat_note payload.now) }
+    ensures note { IfOk result (λ note. note ≡ sat_note payload.now) }
+    ensures memory { OnErr result (0 < slice_index payload.now 5) }
 {
     let count = usize::from(payload[5]);
     let sats = satellites_of(alloc, count, &payload[8..])?;

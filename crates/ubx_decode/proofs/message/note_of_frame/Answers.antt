@@ -1,15 +1,10 @@
-use Rattle.std.proofs.Common.{◌≡◌, ℕ, ◌-◌, ◌+◌, ◌*◌, ◌<◌, ◌==◌, ◌&&◌, Bool, true, false, cond, refl, sym, List, [], length, take, drop, slice_index, ap, ◌∙◌, subst, arith, lt-ltb}
-use Rattle.std.specs.Prelude.{IfOk}
-use Rattle.std.specs.List.{list_all}
-use Rattle.gps_report.specs.Fits.{Fits}
-use Rattle.gps_report.specs.Note.{empty_note}
+use Rattle.std.proofs.Common.{◌≡◌, ℕ, ◌-◌, ◌<◌, List, length, take, drop, ap, subst, arith}
+use Rattle.std.specs.Prelude.{IfOk, OnErr}
 use Rattle.gps_report.specs.declared.note.Note.{Note}
-use Rattle.gps_report.specs.declared.note.NoteKind.{NoteKind}
-use Rattle.gps_report.specs.declared.note.NoteKind.TheVariants.{Other}
-use Rattle.ubx_frame.specs.Frame.{is_byte, class_of, id_of, payload_of}
-use Rattle.ubx_decode.specs.Message.{kind_of, note_by_kind, note_of}
+use Rattle.ubx_frame.specs.Frame.{class_of, id_of, payload_of}
+use Rattle.ubx_decode.specs.Message.{entries_by_kind, kind_of, note_by_kind, note_of}
 use Rattle.ubx_decode.proofs.Fitting.{frame_fits, ok_fits}
-use Rattle.ubx_decode.proofs.Short.{short_note, all_bytes}
+use Rattle.ubx_decode.proofs.Short.{all_bytes}
 use Rattle.ubx_decode.proofs.message.note_of_frame.Goals as goal
 
 -- what lies between the header and the checksum is the payload
@@ -26,3 +21,8 @@ pub returns-clause-fits : goal.returns-clause-fits
 returns-clause-fits c =
     ok_fits c.note_of_message.result (note_of c.args.frame.now) (returns-clause-note c)
     (frame_fits c.args.frame.now (all_bytes c.args.frame.now c.type_inv.frame))
+
+pub returns-clause-memory : goal.returns-clause-memory
+returns-clause-memory c =
+    subst (λ payload. OnErr c.note_of_message.result (0 < entries_by_kind (kind_of (class_of c.args.frame.now) (id_of c.args.frame.now) payload) payload))
+    (inner c.args.frame.now) c.note_of_message.ensures.memory

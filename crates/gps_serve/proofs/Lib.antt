@@ -10,6 +10,7 @@ pub mod Ends
 pub mod Dials
 pub mod Tending
 pub mod Resting
+pub mod Whole
 pub mod Taking
 pub mod Gates
 pub mod Returned

@@ -1,13 +1,18 @@
--- What was taken from the sources is the first of what they held.
-use Rattle.std.proofs.Common.{◌≡◌, ◌<◌, ℕ, Bool, List, [], ◌∷◌, ◌++◌, map, length, Option, Some, None, is_some, option_map, refl, sym, ◌∙◌, ap, subst, append_assoc, arith}
+-- What was taken from the sources is the first of what they held, and all of it where the device has ended.
+use Rattle.std.proofs.Common.{◌≡◌, ◌<◌, ℕ, Bool, List, [], ◌∷◌, ◌++◌, map, length, zero, suc, Option, Some, None, is_some, option_map, refl, sym, ◌∙◌, ap, subst, append_assoc, arith}
 use Rattle.std.proofs.lemmas.List.{append-nil}
-use Rattle.std.specs.List.{AllZip, flat_map}
+use Rattle.std.specs.List.{All, AllZip, flat_map}
 use Rattle.gps_fixed.specs.Moment.{Moment}
+use Rattle.gps_lane.specs.Ends.{Putting, Taking}
 use Rattle.gps_outside.specs.Told.{Goes, IsPrefix, Stream}
 use Rattle.gps_outside.specs.Turns.{TakesAll, TakesSome}
 use Rattle.gps_outside.proofs.Going.{goes_as}
 use Rattle.gps_world.specs.Opening.{Holds}
 use Rattle.gps_world.specs.declared.place.Place.{Place}
+use Rattle.hub_laws.specs.declared.ends.DeviceEnd.{DeviceEnd}
+use Rattle.hub_laws.specs.declared.ends.DeviceEnd.TheVariants.{Ended}
+use Rattle.hub_laws.specs.Given.{ending_of}
+use Rattle.hub_laws.specs.Parts.{Lanes}
 use Rattle.serve_opening.specs.Opening.{IsEdgeHeld, IsHeld}
 use Rattle.serve_parts.specs.declared.done.DeviceDone.{DeviceDone}
 use Rattle.serve_parts.specs.declared.done.SessionDone.{SessionDone}
@@ -17,6 +22,7 @@ use Rattle.serve_pieces.specs.declared.piece.Ending.TheVariants as ending
 use Rattle.serve_pieces.specs.declared.piece.Piece.{Piece}
 use Rattle.serve_settling.specs.declared.device.DeviceRun.{DeviceRun}
 use Rattle.serve_settling.specs.Failing.{source_of}
+use Rattle.serve_settling.specs.Lanes.{tx_of}
 use Rattle.serve_settling.specs.Runs.{EdgesRan, SourceFacts}
 use Rattle.serve_threads.specs.declared.reading.ReaderDone.{ReaderDone}
 use Rattle.serve_threads.specs.declared.session.Link.{Link}
@@ -29,8 +35,10 @@ use Rattle.gps_serve.specs.declared.lanes.EdgeStart.{EdgeStart}
 use Rattle.gps_serve.specs.AtEnd.{BytesHeld, EdgesHeld, IsFirstOf, ReadsLink, SourceHeld, TakesFirst}
 use Rattle.gps_serve.specs.Doors.{Way, way_of}
 use Rattle.gps_serve.specs.Readies.{IsSourceOf}
-use Rattle.gps_serve.specs.Runs.{DeviceReads, EdgesRead, IsLeftOf, RanOn}
-use Rattle.gps_serve.specs.Starts.{edge_source_of, edge_start_of, edges_at, sources_at}
+use Rattle.gps_serve.specs.Runs.{DeviceReads, EdgesRead, IsLeftOf, RanOn, TakesBy}
+use Rattle.gps_serve.specs.Starts.{IsFreshDevice, IsFreshEdge, edge_source_of, edge_start_of, edges_at, sources_at}
+use Rattle.gps_serve.specs.Whole.{IsWhole, TakesWhole}
+use Rattle.gps_serve.proofs.Whole.{TellsEnd, bytes_told, device_tells_end, lines_told}
 
 all_first : (bytes : List ℕ) (x y : Stream) → TakesAll bytes x y → TakesFirst x y
 all_first bytes x y p = ([], ap (λ l. x.taken ++ l) p.all ∙ sym p.joins ∙ sym (append-nil y.taken))
@@ -53,45 +61,84 @@ lines_first (Some ending.End) bytes before after took = goes_as (TakesAll bytes)
 lines_first (Some ending.Failed) bytes before after took = goes_as (TakesSome bytes) TakesFirst before after (some_first bytes) took
 lines_first (Some ending.NoMemory) bytes before after took = goes_as (TakesSome bytes) TakesFirst before after (some_first bytes) took
 
-module _ {S : Type 0} (facts : SourceFacts S) where
-  first_of : (held : Option (List ℕ)) (before after : Option Stream) → Holds held before → Goes TakesFirst before after → IsFirstOf held after
-  first_of None before after holds goes = tt
-  first_of (Some bytes) before None holds goes =
-      absurd (subst (λ (c : Option Stream). Goes TakesFirst c None) holds goes)
-  first_of (Some bytes) before (Some y) holds goes = subst (λ (c : Option Stream). Goes TakesFirst c (Some y)) holds goes
+all_whole : (bytes : List ℕ) (x y : Stream) → TakesAll bytes x y → TakesWhole x y
+all_whole bytes x y p = (p.joins ∙ ap (λ l. x.taken ++ l) (sym p.all), p.none)
 
-  edge_there : (first left : Option S) → EdgesRead facts first left → is_some left ≡ is_some first
-  edge_there None None reads = refl
-  edge_there None (Some source) reads = absurd reads
-  edge_there (Some first) None reads = absurd reads
-  edge_there (Some first) (Some source) reads = refl
+took_whole : (e : Option Ending) (bytes : List ℕ) (before after : Option Stream) → Took e bytes before after → e ≡ Some ending.End → Goes TakesWhole before after
+took_whole e bytes before after took is =
+    goes_as (TakesAll bytes) TakesWhole before after (all_whole bytes) (subst (λ (x : Option Ending). Took x bytes before after) is took)
+
+lines_whole : (e : Option Ending) (bytes : List ℕ) (before after : Option Stream) → TookLines e bytes before after → e ≡ Some ending.End → Goes TakesWhole before after
+lines_whole e bytes before after took is =
+    goes_as (TakesAll bytes) TakesWhole before after (all_whole bytes) (subst (λ (x : Option Ending). TookLines x bytes before after) is took)
+
+goes_by : (end : Option DeviceEnd) (before after : Option Stream) → Goes TakesFirst before after → (end ≡ Some Ended → Goes TakesWhole before after)
+    → Goes (TakesBy end) before after
+goes_by end None after first all = tt
+goes_by end (Some x) None first all = absurd first
+goes_by end (Some x) (Some y) first all = record { first = first; all = all }
+
+module _ {S : Type 0} (facts : SourceFacts S) where
+  first_of : (end : Option DeviceEnd) (held : Option (List ℕ)) (before after : Option Stream) → Holds held before → Goes (TakesBy end) before after
+      → IsFirstOf end held after
+  first_of end None before after holds goes = tt
+  first_of end (Some bytes) before None holds goes =
+      absurd (subst (λ (c : Option Stream). Goes (TakesBy end) c None) holds goes)
+  first_of end (Some bytes) before (Some y) holds goes =
+      let by = subst (λ (c : Option Stream). Goes (TakesBy end) c (Some y)) holds goes in
+      record { first = by.first; all = λ e. (by.all e).0; none_left = λ e. (by.all e).1 }
+
+  edge_there : (end : Option DeviceEnd) (first left : Option S) → EdgesRead facts end first left → is_some left ≡ is_some first
+  edge_there end None None reads = refl
+  edge_there end None (Some source) reads = absurd reads
+  edge_there end (Some first) None reads = absurd reads
+  edge_there end (Some first) (Some source) reads = refl
 
 module _ {S R : Type 0} (facts : SourceFacts S) where
-  edges_read : (start : Option (EdgeStart S R)) (run : Option (ReaderDone S R)) → EdgesRan facts (option_map edge_start_of start) run
-      → EdgesRead facts (edge_source_of start) (source_of run)
-  edges_read None None ran = tt
-  edges_read None (Some run) ran = absurd ran
-  edges_read (Some start) None ran = absurd ran
-  edges_read (Some start) (Some run) ran = lines_first run.ending ran.hands.bytes (facts.content start.source) (facts.content run.source) ran.hands.took
+  edges_read : (end : Option DeviceEnd) (start : Option (EdgeStart S R)) (first : Option (Taking Piece)) (run : Option (ReaderDone S R)) → IsFreshEdge facts start first
+      → EdgesRan facts (option_map edge_start_of start) run → (end ≡ Some Ended → TellsEnd (tx_of run)) → EdgesRead facts end (edge_source_of start) (source_of run)
+  edges_read end None first None fresh ran tells = tt
+  edges_read end None first (Some run) fresh ran tells = absurd ran
+  edges_read end (Some start) first None fresh ran tells = absurd ran
+  edges_read end (Some start) None (Some run) fresh ran tells = absurd fresh
+  edges_read end (Some start) (Some first) (Some run) fresh ran tells =
+      let before = facts.content start.source in
+      let after = facts.content run.source in
+      goes_by end before after (lines_first run.ending ran.hands.bytes before after ran.hands.took)
+      (λ e. lines_whole run.ending ran.hands.bytes before after ran.hands.took
+      (sym (lines_told run.ending start.lines.put run.pieces.put before after ran.hands fresh.0.put) ∙ tells e))
 
-  device_reads : (may : Option (List Moment)) (start : DeviceStart S R) (run : DeviceRun S R) (done : DeviceDone S R) → RanOn may facts start run → IsLeftOf run done
-      → DeviceReads facts start done
-  device_reads may start run done ran left = record {
-    source = run.bytes.source;
-    source_is = left.source;
-    bytes = took_first run.bytes.ending (flat_map device_part ran.bytes.hands.pieces) (facts.content start.source) (facts.content run.bytes.source) ran.bytes.hands.took;
-    edges = subst (EdgesRead facts (edge_source_of start.edges)) (sym left.edges) (edges_read start.edges run.edges ran.edges);
-  }
+  device_reads : (may : Option (List Moment)) (start : DeviceStart S R) (first : Lanes) (run : DeviceRun S R) (done : DeviceDone S R) → IsFreshDevice facts start first
+      → RanOn may facts start run → IsLeftOf run done → IsWhole may facts done → DeviceReads facts start done
+  device_reads may start first run done fresh ran left whole =
+      let before = facts.content start.source in
+      let after = facts.content run.bytes.source in
+      let taken = flat_map device_part ran.bytes.hands.pieces in
+      record {
+        source = run.bytes.source;
+        source_is = left.source;
+        bytes = goes_by done.end before after (took_first run.bytes.ending taken before after ran.bytes.hands.took)
+            (λ e. took_whole run.bytes.ending taken before after ran.bytes.hands.took
+            (sym (bytes_told may run.bytes.ending start.bytes.put run.bytes.pieces.put before after ran.bytes.hands fresh.bytes.put)
+            ∙ ap (λ (tx : Putting Piece). ending_of tx.put) (sym left.bytes_tx) ∙ (device_tells_end may facts done whole e).0));
+        edges = subst (EdgesRead facts done.end (edge_source_of start.edges)) (sym left.edges)
+            (edges_read done.end start.edges first.edges run.edges fresh.edges ran.edges
+            (λ e. subst TellsEnd left.edges_tx (device_tells_end may facts done whole e).1));
+      }
 
-  pub devices_read : (may : Option (List Moment)) (starts : List (DeviceStart S R)) (runs : List (DeviceRun S R)) (devices : List (DeviceDone S R))
-      → AllZip (RanOn may facts) starts runs → AllZip IsLeftOf runs devices → AllZip (DeviceReads facts) starts devices
-  devices_read may [] [] [] ran left = tt
-  devices_read may [] [] (d ∷ devices) ran left = absurd left
-  devices_read may [] (run ∷ runs) devices ran left = absurd ran
-  devices_read may (start ∷ starts) [] devices ran left = absurd ran
-  devices_read may (start ∷ starts) (run ∷ runs) [] ran left = absurd left
-  devices_read may (start ∷ starts) (run ∷ runs) (d ∷ devices) ran left =
-      (device_reads may start run d ran.0 left.0, devices_read may starts runs devices ran.1 left.1)
+  pub devices_read : (may : Option (List Moment)) (starts : List (DeviceStart S R)) (firsts : List Lanes) (runs : List (DeviceRun S R)) (devices : List (DeviceDone S R))
+      → AllZip (IsFreshDevice facts) starts firsts → AllZip (RanOn may facts) starts runs → AllZip IsLeftOf runs devices → All (IsWhole may facts) devices
+      → AllZip (DeviceReads facts) starts devices
+  devices_read may [] firsts [] [] fresh ran left whole = tt
+  devices_read may [] firsts [] (d ∷ devices) fresh ran left whole = absurd left
+  devices_read may [] firsts (run ∷ runs) devices fresh ran left whole = absurd ran
+  devices_read may (start ∷ starts) firsts [] devices fresh ran left whole = absurd ran
+  devices_read may (start ∷ starts) firsts (run ∷ runs) [] fresh ran left whole = absurd left
+  devices_read may (start ∷ starts) [] (run ∷ runs) (d ∷ devices) fresh ran left whole = absurd fresh
+  devices_read may (start ∷ starts) (first ∷ firsts) (run ∷ runs) (d ∷ devices) fresh ran left whole = (
+    device_reads may start first run d fresh.0 ran.0 left.0 (whole zero d (omega arith)),
+    devices_read may starts firsts runs devices fresh.1 ran.1 left.1 (λ k x there. whole (suc k) x (omega arith)),
+  )
 
   module _ (behind : Place → Option (List ℕ)) where
     pub bytes_held : (places : List Place) (sources : List S) (starts : List (DeviceStart S R)) (devices : List (DeviceDone S R))
@@ -107,25 +154,25 @@ module _ {S R : Type 0} (facts : SourceFacts S) where
         by (place ∷ places) [] devices held reads = absurd held
         by (place ∷ places) (start ∷ starts) [] held reads = absurd reads
         by (place ∷ places) (start ∷ starts) (d ∷ devices) held reads = (
-          subst (SourceHeld facts (behind place)) (sym reads.0.source_is)
-              (first_of facts (behind place) (facts.content start.source) (facts.content reads.0.source) held.0 reads.0.bytes),
+          subst (SourceHeld facts d.end (behind place)) (sym reads.0.source_is)
+              (first_of facts d.end (behind place) (facts.content start.source) (facts.content reads.0.source) held.0 reads.0.bytes),
           by places starts devices held.1 reads.1,
         )
 
-    edge_held : (place : Option Place) (first : Option S) (d : DeviceDone S R) → IsEdgeHeld behind facts.content place first → EdgesRead facts first d.edges
+    edge_held : (place : Option Place) (first : Option S) (d : DeviceDone S R) → IsEdgeHeld behind facts.content place first → EdgesRead facts d.end first d.edges
         → EdgesHeld behind facts place d
     edge_held None None d held reads = none d.edges reads
       where
-        none : (left : Option S) → EdgesRead facts None left → left ≡ None
+        none : (left : Option S) → EdgesRead facts d.end None left → left ≡ None
         none None reads = refl
         none (Some source) reads = absurd reads
     edge_held None (Some first) d held reads = absurd held
     edge_held (Some place) None d held reads = absurd held
     edge_held (Some place) (Some first) d held reads = some d.edges reads
       where
-        some : (left : Option S) → EdgesRead facts (Some first) left → SourceHeld facts (behind place) left
+        some : (left : Option S) → EdgesRead facts d.end (Some first) left → SourceHeld facts d.end (behind place) left
         some None reads = tt
-        some (Some source) reads = first_of facts (behind place) (facts.content first) (facts.content source) held reads
+        some (Some source) reads = first_of facts d.end (behind place) (facts.content first) (facts.content source) held reads
 
     pub edges_held : (places : List (Option Place)) (sources : List (Option S)) (starts : List (DeviceStart S R)) (devices : List (DeviceDone S R))
         → edges_at starts ≡ sources → AllZip (IsEdgeHeld behind facts.content) places sources → AllZip (DeviceReads facts) starts devices
@@ -149,7 +196,7 @@ module _ {S R : Type 0} (facts : SourceFacts S) where
   edges_there [] (d ∷ devices) reads = absurd reads
   edges_there (start ∷ starts) [] reads = absurd reads
   edges_there (start ∷ starts) (d ∷ devices) reads =
-      ap (λ (b : Bool). b ∷ map (λ (d : DeviceDone S R). is_some d.edges) devices) (edge_there facts (edge_source_of start.edges) d.edges reads.0.edges)
+      ap (λ (b : Bool). b ∷ map (λ (d : DeviceDone S R). is_some d.edges) devices) (edge_there facts d.end (edge_source_of start.edges) d.edges reads.0.edges)
       ∙ ap (λ l. is_some (edge_source_of start.edges) ∷ l) (edges_there starts devices reads.1)
 
 -- the same of sessions

@@ -27,6 +27,8 @@ use Rattle.serve_parts.specs.declared.plan.Plan.{Plan}
 use Rattle.serve_settling.specs.Lanes.{OneMoreAtMost}
 use Rattle.serve_settling.specs.Outlets.{writer_end}
 use Rattle.serve_settling.specs.Units.{ArePublished}
+use Rattle.hub_laws.specs.declared.ends.DeviceEnd.{DeviceEnd}
+use Rattle.hub_laws.specs.declared.ends.DeviceEnd.TheVariants.{Ended}
 use Rattle.hub_laws.specs.DaemonHub.{DaemonHub}
 use Rattle.hub_laws.specs.Keeping.{IsClosed}
 use Rattle.hub_laws.specs.Parts.{Lanes, Terms}
@@ -146,23 +148,29 @@ pub record GateServed {G S K R : Type 0} (sources : SourceFacts S) (gates : Gate
   pub asked : (0 < length taken) ⊎ (0 < gates.quiets gate) ⊎ (0 < gates.faults gate) ⊎ NoneLeft told (gates.links gate)
   pub closed : done ≡ true → NoneLeft told (gates.links gate) ⊎ (0 < gates.faults gate)
 
--- what a device's source held, where the world told it; the bytes taken from it are the first of these
-abbrev pub IsFirstOf : Option (List ℕ) → Option Stream → Type 0
-IsFirstOf None content = Unit {0}
-IsFirstOf (Some held) None = ⊥
-IsFirstOf (Some held) (Some stream) = IsPrefix stream.taken held
+-- The bytes taken from a device's source are the first of those that it held. Where the device has ended, they are all of them, and nothing is left.
+pub record IsTakenOf (end : Option DeviceEnd) (held : List ℕ) (stream : Stream) : Type 0 where
+  pub first : IsPrefix stream.taken held
+  pub all : end ≡ Some Ended → stream.taken ≡ held
+  pub none_left : end ≡ Some Ended → stream.left ≡ []
+
+-- the same, where the world told what the source held
+abbrev pub IsFirstOf : Option DeviceEnd → Option (List ℕ) → Option Stream → Type 0
+IsFirstOf end None content = Unit {0}
+IsFirstOf end (Some held) None = ⊥
+IsFirstOf end (Some held) (Some stream) = IsTakenOf end held stream
 
 -- of the source of a device or of its edges, where it has one
-abbrev pub SourceHeld : {S : Type 0} → SourceFacts S → Option (List ℕ) → Option S → Type 0
-SourceHeld facts held None = Unit {0}
-SourceHeld facts held (Some source) = IsFirstOf held (facts.content source)
+abbrev pub SourceHeld : {S : Type 0} → SourceFacts S → Option DeviceEnd → Option (List ℕ) → Option S → Type 0
+SourceHeld facts end held None = Unit {0}
+SourceHeld facts end held (Some source) = IsFirstOf end held (facts.content source)
 
 abbrev pub BytesHeld : {S R : Type 0} → (Place → Option (List ℕ)) → SourceFacts S → Place → DeviceDone S R → Type 0
-BytesHeld behind facts place done = SourceHeld facts (behind place) done.source
+BytesHeld behind facts place done = SourceHeld facts done.end (behind place) done.source
 
 abbrev pub EdgesHeld : {S R : Type 0} → (Place → Option (List ℕ)) → SourceFacts S → Option Place → DeviceDone S R → Type 0
 EdgesHeld behind facts None done = done.edges ≡ None
-EdgesHeld behind facts (Some place) done = SourceHeld facts (behind place) done.edges
+EdgesHeld behind facts (Some place) done = SourceHeld facts done.end (behind place) done.edges
 
 -- what a daemon was told to serve, but for the places
 pub record Told : Type 0 where

@@ -6,4 +6,5 @@ pub mod Starts
 pub mod Statuses
 pub mod Works
 pub mod Units
+pub mod Whole
 pub mod Scopes

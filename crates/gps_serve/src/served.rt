@@ -18,6 +18,7 @@ ghost use Rattle.gps_serve.specs.Runs.{DeviceReads, DevicesRan, IsLeftOf};
 ghost use Rattle.gps_serve.specs.Starts.{IsFreshDevice, edges_at, sources_at};
 ghost use Rattle.gps_serve.specs.Statuses.{AllEnded, HasStopped};
 ghost use Rattle.gps_serve.specs.Units.{AreAtRest, CountFromZero};
+ghost use Rattle.gps_serve.specs.Whole.{IsWhole};
 ghost use Rattle.gps_serve.specs.Works.{WatchersRan, monitored};
 
 use crate::door::{DoorBegin, DoorDone};
@@ -362,6 +363,7 @@ pub fn serve<W: World, R: Threads + Wait + Copy + Send + Sync>(
     ensures ended { result.status ≡ 0 → AllEnded result.devices.items }
     ensures none { result.book ≡ None → ((result.status ≡ 3) × Rose (W.input_faults world) (W.input_faults result.world)) ⊎ ((result.status ≡ 8) × Rose (W.listen_faults world) (W.listen_faults result.world)) ⊎ (result.status ≡ 7) }
     ensures at_end { IfSome result.book (λ book. AtEnd (told_in plan) (dial_of (W.stamps world)) (source_facts W.In.content W.In.faults W.In.quiets) (sink_facts W.Out.written W.Out.faults) (gate_facts W.Gate.links W.Gate.faults W.Gate.quiets) (W.links world) result.full result.no_memory book result.devices.items result.sessions.items result.monitors.items result.gate) }
+    ensures whole { IsSome result.book → All (IsWhole (dial_of (W.stamps world)) (source_facts W.In.content W.In.faults W.In.quiets)) result.devices.items }
     ensures held { GivenOnce (plan.inputs.items ++ places_in plan.edges.items) → IsSome result.book → AllZip (BytesHeld (W.behind world) (source_facts W.In.content W.In.faults W.In.quiets)) plan.inputs.items result.devices.items × AllZip (EdgesHeld (W.behind world) (source_facts W.In.content W.In.faults W.In.quiets)) plan.edges.items result.devices.items }
     ensures edges { IsSome result.book → map (λ device. is_some device.edges) result.devices.items ≡ map is_some plan.edges.items }
     ensures asked { AsksSome (W.asked result.world) (plan.inputs.items ++ places_in plan.edges.items) plan.listen }

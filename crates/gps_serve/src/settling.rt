@@ -5,6 +5,7 @@ ghost use Rattle.std.specs.Vec.Iter.{into_iter_items};
 ghost use Rattle.book_sessions.specs.Attendance.{Attendance};
 ghost use Rattle.book_units.specs.Units.{UnitView};
 ghost use Rattle.serve_settling.specs.Failing.{DeviceFailed, SomeFailed, source_of};
+ghost use Rattle.serve_settling.specs.Lanes.{tx_of};
 ghost use Rattle.serve_settling.specs.Runs.{RunCause, EachRun, source_facts};
 ghost use Rattle.gps_serve.specs.AtEnd.{DeviceServed, MonitorServed, OutletServed, sink_facts, watched_units};
 ghost use Rattle.gps_serve.specs.Readies.{AllServed, AreReady, InputLeft, IsSourceOf, MonitorReady, SessionReady};
@@ -55,6 +56,8 @@ fn left_of<S: Source, D: Dials, R: Wait + Copy>(
     ensures failed { result.failed ≡ true → DeviceFailed S.faults result.device }
     ensures source { result.device.source ≡ Some run.bytes.source }
     ensures edges { result.device.edges ≡ source_of run.edges }
+    ensures bytes_tx { result.device.bytes_tx ≡ run.bytes.pieces }
+    ensures edges_tx { result.device.edges_tx ≡ tx_of run.edges }
 {
     let failed = device_failed(&run);
     let Inlets { bytes, edges } = inlets;

@@ -1,4 +1,5 @@
 ghost use Rattle.std.specs.Prelude.{◌≡◌, ◌⊎◌, ◌++◌, [], None, IfOk, IfSome, IsSome, length, map, string_bytes, true, false};
+ghost use Rattle.std.specs.List.{All};
 ghost use Rattle.gps_outside.specs.Counts.{Rose};
 ghost use Rattle.gps_words.specs.Serve.{serve_asked_of, shown};
 ghost use Rattle.gps_words.specs.Within.{IsWithin};
@@ -9,6 +10,7 @@ ghost use Rattle.serve_settling.specs.Failing.{DeviceFailed, SomeFailed, SourceF
 ghost use Rattle.serve_settling.specs.Runs.{source_facts};
 ghost use Rattle.gps_serve.specs.AtEnd.{AtEnd, gate_facts, sink_facts, told_in};
 ghost use Rattle.gps_serve.specs.Statuses.{AllEnded};
+ghost use Rattle.gps_serve.specs.Whole.{IsWhole};
 ghost use Rattle.gpsrelay.specs.Served.{AsksFor, AsksWhole, HaveEdges, HeldBehind, edge_place_of, place_of, places_of, told_by};
 
 use crate::outcome::Outcome;
@@ -143,6 +145,7 @@ pub fn serve_main<W: World, R: Threads + Wait + Copy + Send + Sync>(
     ensures asked { AsksFor (serve_asked_of (map string_bytes words.now)) (W.asked result.world) }
     ensures all_asked { IsSome result.book → IfSome (serve_asked_of (map string_bytes words.now)) (AsksWhole (W.asked result.world)) }
     ensures edges { IsSome result.book → IfSome (serve_asked_of (map string_bytes words.now)) (HaveEdges result.devices.items) }
+    ensures whole { IsSome result.book → All (IsWhole (dial_of (W.stamps world)) (source_facts W.In.content W.In.faults W.In.quiets)) result.devices.items }
     ensures held { IsSome result.book → IfSome (serve_asked_of (map string_bytes words.now)) (HeldBehind (W.behind world) (source_facts W.In.content W.In.faults W.In.quiets) result.devices.items) }
     ensures at_end { IfSome result.book (λ book. IfSome (serve_asked_of (map string_bytes words.now)) (λ s. AtEnd (told_by s) (dial_of (W.stamps world)) (source_facts W.In.content W.In.faults W.In.quiets) (sink_facts W.Out.written W.Out.faults) (gate_facts W.Gate.links W.Gate.faults W.Gate.quiets) (W.links world) result.full result.no_memory book result.devices.items result.sessions.items result.monitors.items result.gate)) }
 {

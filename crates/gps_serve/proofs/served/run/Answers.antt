@@ -9,6 +9,7 @@ use Rattle.gps_serve.specs.Units.{CountFromZero}
 use Rattle.gps_serve.proofs.Taking.{devices_read}
 use Rattle.gps_serve.proofs.Dials.{may_give}
 use Rattle.gps_serve.proofs.Ends.{devices_ran_on, segments_count, watchers_ran_on}
+use Rattle.gps_serve.proofs.Whole.{whole_at_end}
 use Rattle.gps_serve.proofs.served.run.Goals as goal
 
 pub floor_of-requires-clause-units : goal.floor_of-requires-clause-units
@@ -42,10 +43,12 @@ gather-requires-clause-from g c κs within = subst CountFromZero (ap (λ (t : Te
 
 pub returns-clause-reads : goal.returns-clause-reads
 returns-clause-reads g c some =
+    let sources = source_facts g.W.In.Source.content g.W.In.Source.faults g.W.In.Source.quiets in
     let same : c.in-Ok-set_up.setup.starts.items ≡ c.args.ground.lanes.starts.items = cc c.in-Ok-set_up.ensures.starts in
-    devices_read (source_facts g.W.In.Source.content g.W.In.Source.faults g.W.In.Source.quiets) g.D.Dials.may _ _ _
-    (subst (λ starts. AllZip (RanOn g.D.Dials.may (source_facts g.W.In.Source.content g.W.In.Source.faults g.W.In.Source.quiets)) starts c.in-Some.ended.runs.items) same c.in-Some.ensures.ran)
+    devices_read sources g.D.Dials.may _ _ _ _ c.requires.fresh
+    (subst (λ starts. AllZip (RanOn g.D.Dials.may sources) starts c.in-Some.ended.runs.items) same c.in-Some.ensures.ran)
     c.gather.ensures.left
+    (whole_at_end _ _ sources _ _ _ _ _ c.gather.result.book _ _ _ _ c.gather.ensures.at_end some)
 
 pub returns-clause-at_end : goal.returns-clause-at_end
 returns-clause-at_end g c =

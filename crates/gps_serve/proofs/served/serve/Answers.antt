@@ -6,6 +6,7 @@ use Rattle.gps_serve.proofs.Taking.{bytes_held, edges_held, edges_there}
 use Rattle.gps_serve.proofs.Asked.{few_of, some_of, still_asked}
 use Rattle.gps_serve.proofs.Causes.{none_of}
 use Rattle.gps_serve.proofs.Dials.{told_again}
+use Rattle.gps_serve.proofs.Whole.{whole_at_end}
 use Rattle.gps_serve.proofs.served.serve.Goals as goal
 
 pub open-requires-clause-few : goal.open-requires-clause-few
@@ -26,6 +27,11 @@ returns-in-Ok-prepare-clause-at_end g c =
     c.in-Ok-prepare.ground.lanes.inlets.items c.args.plan (g.W.World.stamps c.args.world) (g.W.Now.Clock.stamps c.in-Ok.outside.clock)
     (g.W.World.links c.args.world) (g.W.Gate.Door.links c.in-Ok.outside.gate) c.in-Ok-prepare.ensures.names c.in-Ok-prepare.ensures.limit
     c.in-Ok.ensures.stamps c.in-Ok.ensures.links c.run.ensures.at_end
+
+pub returns-in-Ok-prepare-clause-whole : goal.returns-in-Ok-prepare-clause-whole
+returns-in-Ok-prepare-clause-whole g c some =
+    whole_at_end _ _ (source_facts g.W.In.Source.content g.W.In.Source.faults g.W.In.Source.quiets) _ _ _ _ _ c.run.result.book _ _ _ _
+    (returns-in-Ok-prepare-clause-at_end g c) some
 
 pub returns-in-Ok-prepare-clause-held : goal.returns-in-Ok-prepare-clause-held
 returns-in-Ok-prepare-clause-held g c once some =

@@ -45,7 +45,12 @@ devices-preserved g c = record {
   so_far = devices_more _ _ _ _ _ _ _ _ _ _ (next_device _ _ _ _ _ _ _ _ _ _ c.devices.invariant.so_far c.next_of-lanes.ensures c.in-Some.ensures.steps.0)
       c.left_of-left.ensures.served c.push_reserved.ensures.items;
   left_of = ran_next IsLeftOf _ _ _ _ _ _ _ c.devices.invariant.left_of c.in-Some.ensures.steps.0
-      (record { source = c.left_of-left.ensures.source; edges = c.left_of-left.ensures.edges }) c.push_reserved.ensures.items;
+      (record {
+        source = c.left_of-left.ensures.source;
+        edges = c.left_of-left.ensures.edges;
+        bytes_tx = c.left_of-left.ensures.bytes_tx;
+        edges_tx = c.left_of-left.ensures.edges_tx;
+      }) c.push_reserved.ensures.items;
   causes = (subst (EachRun (RunCause g.S.Source.faults)) c.in-Some.ensures.steps.0 c.devices.invariant.causes).1;
   ends = ends_more _ _ _ _ _ _ _ c.devices.invariant.ends c.next_of-end.ensures c.left_of-left.ensures.end c.push_reserved.ensures.items;
   left = omega (arith, c.devices.invariant.left, ap length c.next_of-end.ensures, ap length c.next_of-lanes.ensures);

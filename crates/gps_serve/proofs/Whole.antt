@@ -1,0 +1,259 @@
+-- Of a device that has ended, or of which a source failed, all that was put into its lanes was got.
+use Rattle.std.proofs.Common.{◌≡◌, ◌<◌, inl, inr, ℕ, Bool, zero, suc, List, [], ◌∷◌, ◌++◌, map, length, get_or, length-append, Option, Some, None, IfSome, IsSome, refl, sym, ◌∙◌, ap, subst, append_assoc, append-nil, arith}
+use Rattle.std.specs.List.{All, AllZip, flat_map}
+use Rattle.std.specs.Option.{option_or}
+use Rattle.gps_fixed.specs.Moment.{Moment}
+use Rattle.book_log.specs.Entries.{Entry}
+use Rattle.gps_lane.specs.Ends.{Putting, Taking}
+use Rattle.gps_outside.specs.Told.{Goes, Stream}
+use Rattle.gps_outside.specs.Turns.{TakesAll}
+use Rattle.gps_outside.proofs.Going.{goes_as}
+use Rattle.hub_laws.specs.declared.ends.DeviceEnd.{DeviceEnd}
+use Rattle.hub_laws.specs.declared.ends.DeviceEnd.TheVariants.{Ended, NoMemory as LostNoMemory}
+use Rattle.hub_laws.specs.DaemonHub.{DeviceFits}
+use Rattle.hub_laws.specs.Given.{edge_ending, end_by, end_of, ending_of, got_of}
+use Rattle.hub_laws.specs.Parts.{Lanes}
+use Rattle.report_book.specs.BookView.{BookView}
+use Rattle.serve_parts.specs.declared.done.DeviceDone.{DeviceDone}
+use Rattle.serve_parts.specs.declared.done.MonitorDone.{MonitorDone}
+use Rattle.serve_parts.specs.declared.done.SessionDone.{SessionDone}
+use Rattle.serve_pieces.specs.Carried.{device_part}
+use Rattle.serve_pieces.specs.declared.piece.Ending.{Ending}
+use Rattle.serve_pieces.specs.declared.piece.Ending.TheVariants.{End, Failed, NoMemory}
+use Rattle.serve_pieces.specs.declared.piece.Piece.{Piece}
+use Rattle.serve_pieces.specs.declared.piece.Piece.TheVariants.{Bytes, Line, Input, Last}
+use Rattle.serve_settling.specs.Lanes.{TellsLast}
+use Rattle.serve_settling.specs.Runs.{SourceFacts}
+use Rattle.serve_settling.proofs.Endings.{devices_tell_last, edges_tell_last, settled}
+use Rattle.serve_workers.specs.EdgeLines.{HandsLines, TookLines, line_pieces}
+use Rattle.serve_workers.specs.Readings.{Each, HandsOn, IsDevicePiece, Took, last_piece}
+use Rattle.gps_serve.specs.AtEnd.{AtEnd, BytesServed, DeviceServed, EdgesServed, GateFacts, LaneServed, LinesServed, SinkFacts, Told}
+use Rattle.gps_serve.specs.Doors.{Way}
+use Rattle.gps_serve.specs.Whole.{BytesWhole, CameWhole, EdgesWhole, IsOver, IsWhole, LeavesNone, LinesWhole}
+
+-- both lanes of a device, as the hub left them, have told how their sources ended
+record TellEnds (x : Lanes) (end : Option DeviceEnd) : Type 0 where
+  bytes_ending : Ending
+  edges_ending : Ending
+  bytes : ending_of x.bytes.got ≡ Some bytes_ending
+  edges : edge_ending x.edges (got_of x.edges) ≡ Some edges_ending
+  end_is : end ≡ Some (end_of bytes_ending edges_ending)
+
+none_of_both : (xs ys : List Piece) → xs ++ ys ≡ [] → (xs ≡ []) × (ys ≡ [])
+none_of_both [] ys e = (refl, e)
+none_of_both (x ∷ xs) ys e = absurd (cc)
+
+is_not_lost : (end : Option DeviceEnd) → IsOver end → end ≡ Some LostNoMemory → ⊥
+is_not_lost end over lost = elim over [
+  | inl e ↦ absurd (cc (e, lost))
+  | inr e ↦ absurd (cc (e, lost))
+]
+
+is_there : (end : Option DeviceEnd) → IsOver end → end ≡ None → ⊥
+is_there end over none = elim over [
+  | inl e ↦ absurd (cc (e, none))
+  | inr e ↦ absurd (cc (e, none))
+]
+
+-- nothing was refused then
+tell_both : (x : Lanes) (refused : List Piece) (bytes edges : Option Ending) (end : Option DeviceEnd) → IsOver end → end ≡ end_by refused bytes edges
+    → (refused ≡ [] → ending_of x.bytes.got ≡ bytes) → (refused ≡ [] → edge_ending x.edges (got_of x.edges) ≡ edges) → TellEnds x end
+tell_both x (piece ∷ refused) bytes edges end over is bytes_are edges_are = absurd (is_not_lost end over is)
+tell_both x [] None edges end over is bytes_are edges_are = absurd (is_there end over is)
+tell_both x [] (Some bytes) None end over is bytes_are edges_are = absurd (is_there end over is)
+tell_both x [] (Some bytes) (Some edges) end over is bytes_are edges_are =
+    record { bytes_ending = bytes; edges_ending = edges; bytes = bytes_are refl; edges = edges_are refl; end_is = is }
+
+tell_ends : (log : List Entry) (d : ℕ) (x : Lanes) (end : Option DeviceEnd) → DeviceFits log d x end → IsOver end → TellEnds x end
+tell_ends log d x end fits over =
+    tell_both x (fits.refused ++ fits.refused_lines) (ending_of fits.taken) (edge_ending x.edges fits.lines) end over fits.ends
+    (λ none. ap ending_of (fits.lane ∙ ap (λ (l : List Piece). fits.taken ++ l) (none_of_both fits.refused fits.refused_lines none).0 ∙ append-nil fits.taken))
+    (λ none. ap (edge_ending x.edges) (fits.edge_lane ∙ ap (λ (l : List Piece). fits.lines ++ l) (none_of_both fits.refused fits.refused_lines none).1 ∙ append-nil fits.lines))
+
+-- behind the last piece nothing was put that was not got
+all_got : (tx : Putting Piece) (got rest : List Piece) (ending : Ending) → TellsLast tx.put → tx.put ≡ got ++ rest → ending_of got ≡ Some ending → got ≡ tx.put
+all_got tx got [] ending last is told = sym (is ∙ append-nil got)
+all_got tx got (piece ∷ rest) ending last is told =
+    let rx : Taking Piece = record { lane = tx.lane; got = got } in
+    let rx' : Taking Piece = record { lane = tx.lane; got = got ++ piece ∷ [] } in
+    let more = settled tx tx rx rx' (Some piece) refl refl refl (rest, is ∙ sym (append_assoc got (piece ∷ []) rest)) tt in
+    elim (more.behind last) [
+      | inl same ↦
+          let long : length (got ++ piece ∷ []) ≡ length got = ap length same in
+          let parts = length-append got (piece ∷ []) in
+          absurd (omega (arith, long, parts))
+      | inr one ↦ absurd (cc (one.2, told))
+    ]
+
+-- a lane that had told how its source ended
+lane_whole : (x : Taking Piece) (tx : Putting Piece) (rx : Taking Piece) (ending : Ending) → LaneServed x tx rx → TellsLast tx.put → ending_of x.got ≡ Some ending
+    → (rx.got ≡ tx.put) × (ending_of tx.put ≡ Some ending)
+lane_whole x tx rx ending served last told = elim served.settled [
+  | inl same ↦
+      let all : rx.got ≡ tx.put = all_got tx rx.got served.begins.0 ending last served.begins.1 (ap ending_of same ∙ told) in
+      (all, ap ending_of (sym all ∙ same) ∙ told)
+  | inr one ↦ absurd (cc (one.2, told))
+]
+
+or_none : (o : Option Ending) → option_or o None ≡ o
+or_none None = refl
+or_none (Some ending) = refl
+
+-- only the last piece tells how a source ended
+tell_last : (P : Piece → Type 0) (pieces : List Piece) (ending : Option Ending) → ((e : Ending) → P (Last e) → ⊥) → Each P pieces
+    → ending_of (pieces ++ last_piece ending) ≡ ending
+tell_last P [] None never each = refl
+tell_last P [] (Some e) never each = refl
+tell_last P (Bytes at bytes ∷ pieces) ending never each = ap (λ (o : Option Ending). option_or o None) (tell_last P pieces ending never each.1) ∙ or_none ending
+tell_last P (Line line ∷ pieces) ending never each = ap (λ (o : Option Ending). option_or o None) (tell_last P pieces ending never each.1) ∙ or_none ending
+tell_last P (Input bytes ∷ pieces) ending never each = ap (λ (o : Option Ending). option_or o None) (tell_last P pieces ending never each.1) ∙ or_none ending
+tell_last P (Last e ∷ pieces) ending never each = absurd (never e each.0)
+
+lines_tell_last : (lines : List (List ℕ)) (ending : Option Ending) → ending_of (line_pieces lines ++ last_piece ending) ≡ ending
+lines_tell_last [] None = refl
+lines_tell_last [] (Some e) = refl
+lines_tell_last (line ∷ lines) ending = ap (λ (o : Option Ending). option_or o None) (lines_tell_last lines ending) ∙ or_none ending
+
+-- how the reading of a device's bytes ended, by what was put into its lane, which was empty before
+pub bytes_told : (may : Option (List Moment)) (ending : Option Ending) (put put' : List Piece) (before after : Option Stream)
+    → HandsOn device_part (IsDevicePiece may) ending put put' before after → put ≡ [] → ending_of put' ≡ ending
+bytes_told may ending put put' before after hands none =
+    ap ending_of (hands.puts ∙ ap (λ (l : List Piece). (l ++ hands.pieces) ++ last_piece ending) none)
+    ∙ tell_last (IsDevicePiece may) hands.pieces ending (λ e p. p) hands.good
+
+-- and that of its edges
+pub lines_told : (ending : Option Ending) (put put' : List Piece) (before after : Option Stream) → HandsLines ending put put' before after → put ≡ []
+    → ending_of put' ≡ ending
+lines_told ending put put' before after hands none =
+    ap ending_of (hands.puts ∙ ap (λ (l : List Piece). (l ++ line_pieces hands.lines) ++ last_piece ending) none) ∙ lines_tell_last hands.lines ending
+
+took_none : (ending : Ending) (bytes : List ℕ) (before after : Option Stream) → Took (Some ending) bytes before after → ending ≡ End → Goes LeavesNone before after
+took_none End bytes before after took e = goes_as (TakesAll bytes) LeavesNone before after (λ x y p. p.none) took
+took_none Failed bytes before after took e = absurd (cc)
+took_none NoMemory bytes before after took e = absurd (cc)
+
+took_no_line : (ending : Ending) (bytes : List ℕ) (before after : Option Stream) → TookLines (Some ending) bytes before after → ending ≡ End → Goes LeavesNone before after
+took_no_line End bytes before after took e = goes_as (TakesAll bytes) LeavesNone before after (λ x y p. p.none) took
+took_no_line Failed bytes before after took e = absurd (cc)
+took_no_line NoMemory bytes before after took e = absurd (cc)
+
+module _ {S : Type 0} (facts : SourceFacts S) where
+  bytes_whole : (may : Option (List Moment)) (x : Taking Piece) (tx : Putting Piece) (rx : Taking Piece) (source : S) (ending : Ending)
+      → BytesServed may facts x tx rx source → ending_of x.got ≡ Some ending → BytesWhole may facts ending tx rx source
+  bytes_whole may x tx rx source ending served told =
+      let before = facts.content served.first in
+      let after = facts.content source in
+      let lane = lane_whole x tx rx ending served.lane (devices_tell_last may served.ending [] tx.put before after served.hands refl) told in
+      let is : served.ending ≡ Some ending = sym (bytes_told may served.ending [] tx.put before after served.hands refl) ∙ lane.1 in
+      let so : HandsOn device_part (IsDevicePiece may) (Some ending) [] tx.put before after =
+      subst (λ (e : Option Ending). HandsOn device_part (IsDevicePiece may) e [] tx.put before after) is served.hands in
+      let hands : HandsOn device_part (IsDevicePiece may) (Some ending) [] rx.got before after =
+      subst (λ (put : List Piece). HandsOn device_part (IsDevicePiece may) (Some ending) [] put before after) (sym lane.0) so in
+      record {
+        got = lane.0;
+        first = served.first;
+        unread = served.unread;
+        hands = hands;
+        none_left = took_none ending (flat_map device_part hands.pieces) before after hands.took;
+      }
+
+  lines_whole : (x : Taking Piece) (tx : Putting Piece) (rx : Taking Piece) (source : S) (ending : Ending)
+      → LinesServed facts x tx rx source → ending_of x.got ≡ Some ending → LinesWhole facts ending tx rx source
+  lines_whole x tx rx source ending served told =
+      let before = facts.content served.first in
+      let after = facts.content source in
+      let lane = lane_whole x tx rx ending served.lane (edges_tell_last served.ending [] tx.put before after served.hands refl) told in
+      let is : served.ending ≡ Some ending = sym (lines_told served.ending [] tx.put before after served.hands refl) ∙ lane.1 in
+      let so : HandsLines (Some ending) [] tx.put before after = subst (λ (e : Option Ending). HandsLines e [] tx.put before after) is served.hands in
+      let hands : HandsLines (Some ending) [] rx.got before after = subst (λ (put : List Piece). HandsLines (Some ending) [] put before after) (sym lane.0) so in
+      record {
+        got = lane.0;
+        first = served.first;
+        unread = served.unread;
+        hands = hands;
+        none_left = took_no_line ending hands.bytes before after hands.took;
+      }
+
+  edges_whole : (x : Option (Taking Piece)) (tx : Option (Putting Piece)) (rx : Option (Taking Piece)) (source : Option S) (ending : Ending)
+      → EdgesServed facts x tx rx source → edge_ending x (got_of x) ≡ Some ending → EdgesWhole facts ending tx rx source
+  edges_whole None None None None ending served told = let is : ending ≡ End = cc told in is
+  edges_whole (Some x) (Some tx) (Some rx) (Some source) ending served told = lines_whole x tx rx source ending served told
+  edges_whole (Some x) (Some tx) (Some rx) None ending served told = absurd served
+  edges_whole (Some x) (Some tx) None source ending served told = absurd served
+  edges_whole (Some x) None rx source ending served told = absurd served
+  edges_whole None (Some tx) rx source ending served told = absurd served
+  edges_whole None None (Some rx) source ending served told = absurd served
+  edges_whole None None None (Some source) ending served told = absurd served
+
+module _ {S R : Type 0} (may : Option (List Moment)) (facts : SourceFacts S) where
+  device_whole : (x : Lanes) (d : DeviceDone S R) → DeviceServed may facts x d → (IsOver d.end → TellEnds x d.end) → IsWhole may facts d
+  device_whole x d served tell over =
+      let told = tell over in
+      record {
+        bytes_ending = told.bytes_ending;
+        edges_ending = told.edges_ending;
+        end_is = told.end_is;
+        source = served.source;
+        source_is = served.source_is;
+        bytes = bytes_whole facts may x.bytes d.bytes_tx d.bytes_rx served.source told.bytes_ending served.bytes told.bytes;
+        edges = edges_whole facts x.edges d.edges_tx d.edges_rx d.edges told.edges_ending served.edges told.edges;
+      }
+
+  -- of each device, by its number
+  all_whole : (inlets : List Lanes) (devices : List (DeviceDone S R)) → AllZip (DeviceServed may facts) inlets devices
+      → ((k : ℕ) (x : Lanes) (end : Option DeviceEnd) → k < length inlets
+      → IsOver (get_or (map (λ (d : DeviceDone S R). d.end) devices) k end)
+      → TellEnds (get_or inlets k x) (get_or (map (λ (d : DeviceDone S R). d.end) devices) k end))
+      → All (IsWhole may facts) devices
+  all_whole inlets [] served tell k d there = absurd (omega arith)
+  all_whole [] (device ∷ devices) served tell k d there = absurd served
+  all_whole (x ∷ inlets) (device ∷ devices) served tell zero d there = device_whole x device served.0 (tell zero x device.end (omega arith))
+  all_whole (x ∷ inlets) (device ∷ devices) served tell (suc k) d there =
+      all_whole inlets devices served.1 (λ j y end within. tell (suc j) y end (omega arith)) k d (omega arith)
+
+pub whole_at_end : {G S K R : Type 0} (told : Told) (may : Option (List Moment)) (sources : SourceFacts S) (sinks : SinkFacts K) (gates : GateFacts G S K)
+    (links : Option (List (Way S K))) (full : ℕ) (no_memory : Bool) (book : Option BookView) (devices : List (DeviceDone S R)) (sessions : List (SessionDone S K R))
+    (monitors : List MonitorDone) (given : Option G)
+    → IfSome book (λ b. AtEnd told may sources sinks gates links full no_memory b devices sessions monitors given) → IsSome book → All (IsWhole may sources) devices
+whole_at_end told may sources sinks gates links full no_memory None devices sessions monitors given ends some = absurd (cc)
+whole_at_end {G} {S} {K} {R} told may sources sinks gates links full no_memory (Some b) devices sessions monitors given ends some =
+    let hub = ends.hub.1 in
+    let count : length ends.inlets ≡ length b.names = hub.count in
+    all_whole may sources ends.inlets devices ends.devices_are
+    (λ k x end there. tell_ends (ends.hub.0 ++ b.log.log) k (get_or ends.inlets k x) (get_or (map (λ (d : DeviceDone S R). d.end) devices) k end)
+    (hub.devices k x end (omega (arith, there, count))))
+
+-- a device that has ended did so as both of its sources came to their ends
+both_end : (bytes edges : Ending) (end : Option DeviceEnd) → end ≡ Some (end_of bytes edges) → end ≡ Some Ended → (bytes ≡ End) × (edges ≡ End)
+both_end NoMemory edges end is ended = absurd (cc (is, ended))
+both_end End End end is ended = (refl, refl)
+both_end End Failed end is ended = absurd (cc (is, ended))
+both_end End NoMemory end is ended = absurd (cc (is, ended))
+both_end Failed End end is ended = absurd (cc (is, ended))
+both_end Failed Failed end is ended = absurd (cc (is, ended))
+both_end Failed NoMemory end is ended = absurd (cc (is, ended))
+
+-- what was put into a lane of edges says that its source came to its end
+abbrev pub TellsEnd : Option (Putting Piece) → Type 0
+TellsEnd None = Unit {0}
+TellsEnd (Some tx) = ending_of tx.put ≡ Some End
+
+edges_tell_end : {S : Type 0} (facts : SourceFacts S) (ending : Ending) (tx : Option (Putting Piece)) (rx : Option (Taking Piece)) (source : Option S)
+    → EdgesWhole facts ending tx rx source → ending ≡ End → TellsEnd tx
+edges_tell_end facts ending None rx source whole is = tt
+edges_tell_end facts ending (Some tx) None source whole is = absurd whole
+edges_tell_end facts ending (Some tx) (Some rx) None whole is = absurd whole
+edges_tell_end facts ending (Some tx) (Some rx) (Some source) whole is =
+    ap ending_of (sym whole.got) ∙ lines_told (Some ending) [] rx.got (facts.content whole.first) (facts.content source) whole.hands refl ∙ ap Some is
+
+-- the lanes of a device that has ended say so
+pub device_tells_end : {S R : Type 0} (may : Option (List Moment)) (facts : SourceFacts S) (d : DeviceDone S R) → IsWhole may facts d → d.end ≡ Some Ended
+    → (ending_of d.bytes_tx.put ≡ Some End) × TellsEnd d.edges_tx
+device_tells_end may facts d whole ended =
+    let came = whole (inl ended) in
+    let both = both_end came.bytes_ending came.edges_ending d.end came.end_is ended in (
+      ap ending_of (sym came.bytes.got)
+          ∙ bytes_told may (Some came.bytes_ending) [] d.bytes_rx.got (facts.content came.bytes.first) (facts.content came.source) came.bytes.hands refl
+          ∙ ap Some both.0,
+      edges_tell_end facts came.edges_ending d.edges_tx d.edges_rx d.edges came.edges both.1,
+    )

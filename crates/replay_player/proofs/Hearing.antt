@@ -26,6 +26,7 @@ use Rattle.report_book.specs.Refusals.{RefusesAs, session_fault}
 use Rattle.report_book.specs.Standing.{Holds}
 use Rattle.session_runs.specs.Runs.{SessionRun}
 use Rattle.session_runs.specs.Following.{Extends, answered_run, closing_at}
+use Rattle.session_runs.proofs.Counting.{counted}
 use Rattle.session_runs.proofs.Books.{place_is}
 use Rattle.session_runs.proofs.Going.{answers_extend}
 use Rattle.session_runs.proofs.Zipping.{zip_set}
@@ -35,7 +36,7 @@ use Rattle.replay_player.specs.Effects.{changes, hears, with_client}
 use Rattle.replay_player.specs.Playing.{Acts, Attends, ComesTo, Plays, StageView, state_of}
 use Rattle.replay_player.specs.States.{State}
 use Rattle.replay_player.proofs.Seating.{Both, changes_by, over_parts, seated}
-use Rattle.replay_player.proofs.Telling.{counted, still_open}
+use Rattle.replay_player.proofs.Telling.{still_open}
 
 -- policies and marks
 

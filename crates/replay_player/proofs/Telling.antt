@@ -6,7 +6,7 @@ use Rattle.gps_command.specs.Kept as input
 use Rattle.gps_command.specs.Kept.{Kept}
 use Rattle.gps_report.specs.declared.report.Report.{Report}
 use Rattle.session_core.specs.declared.mark.Close.{Close}
-use Rattle.session_core.specs.Shown.{Shown, one_more, opening_policy}
+use Rattle.session_core.specs.Shown.{Shown, opening_policy}
 use Rattle.session_core.specs.Stretches.{Stretch, last_watched}
 use Rattle.book_batch.specs.Lines.{line_for}
 use Rattle.book_log.specs.Entries.{Entry}
@@ -16,6 +16,7 @@ use Rattle.book_sessions.specs.Attendance.{Attendance, cutter_left, renewed}
 use Rattle.book_sessions.specs.Spreading.{Due, Reports, ReportsBy, Spreads, cutter_by, due}
 use Rattle.session_runs.specs.Runs.{SessionRun, IsRunOf, closed_from}
 use Rattle.session_runs.specs.Following.{Extends, closing_after, run_after}
+use Rattle.session_runs.proofs.Counting.{counted}
 use Rattle.session_runs.proofs.Going.{reports_extend, turns_keep}
 use Rattle.session_runs.proofs.Whole.{whole_length}
 use Rattle.replay_player.specs.Clients.{Client, kept_of, items_of, lines_due, overrun_at, overrun_by, room_of, told}
@@ -35,15 +36,6 @@ still_open names before log s r (inr over) is_open = absurd (let e : Some (over.
 pub run_open : (names : List (List ℕ)) (before log : List Entry) (s : Shown) (r : SessionRun) → IsRunOf names before log s r → s.closing ≡ None → r.closing ≡ None
 run_open names before log s r (inl here) is_open = here.closing ∙ ap (closed_from (length (history before))) is_open
 run_open names before log s r (inr over) is_open = absurd (let e : Some (0, over.why) ≡ None = sym over.now ∙ is_open in cc)
-
--- the number of items
-
-pub counted : (n k : ℕ) → raised (min n (2 ^ 64 - 1)) k ≡ min (n + k) (2 ^ 64 - 1)
-counted n zero = let e : n ≡ n + 0 = omega arith in ap (λ m. min m (2 ^ 64 - 1)) e
-counted n (suc k) =
-    let one : one_more (2 ^ 64 - 1) (min n (2 ^ 64 - 1)) ≡ min (n + 1) (2 ^ 64 - 1) = omega arith in
-    let more : n + 1 + k ≡ n + suc k = omega arith in
-    ap (λ m. raised m k) one ∙ counted (n + 1) k ∙ ap (λ m. min m (2 ^ 64 - 1)) more
 
 -- one that is closed stays so
 pub stays_closed : (was : Option (ℕ × Close)) (lines : List Due) → (was ≡ None → ⊥) → was ≡ overrun_by was lines

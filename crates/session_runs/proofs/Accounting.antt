@@ -1,12 +1,14 @@
 -- The account of a session through the calls of a book.
-use Rattle.std.proofs.Common.{◌≡◌, ℕ, Bool, false, List, [], ◌++◌, ◌-◌, length, drop, map, Option, Some, None, refl, sym, ap, ◌∙◌, subst, append-nil, append_assoc}
+use Rattle.std.proofs.Common.{◌≡◌, ℕ, Bool, false, List, [], ◌++◌, ◌-◌, ◌^◌, min, length, drop, map, Option, Some, None, refl, sym, ap, ◌∙◌, subst, append-nil, append_assoc}
 use Rattle.std.specs.List.{AllZip}
+use Rattle.std.proofs.lemmas.List.{length-map}
 use Rattle.session_core.specs.declared.mark.Close.{Close}
 use Rattle.session_core.specs.declared.mark.Close.TheVariants.{DaemonEnd}
 use Rattle.session_core.specs.Shown.{Shown}
 use Rattle.book_log.specs.Entries.{Entry}
 use Rattle.book_log.specs.History.{history, history_after}
 use Rattle.book_log.specs.Logged.{Logged}
+use Rattle.book_sessions.specs.Answering.{raised}
 use Rattle.book_sessions.specs.Attendance.{Attendance, with_kept}
 use Rattle.book_replies.specs.declared.answering.Answer.{Answer}
 use Rattle.book_sessions.specs.Roster.{Shuts}
@@ -16,6 +18,7 @@ use Rattle.session_runs.specs.Asking.{HasSent, HearsNothing}
 use Rattle.session_runs.specs.Following.{Extends, Follows, GoesOn, answered_run, closed_run, forgotten_if, run_after, shut_run}
 use Rattle.session_runs.specs.Runs.{SessionRun, items_over}
 use Rattle.session_runs.proofs.Books.{admitted_begins, given_taken, moves_extend, place_is}
+use Rattle.session_runs.proofs.Counting.{AllCount, Counts, closings_count, counts_these, entries_count, items_on, same_counts, shuts_count}
 use Rattle.session_runs.proofs.Going.{answers_extend, closings_end, shuts_end, taking_keeps}
 use Rattle.session_runs.proofs.Quiet.{quiet_entries}
 use Rattle.session_runs.proofs.Sending.{closings_unheard, entries_unheard, nothing_sent, same_unheard, sent_in_vain, sent_more, sent_onward, shuts_unheard, taking_unheard}
@@ -38,8 +41,9 @@ unheard names log old new r bytes nothing sent =
 -- ---- entries
 
 carries : (old new : BookView) (entries before onward : List Entry) → new.names ≡ old.names → onward ++ new.log.log ≡ (before ++ old.log.log) ++ entries
-    → (a b : Attendance) → Follows old.names before old.log.log onward new.log.log a.session b.session → HearsNothing a b → CarriesOn old before new onward a b
-carries old new entries before onward names whole a b follows nothing r taken bytes account =
+    → (a b : Attendance) → Follows old.names before old.log.log onward new.log.log a.session b.session → HearsNothing a b × Counts a.session b.session
+    → CarriesOn old before new onward a b
+carries old new entries before onward names whole a b follows (nothing, counts) r taken bytes account =
     let on = follows r account.run in
     let next : SessionRun = run_after (length (history onward)) a.session b.session r in
     let S : List Entry → Type 0 = λ l. HasSent old.names l b r.stretches bytes in
@@ -47,24 +51,30 @@ carries old new entries before onward names whole a b follows nothing r taken by
     subst N (sym names) (record {
       run = on.1.run;
       given = given_on old.names before old.log.log onward new.log.log a.session b.session on.0 taken r next on.1 account.given;
+      items = items_on a.session b.session on.0 (items_over old.names (before ++ old.log.log) r) (items_over old.names (onward ++ new.log.log) next) counts on.1.kept on.1.items account.items;
       sent = subst S (sym whole) (sent_onward old.names (before ++ old.log.log) entries a b r.stretches bytes nothing account.sent);
     })
 
 all_carry : (turns : Bool) (old new : BookView) (entries before : List Entry) → GoesOn turns old new entries before → AllZip HearsNothing old.sessions new.sessions
-    → AllZip (CarriesOn old before new (forgotten_if turns before old.log.log)) old.sessions new.sessions
-all_carry turns old new entries before on nothing =
+    → AllCount old.sessions new.sessions → AllZip (CarriesOn old before new (forgotten_if turns before old.log.log)) old.sessions new.sessions
+all_carry turns old new entries before on nothing counts =
     let onward : List Entry = forgotten_if turns before old.log.log in
     let F : Attendance → Attendance → Type 0 = λ a b. Follows old.names before old.log.log onward new.log.log a.session b.session in
-    zip_both F HearsNothing (CarriesOn old before new onward) (carries old new entries before onward on.names on.whole) old.sessions new.sessions on.sessions nothing
+    let C : Attendance → Attendance → Type 0 = λ a b. Counts a.session b.session in
+    let N : Attendance → Attendance → Type 0 = λ a b. HearsNothing a b × Counts a.session b.session in
+    zip_both F N (CarriesOn old before new onward) (carries old new entries before onward on.names on.whole) old.sessions new.sessions on.sessions
+    (zip_both HearsNothing C N (λ a b unheard count. (unheard, count)) old.sessions new.sessions nothing counts)
 
 pub entries_carry : EntriesCarryAccounts
 entries_carry exact turns old new entries before held stands moves =
     all_carry turns old new entries before (moves_extend exact turns old new entries before held stands moves) (entries_unheard exact turns old new entries moves)
+    (entries_count exact turns old new entries moves)
 
 pub quiet_carry : QuietEntriesCarryAccounts
 quiet_carry old new entries before stands quiet =
     let Q : List Attendance → Type 0 = λ l. AllZip HearsNothing old.sessions l in
     all_carry false old new entries before (quiet_entries old new entries before stands quiet) (subst Q (sym quiet.sessions) (zip_same HearsNothing same_unheard old.sessions))
+    (subst (AllCount old.sessions) (sym quiet.sessions) (zip_same (λ (a b : Attendance). Counts a.session b.session) same_counts old.sessions))
 
 -- ---- sessions
 
@@ -74,6 +84,7 @@ admitted_account name cap old new before held stands admits =
     record {
       run = begins.run;
       given = begins.kept ∙ sym begins.items;
+      items = ap (λ l. min (length l) (2 ^ 64 - 1)) (sym begins.items);
       sent = nothing_sent new.names (before ++ new.log.log) name cap old.log.length;
     }
 
@@ -91,6 +102,10 @@ inputs_extend exact names before log place piece old new r taken bytes long is h
     record {
       run = extends.run;
       given = given_on names before log before log old.session new.session (map (λ answer. answer.reply) put) taken r next extends account.given;
+      items = items_on old.session new.session (map (λ answer. answer.reply) put) (items_over names (before ++ log) r) (items_over names (before ++ log) next)
+          (counts_these old.session new.session (map (λ answer. answer.reply) put) extends.kept
+          (heard.puts.items ∙ ap (raised old.session.items) (sym (length-map put (λ answer. answer.reply)))))
+          extends.kept extends.items account.items;
       sent = sent_more exact names (before ++ log) place piece old new r.stretches bytes heard is account.sent;
     }
 
@@ -101,6 +116,8 @@ closings_account names before log place why old new r taken bytes long is closes
     record {
       run = extends.run;
       given = given_on names before log before log old.session new.session [] taken r next extends account.given;
+      items = items_on old.session new.session [] (items_over names (before ++ log) r) (items_over names (before ++ log) next)
+          (closings_count place why old new closes) extends.kept extends.items account.items;
       sent = unheard names (before ++ log) old new r bytes (closings_unheard place why old new closes) account.sent;
     }
 
@@ -108,6 +125,7 @@ pub closed_hears : ClosedHearsNothing
 closed_hears names before log a r taken bytes piece over account = record {
   run = account.run;
   given = account.given;
+  items = account.items;
   sent = sent_in_vain names (before ++ log) a r.stretches bytes piece over account.sent;
 }
 
@@ -130,6 +148,8 @@ shut_accounts old new before held stands shuts =
     record {
       run = extends.run;
       given = given_on new.names before new.log.log before new.log.log a.session b.session [] taken r next extends was.given;
+      items = items_on a.session b.session [] (items_over new.names (before ++ new.log.log) r) (items_over new.names (before ++ new.log.log) next)
+          (shuts_count old.log.length DaemonEnd a b shut) extends.kept extends.items was.items;
       sent = shut_sent a.session.closing new.names (before ++ new.log.log) DaemonEnd b r bytes
           (unheard new.names (before ++ new.log.log) a b r bytes (shuts_unheard old.log.length DaemonEnd a b shut) was.sent);
     })
@@ -142,5 +162,6 @@ taking_moves names before log a r taken bytes account =
     record {
       run = taking_keeps names before log a kept r refl account.run;
       given = given.rest;
+      items = account.items;
       sent = unheard names (before ++ log) a (with_kept kept a) r bytes (taking_unheard kept a) account.sent;
     }

@@ -4,6 +4,7 @@ pub mod Going
 pub mod Overruns
 pub mod Zipping
 pub mod Books
+pub mod Counting
 pub mod Quiet
 pub mod Answering
 pub mod Sending

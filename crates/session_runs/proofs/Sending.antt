@@ -1,5 +1,5 @@
 -- What a client sent, through the calls.
-use Rattle.std.proofs.Common.{◌≡◌, ℕ, ◌+◌, ◌-◌, Bool, true, false, ◌||◌, List, [], ◌∷◌, ◌++◌, length, map, take, Option, Some, None, is_some, refl, sym, ap, ◌∙◌, subst, le_refl, append-nil, append_assoc, take_all, fold, arith}
+use Rattle.std.proofs.Common.{◌≡◌, ◌≤◌, ◌<◌, ℕ, zero, suc, ◌+◌, ◌-◌, Bool, true, false, ◌||◌, List, [], ◌∷◌, ◌++◌, length, map, take, Option, Some, None, is_some, refl, sym, ap, ◌∙◌, subst, le_refl, append-nil, append_assoc, take_all, fold, arith}
 use Rattle.std.specs.List.{AllZip, list_any}
 use Rattle.std.proofs.Math.Seq.{take-length}
 use Rattle.std.proofs.lemmas.List.{length-append, length-map}
@@ -21,7 +21,7 @@ use Rattle.book_replies.specs.declared.answering.Answer.{Answer}
 use Rattle.book_replies.specs.Knowledge.{Knowledge}
 use Rattle.book_replies.specs.Replies.{answered}
 use Rattle.book_replies.proofs.Joined.{one_for_each}
-use Rattle.book_sessions.specs.Answering.{Stops, enables, mark_at, stretch_at}
+use Rattle.book_sessions.specs.Answering.{Stops, enables, mark_at, most_requests, stretch_at}
 use Rattle.book_sessions.specs.Attendance.{Attendance, closed, cutter_left, renewed}
 use Rattle.book_sessions.specs.Roster.{ShutsBy}
 use Rattle.book_sessions.specs.Spreading.{ReportsBy, Spreads, cutter_by}
@@ -54,6 +54,7 @@ nothing_sent names log name cap place = record {
     tt,
   );
   count = refl;
+  few = omega arith;
   whole = λ none. refl;
   policy = λ none. refl;
   cutter = λ none. stands_for_none;
@@ -64,6 +65,7 @@ pub sent_onward : SentOnward
 sent_onward names log entries old new stretches bytes nothing sent = record {
   asked = asked_longer names log entries stretches (requests bytes) sent.asked;
   count = sent.count ∙ ap (λ n. 1 + n) (sym nothing.requests);
+  few = subst (λ n. n ≤ most_requests) (sym nothing.requests) sent.few;
   whole = λ none. sent.whole (nothing.still none).0;
   policy = λ none. nothing.policy ∙ sent.policy (nothing.still none).0;
   cutter = λ none. (nothing.still none).1 ∙ sent.cutter (nothing.still none).0;
@@ -81,6 +83,7 @@ sent_in_vain names log a stretches bytes piece over sent =
     record {
       asked = subst P (sym more.1) (asked_waiting names log stretches (requests bytes) more.0 sent.asked);
       count = sent.count;
+      few = sent.few;
       whole = λ none. absurd (never_none a.session.closing over none);
       policy = λ none. absurd (never_none a.session.closing over none);
       cutter = λ none. absurd (never_none a.session.closing over none);
@@ -102,6 +105,11 @@ policy_marked known names place policy (request ∷ asked) = policy_marked known
 none_left : (place left : ℕ) (s : Shown) (c : Option (ℕ × Close)) → c ≡ None → Stops place left s c → left ≡ 0
 none_left place left s None none stops = stops
 none_left place left s (Some closing) none stops = absurd (cc)
+
+few_more : (count : ℕ) (all : List Answer) (old new : ℕ) → (0 < count → new ≤ most_requests) → new ≡ old + length (take count all) → old ≤ most_requests
+    → new ≤ most_requests
+few_more zero all old new room is low = let none : length (take 0 all) ≡ 0 = refl in omega (arith, is, none, low)
+few_more (suc n) all old new room is low = room (omega arith)
 
 pub sent_more : SentMore
 sent_more exact names log place piece old new stretches bytes heard is sent =
@@ -127,6 +135,7 @@ sent_more exact names log place piece old new stretches bytes heard is sent =
           (asked_joined names log stretches (map (stretch_at whole) put) (requests bytes) more long sent.asked
           (λ last within. answers_now names log (requests bytes) more last whole heard.count old.session.policy within refl policy));
       count = omega (arith, size, counted, answers);
+      few = few_more heard.count all old.session.requests new.session.requests (λ some. (heard.room some).0) answers sent.few;
       whole = λ none.
           let count : heard.count ≡ length more = count_is none in
           let sum : length (requests (bytes ++ piece)) ≡ length (requests bytes) + length more = ap length gains ∙ length-append (requests bytes) more in

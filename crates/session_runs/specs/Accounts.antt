@@ -1,6 +1,6 @@
 -- The account of a session: its run, what its outlet was given, and what its client sent, together; and how each call of a book carries it
 -- on. This project's own.
-use Rattle.std.specs.Prelude.{◌≡◌, ℕ, Bool, true, List, [], ◌++◌, length, drop, take, slice_get, None, is_some}
+use Rattle.std.specs.Prelude.{◌≡◌, ℕ, ◌-◌, ◌^◌, min, Bool, true, List, [], ◌++◌, length, drop, take, slice_get, None, is_some}
 use Rattle.std.specs.List.{AllZip}
 use Rattle.std.specs.Option.{option_to_list}
 use Rattle.session_core.specs.declared.mark.Close.{Close}
@@ -22,10 +22,12 @@ use Rattle.session_runs.specs.Asking.{HasSent}
 use Rattle.session_runs.specs.Following.{answered_run, closed_run, forgotten_if, opened_run, run_after, shut_run}
 use Rattle.session_runs.specs.Runs.{SessionRun, IsRunOf, items_over}
 
--- Its items of the whole run are those that were taken and those that its outlet keeps, in this order; its client has sent these bytes.
+-- Its items of the whole run are those that were taken and those that its outlet keeps, in this order, and it counts them; its client has sent
+-- these bytes.
 pub record Account (names : List (List ℕ)) (before log : List Entry) (a : Attendance) (r : SessionRun) (taken : List (List ℕ)) (bytes : List ℕ) : Type 0 where
   pub run : IsRunOf names before log a.session r
   pub given : taken ++ a.session.kept ≡ items_over names (before ++ log) r
+  pub items : a.session.items ≡ min (length (items_over names (before ++ log) r)) (2 ^ 64 - 1)
   pub sent : HasSent names (before ++ log) a r.stretches bytes
 
 -- in a book, whose opening stands for this log

@@ -11,6 +11,7 @@ use Rattle.session_core.specs.Stretches.{Stretch}
 use Rattle.book_log.specs.Entries.{Entry}
 use Rattle.book_log.specs.History.{history}
 use Rattle.book_replies.specs.Replies.{opening_reply, reply}
+use Rattle.book_sessions.specs.Answering.{most_requests}
 use Rattle.book_sessions.specs.Attendance.{Attendance}
 use Rattle.report_book.specs.Knowing.{known_in}
 
@@ -29,7 +30,7 @@ pub record IsAnswer (names : List (List ℕ)) (log : List Entry) (moment : ℕ) 
   pub policy : stretch.policy ≡ policy_of (done ++ request ∷ [])
   pub reply : stretch.reply ≡ Some (reply (known_in (length names) (take moment log)) names stretch.policy request)
 
--- behind those done, these stretches answer these requests in order, and the last of the requests may have no answer
+-- behind those done, these stretches answer the first of these requests, in order; the others have no answer
 abbrev pub Answers : List (List ℕ) → List Entry → List RawCommand → ℕ → List Stretch → List RawCommand → Type 0
 Answers names log done from [] asked = Unit {0}
 Answers names log done from (stretch ∷ stretches) [] = ⊥
@@ -47,11 +48,12 @@ Asked names log (opening ∷ stretches) asked = (moment : ℕ) × BeginsAt log 0
 abbrev pub is_enabled : Stretch → Bool
 is_enabled stretch = stretch.policy.enable
 
--- Its client has sent these bytes. It counts its answered requests, one for each stretch behind the opening. While it is open each request of
--- them is answered, and it waits for what goes on behind them.
+-- Its client has sent these bytes. It counts its answered requests, one for each stretch behind the opening, and they are no more than may be
+-- answered. While it is open each request of the bytes is answered, and it waits for what goes on behind them.
 pub record HasSent (names : List (List ℕ)) (log : List Entry) (a : Attendance) (stretches : List Stretch) (bytes : List ℕ) : Type 0 where
   pub asked : Asked names log stretches (requests bytes)
   pub count : length stretches ≡ 1 + a.session.requests
+  pub few : a.session.requests ≤ most_requests
   pub whole : a.session.closing ≡ None → length stretches ≡ 1 + length (requests bytes)
   pub policy : a.session.closing ≡ None → a.session.policy ≡ policy_of (requests bytes)
   pub cutter : a.session.closing ≡ None → input.StandsFor a.cutter bytes

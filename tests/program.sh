@@ -19,7 +19,7 @@ run() {
     status=$?
 }
 
-usage='usage: gpsrelay decode|replay|generate|serve|pseudo|lines'
+usage='usage: gpsrelay decode|replay|generate|pseudo|lines|serve'
 sentence='$GPRMC,123519,A,4807.038,N,01131.000,E,022.4,084.4,230394,003.1,W*6A'
 line='{"class":"TPV","device":"stdin","mode":2,"time":"1994-03-23T12:35:19.000Z","lat":48.117300000,"lon":11.516666667,"track":84.4000,"speed":11.524}'
 later='$GPGGA,123520,4807.038,N,01131.000,E,1,08,0.9,545.4,M,46.9,M,,*4D'

@@ -1,6 +1,6 @@
 ghost use Rattle.std.specs.Prelude.{◌≡◌, ◌≤◌, List, [], ◌∷◌, ◌++◌, IfOk, IfNone};
 ghost use Rattle.std.specs.Option.{option_to_list};
-ghost use Rattle.gps_lane.specs.Lane.{HeldAtOnce};
+ghost use Rattle.gps_lane.specs.Lane.{PutAtLeast};
 ghost use Rattle.gps_lane.specs.Ends.{MatchPushed};
 
 use crate::order::{Gets, Getting, Log, Puts, Queue};
@@ -97,7 +97,7 @@ impl<T: Drop, R: Wait + Copy> Tx<T, R> {
     /// Takes no memory. It may wait for a step of the other end inside the queue.
     pub fn push(&mut self, item: T) -> Pushed<T>
         ensures done { MatchPushed result (self.new ≡ record self.old { put = self.old.put ++ item ∷ [] }) (λ back. (back ≡ item) × (self.new ≡ self.old)) }
-        ensures full { MatchPushed result (Unit {0}) (λ _. HeldAtOnce self.old.cap self.old.put) }
+        ensures full { MatchPushed result (Unit {0}) (λ _. PutAtLeast self.old.cap self.old.put) }
     {
         match self
             .queue

@@ -120,7 +120,7 @@ fn main(rt: HostRuntime) -> ExitCode {
     };
     if status == run::REFUSED {
         // A standard error that is closed or full changes no status.
-        let _ = eprintln!(rt; "usage: gpsrelay decode|replay|generate|serve|pseudo|lines");
+        let _ = eprintln!(rt; "usage: gpsrelay decode|replay|generate|pseudo|lines|serve");
     }
     ExitCode::from(status)
 }

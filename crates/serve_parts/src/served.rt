@@ -21,7 +21,8 @@ const UNITS: u8 = 16;
 #[derive(Drop)]
 pub struct Served<W: World, R: Wait + Copy> {
     pub status: u8,
-    /// None where the status was decided before the threads were started.
+    /// None where nothing was served: something could not be opened, memory was wanting before the threads had begun, or there was no
+    /// thread for the door or the publisher.
     pub book: Option<Book<Tx<Item, R>>>,
     pub devices: Vec<DeviceDone<W::In, R>>,
     pub sessions: Vec<SessionDone<W::In, W::Out, R>>,

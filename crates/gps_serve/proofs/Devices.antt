@@ -64,6 +64,7 @@ bytes_served may facts x run rx ready settles =
       hands = hands;
       failed = λ (e : run.bytes.ending ≡ Some Failed). let rose = ready.ran.bytes.failed e in omega (arith, rose);
       lane = record {
+        one = settles.one;
         begins = settles.begins;
         settled = settles.behind (devices_tell_last may run.bytes.ending [] run.bytes.pieces.put (facts.content start.source) (facts.content run.bytes.source) hands refl);
       };
@@ -91,6 +92,7 @@ lines_served facts (Some start) (Some first) (Some rx) (Some rx') (Some reader) 
       hands = hands;
       failed = λ (e : reader.ending ≡ Some Failed). let rose = ran.failed e in omega (arith, rose);
       lane = record {
+        one = settles.one;
         begins = settles.begins;
         settled = settles.behind (edges_tell_last reader.ending [] reader.pieces.put (facts.content start.source) (facts.content reader.source) hands refl);
       };

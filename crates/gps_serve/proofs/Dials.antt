@@ -124,6 +124,7 @@ module _ {G S K R : Type 0} (told : Told) (sources : SourceFacts S) (sinks : Sin
       taken = at.door.taken;
       passed = tt;
       count = at.door.count;
+      few = at.door.few;
       none_early = at.door.none_early;
       each = at.door.each;
       asked = untold_asked links at.door.taken at.gate at.door.asked;

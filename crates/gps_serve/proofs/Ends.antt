@@ -33,7 +33,7 @@ use Rattle.gps_serve.specs.Statuses.{AllEnded, EachWhole, HasStopped}
 use Rattle.gps_serve.specs.Units.{AreAtRest, CountFromZero}
 use Rattle.gps_serve.specs.Works.{WatchedBy, WatchersRan, monitored}
 use Rattle.gps_serve.proofs.Devices.{devices_ready}
-use Rattle.gps_serve.proofs.Gates.{devices_stopped, of_queue}
+use Rattle.gps_serve.proofs.Gates.{each_end, of_queue}
 use Rattle.gps_serve.proofs.Resting.{all_served}
 use Rattle.gps_serve.proofs.Returned.{all_read, hub_returned}
 use Rattle.gps_serve.proofs.Monitors.{monitors_ready}
@@ -120,7 +120,7 @@ at_end_of {G} {S} {K} {R} terms queue tries may sources sinks gates links full n
       inputs_are = all_read sources inputs sessions sessions_are.inputs_are;
       outlets_are = sessions_are.outlets_are;
       numbers = sessions_are.numbers;
-      stopped = devices_stopped devices ends ends_are stopped;
+      stopped = each_end HasStopped devices ends ends_are stopped;
       closed = closed;
       units = all_served b.units (length terms.segments) keeps rests
           (let count : length terms.segments ≡ length b.units = ap length (sym segments) ∙ segments_of_units b.units in omega (arith, count))

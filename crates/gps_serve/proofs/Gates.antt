@@ -6,6 +6,7 @@ use Rattle.gps_lane.specs.Ends.{Taking}
 use Rattle.hub_door.specs.Admissions.{Admissions, Link as Admitted}
 use Rattle.hub_laws.specs.declared.ends.DeviceEnd.{DeviceEnd}
 use Rattle.hub_laws.specs.Parts.{AreAdmitted}
+use Rattle.report_book.specs.BookView.{BookView}
 use Rattle.serve_parts.specs.declared.done.DeviceDone.{DeviceDone}
 use Rattle.serve_parts.specs.declared.done.SessionDone.{SessionDone}
 use Rattle.serve_pieces.specs.declared.piece.Piece.{Piece}
@@ -15,8 +16,8 @@ use Rattle.serve_threads.specs.declared.session.SessionRun.{SessionRun}
 use Rattle.serve_threads.specs.Sessions.{SessionRuns}
 use Rattle.gps_serve.specs.AtEnd.{AreOfQueue, GateFacts, GateServed, ReadsLink, SinkFacts}
 use Rattle.gps_serve.specs.Doors.{DoorNow, IsNewLink, Tended, Way, door_now, lanes_of, way_of}
+use Rattle.gps_serve.specs.Lost.{IsNotCut, IsNotLost, NoneLost}
 use Rattle.gps_serve.specs.Readies.{IsSourceOf}
-use Rattle.gps_serve.specs.Statuses.{HasStopped}
 use Rattle.gps_serve.proofs.Devices.{zip_length}
 use Rattle.gps_serve.proofs.Taking.{links_read}
 
@@ -40,6 +41,7 @@ gate_served {G} {S} {K} {R} sources sinks gates queue told gate full no_memory l
     record {
       taken = tended.tends.taken;
       passed = takes.passed;
+      few = subst (λ n. n ≤ length tended.tends.taken) same takes.few;
       count = λ (e : lacks ≡ false) (f : full < 2 ^ 64 - 1). takes.count (so e) f ∙ ap (λ n. n + full) same;
       none_early = λ (f : length sessions < 64). takes.full (subst (λ n. n < 64) (sym same) f);
       each = λ (e : length tended.tends.taken ≡ length sessions).
@@ -63,13 +65,23 @@ module _ {S K R : Type 0} (queue : ℕ) where
   of_queue seat links sessions inputs same admitted =
       caps_are links sessions (admitted.caps ∙ ap (map (λ (l : Admitted). l.cap)) (sym same))
 
-pub devices_stopped : {S R : Type 0} (devices : List (DeviceDone S R)) (ends : List (Option DeviceEnd)) → map (λ (d : DeviceDone S R). d.end) devices ≡ ends → All HasStopped ends
-    → All (λ (d : DeviceDone S R). HasStopped d.end) devices
-devices_stopped {S} {R} devices ends are all k d there =
-    by devices k d there (subst (All HasStopped) (sym are) all)
+-- what holds of each end holds of each device's
+pub each_end : {S R : Type 0} (P : Option DeviceEnd → Type 0) (devices : List (DeviceDone S R)) (ends : List (Option DeviceEnd))
+    → map (λ (d : DeviceDone S R). d.end) devices ≡ ends → All P ends → All (λ (d : DeviceDone S R). P d.end) devices
+each_end {S} {R} P devices ends are all k d there =
+    by devices k d there (subst (All P) (sym are) all)
   where
-    by : (devices : List (DeviceDone S R)) (k : ℕ) (d : DeviceDone S R) → k < length devices → All HasStopped (map (λ (d : DeviceDone S R). d.end) devices)
-        → HasStopped (get_or devices k d).end
+    by : (devices : List (DeviceDone S R)) (k : ℕ) (d : DeviceDone S R) → k < length devices → All P (map (λ (d : DeviceDone S R). d.end) devices)
+        → P (get_or devices k d).end
     by [] k d there all = absurd (omega arith)
     by (x ∷ devices) zero d there all = all zero d.end (omega arith)
     by (x ∷ devices) (suc k) d there all = by devices k d (omega arith) (λ j e there. all (suc j) e (omega arith))
+
+-- no device was lost, and no session of the book closed, for want of memory
+pub none_lost_in : {S R : Type 0} (b b' b'' : BookView) (devices : List (DeviceDone S R)) (ends : List (Option DeviceEnd)) → b' ≡ b → b'' ≡ b'
+    → map (λ (d : DeviceDone S R). d.end) devices ≡ ends → All IsNotLost ends → All (λ (a : Attendance). IsNotCut a.session.closing) b.sessions
+    → NoneLost b'' devices
+none_lost_in b b' b'' devices ends is is' are kept sessions = record {
+  devices_kept = each_end IsNotLost devices ends are kept;
+  sessions_kept = subst (λ (x : BookView). All (λ (a : Attendance). IsNotCut a.session.closing) x.sessions) (sym (is' ∙ is)) sessions;
+}

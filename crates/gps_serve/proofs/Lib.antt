@@ -14,3 +14,4 @@ pub mod Whole
 pub mod Taking
 pub mod Gates
 pub mod Returned
+pub mod Lost

@@ -86,6 +86,7 @@ module _ {S K R : Type 0} (sources : SourceFacts S) (sinks : SinkFacts K) where
           failed = subst (λ (s : S). run.reader.ending ≡ Some Failed → 0 < sources.faults s) (sym source)
               (λ (e : run.reader.ending ≡ Some Failed). let rose = ready.ran.reads.failed e in omega (arith, rose));
           read = subst (λ (s : S). Goes (WasRead (sources.faults s) (sources.quiets s)) (sources.content link.source) (sources.content s)) (sym source) ready.ran.reads.read;
+          one = subst (λ (t : Putting Piece). done.input_rx.lane ≡ t.lane) (sym tx) settles.one;
           begins = subst (λ (t : Putting Piece). BeginsWith done.input_rx.got t.put) (sym tx) settles.begins;
         };
         settled = settles.behind (sessions_tell_last run.reader.ending [] run.reader.pieces.put (sources.content link.source) (sources.content run.reader.source) hands refl);
@@ -101,6 +102,7 @@ module _ {S K R : Type 0} (sources : SourceFacts S) (sinks : SinkFacts K) where
       record {
         first = link.sink;
         unwritten = ready.unwritten;
+        outlet = ap of_table empties.lane ∙ outlet_name a x run ready;
         begins = empties.begins;
         all = λ (e : done.end ≡ Drained). empties.all (ap writer_end e);
         writes = subst (λ got. Writes (writer_end done.end) got done.items_rx.got (sinks.written link.sink) (sinks.written done.sink)) ready.unused.0 w.writes;

@@ -27,6 +27,7 @@ use Rattle.serve_parts.specs.declared.plan.Plan.{Plan}
 use Rattle.serve_settling.specs.Lanes.{OneMoreAtMost}
 use Rattle.serve_settling.specs.Outlets.{writer_end}
 use Rattle.serve_settling.specs.Units.{ArePublished}
+use Rattle.session_core.specs.Naming.{of_table}
 use Rattle.hub_laws.specs.declared.ends.DeviceEnd.{DeviceEnd}
 use Rattle.hub_laws.specs.declared.ends.DeviceEnd.TheVariants.{Ended}
 use Rattle.hub_laws.specs.DaemonHub.{DaemonHub}
@@ -38,9 +39,10 @@ use Rattle.gps_serve.specs.Starts.{IsUnreadBy}
 use Rattle.gps_serve.specs.Statuses.{HasStopped}
 use Rattle.gps_serve.specs.Units.{UnitServed}
 
--- What was got of a lane begins what was put. `x` is the lane as the hub left it; where that had not told how its source ended, one more piece
--- may be got since.
+-- Both ends are of one lane, and what was got of it begins what was put. `x` is the lane as the hub left it; where that had not told how its source
+-- ended, one more piece may be got since.
 pub record LaneServed (x : Taking Piece) (tx : Putting Piece) (rx : Taking Piece) : Type 0 where
+  pub one : rx.lane ≡ tx.lane
   pub begins : BeginsWith rx.got tx.put
   pub settled : OneMoreAtMost x rx
 
@@ -81,7 +83,8 @@ pub record DeviceServed {S R : Type 0} (may : Option (List Moment)) (facts : Sou
   pub bytes : BytesServed may facts x.bytes done.bytes_tx done.bytes_rx source
   pub edges : EdgesServed facts x.edges done.edges_tx done.edges_rx done.edges
 
--- what is left of a session's input: its source, from which nothing was taken before, was read, and what was got of its lane begins what was put
+-- what is left of a session's input: its source, from which nothing was taken before, was read; both ends are of one lane, and what was got of it
+-- begins what was put
 pub record InputServed {S K R : Type 0} (facts : SourceFacts S) (done : SessionDone S K R) : Type 0 where
   pub first : S
   pub unread : IsUnreadBy facts first
@@ -89,6 +92,7 @@ pub record InputServed {S K R : Type 0} (facts : SourceFacts S) (done : SessionD
   pub hands : HandsOn input_part IsInputPiece ending [] done.input_tx.put (facts.content first) (facts.content done.source)
   pub failed : ending ≡ Some Failed → 0 < facts.faults done.source
   pub read : Goes (WasRead (facts.faults done.source) (facts.quiets done.source)) (facts.content first) (facts.content done.source)
+  pub one : done.input_rx.lane ≡ done.input_tx.lane
   pub begins : BeginsWith done.input_rx.got done.input_tx.put
 
 -- what a sink tells, and what it counts
@@ -99,11 +103,12 @@ pub record SinkFacts (K : Type 0) : Type 0 where
 abbrev pub sink_facts : {K : Type 0} → (K → Option (List ℕ)) → (K → ℕ) → SinkFacts K
 sink_facts written faults = record { written = written; faults = faults }
 
--- What is left of a session's outlet: the items that were got of it begin those that the book gave it, and are all of them where the session
--- was drained. Their bytes were written to its sink, to which nothing was written before; all of them, unless the sink failed.
+-- What is left of a session's outlet: its receiving end, which has the name that the book knows. The items that were got of it begin those that the
+-- book gave it, and are all of them where the session was drained. Their bytes were written to its sink, to which nothing was written before; all of them, unless the sink failed.
 pub record OutletServed {S K R : Type 0} (facts : SinkFacts K) (a : Attendance) (done : SessionDone S K R) : Type 0 where
   pub first : K
   pub unwritten : IsUnwritten (facts.written first) (facts.faults first)
+  pub outlet : of_table done.items_rx.lane ≡ a.session.name
   pub begins : BeginsWith done.items_rx.got a.session.kept
   pub all : done.end ≡ Drained → done.items_rx.got ≡ a.session.kept
   pub writes : Writes (writer_end done.end) [] done.items_rx.got (facts.written first) (facts.written done.sink)
@@ -135,13 +140,14 @@ gate_facts links faults quiets = record { links = links; faults = faults; quiets
 abbrev pub ReadsLink : {S K R : Type 0} → SourceFacts S → Way S K → SessionDone S K R → Type 0
 ReadsLink facts way done = Goes TakesFirst (facts.content way.0) (facts.content done.source)
 
--- What is left of the door. The links that were taken are the next of those that it told; where memory was not wanting and the count of dropped ones
--- did not reach its greatest value, they are as many as the sessions and those that were dropped; and none was dropped before 64 were admitted. Where
--- none was dropped, session k has the k-th. It was asked; and it is said to have closed or failed only where no link is left or its faults rose.
+-- What is left of the door. The links that were taken are the next of those that it told, and no fewer than the sessions; where memory was not wanting
+-- and the count of dropped ones did not reach its greatest value, they are as many as the sessions and those that were dropped; and none was dropped
+-- because too many were there before 64 were admitted. Where none was dropped, session k has the k-th. It was asked; and it is said to have closed or failed only where no link is left or its faults rose.
 pub record GateServed {G S K R : Type 0} (sources : SourceFacts S) (gates : GateFacts G S K) (told : Option (List (Way S K))) (full : ℕ) (no_memory done : Bool)
     (sessions : List (SessionDone S K R)) (gate : G) : Type 0 where
   pub taken : List (Way S K)
   pub passed : Goes (PassLinks taken) told (gates.links gate)
+  pub few : length sessions ≤ length taken
   pub count : no_memory ≡ false → full < 2 ^ 64 - 1 → length taken ≡ length sessions + full
   pub none_early : length sessions < 64 → full ≡ 0
   pub each : length taken ≡ length sessions → AllZip (ReadsLink sources) taken sessions
@@ -196,7 +202,7 @@ AreOfQueue queue sessions = All (λ (a : Attendance). a.session.cap ≡ queue) s
 
 -- What the hub knows holds of the book, of the devices' lanes as the hub left them, of how each device ended, of the sessions' lanes, and of the door. By the lanes that are handed
 -- back, what came into the hub is what was taken from the sources; what a session wrote begins what the book gave it. Each device has stopped, each
--- session is closed, and all samples are published.
+-- session is closed, and each unit's samples are all published, unless its count is spent.
 pub record AtEnd {G S K R : Type 0} (told : Told) (may : Option (List Moment)) (sources : SourceFacts S) (sinks : SinkFacts K) (gates : GateFacts G S K)
     (links : Option (List (Way S K))) (full : ℕ) (no_memory : Bool) (b : BookView) (devices : List (DeviceDone S R)) (sessions : List (SessionDone S K R))
     (monitors : List MonitorDone) (given : Option G) : Type 0 where

@@ -8,3 +8,4 @@ pub mod Works
 pub mod Units
 pub mod Whole
 pub mod Scopes
+pub mod Lost

@@ -1,4 +1,4 @@
--- Of a device that has ended, or of which a source failed, all that was taken went through its lanes. This project's own.
+-- Of a device that has ended, or was lost by a fault of a source, all that was taken went through its lanes. This project's own.
 use Rattle.std.specs.Prelude.{◌≡◌, ◌⊎◌, List, [], ◌++◌, Option, Some, None}
 use Rattle.gps_fixed.specs.Moment.{Moment}
 use Rattle.gps_lane.specs.Ends.{Putting, Taking}
@@ -16,7 +16,7 @@ use Rattle.serve_workers.specs.EdgeLines.{HandsLines}
 use Rattle.serve_workers.specs.Readings.{HandsOn, IsDevicePiece}
 use Rattle.gps_serve.specs.Starts.{IsUnreadBy}
 
--- the device has ended, or a source of it failed
+-- the device has ended, or was lost by a fault of a source and not for want of memory
 abbrev pub IsOver : Option DeviceEnd → Type 0
 IsOver end = (end ≡ Some Ended) ⊎ (end ≡ Some ReadFault)
 

@@ -14,6 +14,7 @@ ghost use Rattle.serve_threads.specs.Segments.{segments_of};
 ghost use Rattle.serve_threads.specs.Sessions.{SessionRuns};
 ghost use Rattle.gps_serve.specs.AtEnd.{AtEnd, BytesHeld, EdgesHeld, gate_facts, sink_facts, told_in, told_of};
 ghost use Rattle.gps_serve.specs.Doors.{IsNewLink, Tended, door_now};
+ghost use Rattle.gps_serve.specs.Lost.{NoneLost};
 ghost use Rattle.gps_serve.specs.Runs.{DeviceReads, DevicesRan, IsLeftOf};
 ghost use Rattle.gps_serve.specs.Starts.{IsFreshDevice, edges_at, sources_at};
 ghost use Rattle.gps_serve.specs.Statuses.{AllEnded, HasStopped};
@@ -174,6 +175,7 @@ fn gather<W: World, J: HubNaming, D: Dials, R: Wait + Copy>(
     ensures seven { result.status ≡ 7 → result.no_memory ≡ true }
     ensures zero { result.status ≡ 0 → result.no_memory ≡ false }
     ensures ended { result.status ≡ 0 → AllEnded result.devices.items }
+    ensures lacks { result.no_memory ≡ false → IfSome result.book (λ book. NoneLost book result.devices.items) }
     ensures left { AllZip IsLeftOf ended.runs.items result.devices.items }
     ensures at_end { IfSome result.book (λ book. AtEnd (told_of J.terms numbers.queue numbers.tries) D.may (source_facts W.In.content W.In.faults W.In.quiets) (sink_facts W.Out.written W.Out.faults) (gate_facts W.Gate.links W.Gate.faults W.Gate.quiets) (W.Gate.links first.value) result.full result.no_memory book result.devices.items result.sessions.items result.monitors.items result.gate) }
 {
@@ -205,6 +207,7 @@ fn gather<W: World, J: HubNaming, D: Dials, R: Wait + Copy>(
         runs.as_slice(),
         session_runs.as_slice(),
         watched.as_slice(),
+        ends.as_slice(),
     );
     let ended = all_ended(ends.as_slice());
     let DevicesDone {
@@ -307,6 +310,7 @@ fn run<
     ensures seven { result.status ≡ 7 → result.no_memory ≡ true }
     ensures zero { result.status ≡ 0 → (result.no_memory ≡ false) × IsSome result.book }
     ensures ended { result.status ≡ 0 → AllEnded result.devices.items }
+    ensures lacks { result.no_memory ≡ false → IfSome result.book (λ book. NoneLost book result.devices.items) }
     ensures none { result.book ≡ None → result.status ≡ 7 }
     ensures reads { IsSome result.book → AllZip (DeviceReads (source_facts W.In.content W.In.faults W.In.quiets)) ground.lanes.starts.items result.devices.items }
     ensures at_end { IfSome result.book (λ book. AtEnd (told_of J.terms numbers.queue numbers.tries) D.may (source_facts W.In.content W.In.faults W.In.quiets) (sink_facts W.Out.written W.Out.faults) (gate_facts W.Gate.links W.Gate.faults W.Gate.quiets) (W.Gate.links gate) result.full result.no_memory book result.devices.items result.sessions.items result.monitors.items result.gate) }
@@ -361,6 +365,7 @@ pub fn serve<W: World, R: Threads + Wait + Copy + Send + Sync>(
     ensures seven { result.status ≡ 7 → result.no_memory ≡ true }
     ensures zero { result.status ≡ 0 → (result.no_memory ≡ false) × IsSome result.book }
     ensures ended { result.status ≡ 0 → AllEnded result.devices.items }
+    ensures lacks { result.no_memory ≡ false → IfSome result.book (λ book. NoneLost book result.devices.items) }
     ensures none { result.book ≡ None → ((result.status ≡ 3) × Rose (W.input_faults world) (W.input_faults result.world)) ⊎ ((result.status ≡ 8) × Rose (W.listen_faults world) (W.listen_faults result.world)) ⊎ (result.status ≡ 7) }
     ensures at_end { IfSome result.book (λ book. AtEnd (told_in plan) (dial_of (W.stamps world)) (source_facts W.In.content W.In.faults W.In.quiets) (sink_facts W.Out.written W.Out.faults) (gate_facts W.Gate.links W.Gate.faults W.Gate.quiets) (W.links world) result.full result.no_memory book result.devices.items result.sessions.items result.monitors.items result.gate) }
     ensures whole { IsSome result.book → All (IsWhole (dial_of (W.stamps world)) (source_facts W.In.content W.In.faults W.In.quiets)) result.devices.items }

@@ -1,6 +1,7 @@
 ghost use Rattle.std.specs.Prelude.{◌≡◌, ◌⊎◌, ◌||◌, true, false};
-ghost use Rattle.std.specs.List.{list_all};
+ghost use Rattle.std.specs.List.{All, list_all};
 ghost use Rattle.hub_laws.specs.Given.{is_end};
+ghost use Rattle.gps_serve.specs.Lost.{IsNotCut, IsNotLost, is_cut, is_lost};
 ghost use Rattle.gps_serve.specs.Statuses.{EachWhole, lacks_memory};
 
 use gps_hub::{DeviceEnd, Ending};
@@ -32,7 +33,8 @@ pub(crate) struct Outcome {
 }
 
 impl Outcome {
-    /// Whether want of memory was met: a device that was lost without a fault was lost by it.
+    /// Whether want of memory was met: it was seen, or a device was lost though no source failed. Where one failed, a device that was lost
+    /// for want of memory is among what was seen.
     pub(crate) fn lacks(&self) -> bool
         ensures { result ≡ lacks_memory self.now }
     {
@@ -89,21 +91,49 @@ pub(crate) fn all_ended(ends: &[Option<DeviceEnd>]) -> bool
     ends.iter().all(|end| *end == Some(DeviceEnd::Ended))
 }
 
-/// Whether want of memory ended a reader of a session, or closed a session.
-fn session_lacks<S: Source, K: Sink, R: Wait + Copy>(
-    book: &Book<Tx<Item, R>>,
-    runs: &[SessionRun<S, K, R>],
-) -> bool {
+/// Whether a device was lost for want of memory.
+fn is_lost(end: Option<DeviceEnd>) -> bool
+    ensures { result ≡ is_lost end }
+{
+    end == Some(DeviceEnd::NoMemory)
+}
+
+/// Whether want of memory lost a device.
+#[tactic(auto, using(crate::proofs::Lost::none_lost))]
+fn ends_lack(ends: &[Option<DeviceEnd>]) -> bool
+    ensures kept { result ≡ false → All IsNotLost ends.now }
+{
+    ends.iter().any(|end| is_lost(*end))
+}
+
+/// Whether want of memory ended a reader of a session.
+fn session_lacks<S: Source, K: Sink, R: Wait + Copy>(runs: &[SessionRun<S, K, R>]) -> bool {
     let mut lacks = false;
     for run in runs {
         if reader_lacked(&run.reader) {
             lacks = true;
         }
     }
-    for session in 0..book.opened() {
-        if let Some((_, Close::NoMemory)) = book.closing(session) {
-            lacks = true;
-        }
+    lacks
+}
+
+/// Whether a session was closed for want of memory.
+fn is_cut(closing: Option<(u64, Close)>) -> bool
+    ensures { result ≡ is_cut closing }
+{
+    match closing {
+        Some((_, why)) => why == Close::NoMemory,
+        None => false,
+    }
+}
+
+/// Whether the book closed a session for want of memory.
+fn book_lacks<R: Wait + Copy>(book: &Book<Tx<Item, R>>) -> bool
+    ensures kept { result ≡ false → All (λ session. IsNotCut session.session.closing) book.now.sessions }
+{
+    let mut lacks = false;
+    'sessions: for session in 0..book.opened() {
+        lacks = either(lacks, is_cut(book.closing(session)));
     }
     lacks
 }
@@ -115,16 +145,23 @@ fn are_whole(watched: &[WatchDone]) -> bool
     watched.iter().all(|watch| watch.whole)
 }
 
-/// Whether want of memory was met: at an admission, or by a thread, or by the book for a session.
+/// Whether want of memory was met: at an admission, or by a thread, or by the book for a session or a device.
 pub(crate) fn lacked<S: Source, K: Sink, R: Wait + Copy>(
     before: bool,
     book: &Book<Tx<Item, R>>,
     runs: &[DeviceRun<S, R>],
     session_runs: &[SessionRun<S, K, R>],
     watched: &[WatchDone],
+    ends: &[Option<DeviceEnd>],
 ) -> bool
     ensures whole { result ≡ false → EachWhole watched.now }
     ensures before { result ≡ false → before ≡ false }
+    ensures devices { result ≡ false → All IsNotLost ends.now }
+    ensures sessions { result ≡ false → All (λ session. IsNotCut session.session.closing) book.now.sessions }
 {
-    before || device_lacks(runs) || session_lacks(book, session_runs) || !are_whole(watched)
+    let by_book = either(ends_lack(ends), book_lacks(book));
+    let by_threads = either(device_lacks(runs), session_lacks(session_runs));
+    let met = either(by_book, by_threads);
+    let since = either(met, !are_whole(watched));
+    either(before, since)
 }

@@ -4,9 +4,10 @@ use Rattle.hub_laws.specs.Given.{is_end}
 use Rattle.hub_laws.specs.Keeping.{IsClosed}
 use Rattle.serve_settling.specs.Runs.{source_facts}
 use Rattle.gps_serve.specs.AtEnd.{gate_facts, sink_facts}
+use Rattle.gps_serve.specs.Lost.{IsNotLost}
 use Rattle.gps_serve.specs.Statuses.{EachWhole, HasStopped}
 use Rattle.gps_serve.specs.Units.{AreAtRest}
-use Rattle.gps_serve.proofs.Gates.{gate_served}
+use Rattle.gps_serve.proofs.Gates.{gate_served, none_lost_in}
 use Rattle.report_book.specs.BookView.{BookView}
 use Rattle.gps_serve.proofs.Ends.{all_ended_by, at_end_of, devices_by, ends_count, monitors_by, not_lacked, units_few}
 use Rattle.gps_serve.proofs.Sessions.{sessions_ready}
@@ -33,7 +34,14 @@ monitors_done-monitors-requires-clause-few g c =
 
 pub returns-clause-ended : goal.returns-clause-ended
 returns-clause-ended g c e =
-    all_ended_by _ _ c.devices_done-devices.ensures.ends (ap (list_all is_end) (sym c.as_slice-4.ensures.value) ∙ sym c.all_ended-ended.ensures ∙ (c.status.ensures.zero e).1)
+    all_ended_by _ _ c.devices_done-devices.ensures.ends (ap (list_all is_end) (sym c.as_slice-5.ensures.value) ∙ sym c.all_ended-ended.ensures ∙ (c.status.ensures.zero e).1)
+
+pub returns-clause-lacks : goal.returns-clause-lacks
+returns-clause-lacks g c e =
+    let none = not_lacked c.lacked-no_memory.result _ c.lacks.result c.lacks.ensures e in
+    none_lost_in c.part-book.result.book _ _ _ _ c.sessions_done-sessions.ensures.book c.monitors_done-monitors.ensures.book c.devices_done-devices.ensures.ends
+    (subst (All IsNotLost) c.as_slice-4.ensures.value (c.lacked-no_memory.ensures.devices none))
+    (c.lacked-no_memory.ensures.sessions none)
 
 pub returns-clause-at_end : goal.returns-clause-at_end
 returns-clause-at_end g c =

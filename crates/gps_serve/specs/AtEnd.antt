@@ -104,7 +104,8 @@ abbrev pub sink_facts : {K : Type 0} → (K → Option (List ℕ)) → (K → �
 sink_facts written faults = record { written = written; faults = faults }
 
 -- What is left of a session's outlet: its receiving end, which has the name that the book knows. The items that were got of it begin those that the
--- book gave it, and are all of them where the session was drained. Their bytes were written to its sink, to which nothing was written before; all of them, unless the sink failed.
+-- book gave it, and are all of them where the session was drained. Their bytes were written to its sink, to which nothing was written before; all
+-- of them, unless the sink failed.
 pub record OutletServed {S K R : Type 0} (facts : SinkFacts K) (a : Attendance) (done : SessionDone S K R) : Type 0 where
   pub first : K
   pub unwritten : IsUnwritten (facts.written first) (facts.faults first)
@@ -142,7 +143,8 @@ ReadsLink facts way done = Goes TakesFirst (facts.content way.0) (facts.content 
 
 -- What is left of the door. The links that were taken are the next of those that it told, and no fewer than the sessions; where memory was not wanting
 -- and the count of dropped ones did not reach its greatest value, they are as many as the sessions and those that were dropped; and none was dropped
--- because too many were there before 64 were admitted. Where none was dropped, session k has the k-th. It was asked; and it is said to have closed or failed only where no link is left or its faults rose.
+-- because too many were there before 64 were admitted. Where none was dropped, session k has the k-th. It was asked; and it is said to have closed or
+-- failed only where no link is left or its faults rose.
 pub record GateServed {G S K R : Type 0} (sources : SourceFacts S) (gates : GateFacts G S K) (told : Option (List (Way S K))) (full : ℕ) (no_memory done : Bool)
     (sessions : List (SessionDone S K R)) (gate : G) : Type 0 where
   pub taken : List (Way S K)

@@ -48,6 +48,9 @@ impl Outcome {
         ensures eight { result ≡ 8 → self.now.door_fault ≡ true }
         ensures seven { result ≡ 7 → lacks_memory self.now ≡ true }
         ensures zero { result ≡ 0 → (lacks_memory self.now ≡ false) × (self.now.ended ≡ true) }
+        ensures zero_door { result ≡ 0 → self.now.door_fault ≡ false }
+        ensures eight_first { result ≡ 8 → self.now.read_fault ≡ false }
+        ensures seven_last { result ≡ 7 → (self.now.read_fault ≡ false) × (self.now.door_fault ≡ false) }
     {
         if self.read_fault {
             3

@@ -9,6 +9,7 @@ ghost use Rattle.serve_parts.specs.Plans.{IsPlan};
 ghost use Rattle.serve_settling.specs.Failing.{DeviceFailed, SomeFailed, SourceFailed};
 ghost use Rattle.serve_settling.specs.Runs.{source_facts};
 ghost use Rattle.gps_serve.specs.AtEnd.{AtEnd, gate_facts, sink_facts, told_in};
+ghost use Rattle.gps_serve.specs.Lost.{NoneLost};
 ghost use Rattle.gps_serve.specs.Statuses.{AllEnded};
 ghost use Rattle.gps_serve.specs.Whole.{IsWhole};
 ghost use Rattle.gpsrelay.specs.Served.{AsksFor, AsksWhole, HaveEdges, HeldBehind, edge_place_of, place_of, places_of, told_by};
@@ -141,6 +142,7 @@ pub fn serve_main<W: World, R: Threads + Wait + Copy + Send + Sync>(
     ensures seven { result.status ≡ 7 → result.no_memory ≡ true }
     ensures zero { result.status ≡ 0 → (result.no_memory ≡ false) × IsSome result.book }
     ensures ended { result.status ≡ 0 → AllEnded result.devices.items }
+    ensures lacks { result.no_memory ≡ false → IfSome result.book (λ book. NoneLost book result.devices.items) }
     ensures none { result.book ≡ None → (result.status ≡ 2) ⊎ ((result.status ≡ 3) × Rose (W.input_faults world) (W.input_faults result.world)) ⊎ ((result.status ≡ 8) × Rose (W.listen_faults world) (W.listen_faults result.world)) ⊎ (result.status ≡ 7) }
     ensures asked { AsksFor (serve_asked_of (map string_bytes words.now)) (W.asked result.world) }
     ensures all_asked { IsSome result.book → IfSome (serve_asked_of (map string_bytes words.now)) (AsksWhole (W.asked result.world)) }

@@ -5,38 +5,91 @@ use lib.ListN.{get_elem?}
 use Rattle.crossbeam_queue.specs.Fifo.{Held, Pushes, Pops, Forks, Merges, Learns}
 use Rattle.crossbeam_queue.proofs.Lists.{at_set, at_snoc}
 use Rattle.gps_lane.specs.declared.order.Log.{Log}
-use Rattle.gps_lane.specs.Lane.{log, BeginsWith, EndsWith, Fits, IsInOrder}
+use Rattle.gps_lane.specs.Lane.{log, AllFit, BeginsWith, EndsWith, Fits, IsInOrder}
 
-module _ {T : Type 0} where
-  at_end : (l : List (Log T)) (a b : Log T) (j : ℕ) → get_elem? l j ≢ some b → get_elem? (l ++ a ∷ []) j ≡ some b → j ≡ length l
+-- what an end of a queue knows
+abbrev Items : Type 0 → Type 0
+Items T = Log (List T)
+
+module _ {X : Type 0} where
+  at_end : (l : List (Log X)) (a b : Log X) (j : ℕ) → get_elem? l j ≢ some b → get_elem? (l ++ a ∷ []) j ≡ some b → j ≡ length l
   at_end [] a b zero n e = refl
   at_end [] a b (suc j) n e = absurd (some-ne-none b (sym e))
   at_end (x ∷ xs) a b zero n e = absurd (n e)
   at_end (x ∷ xs) a b (suc j) n e = ap suc (at_end xs a b j n e)
 
-  abbrev All : (ℕ → Log T → Type 0) → List (Log T) → Type 0
-  All F views = (end : ℕ) (v : Log T) → get_elem? views end ≡ some v → F end v
+  abbrev pub All : (ℕ → Log X → Type 0) → List (Log X) → Type 0
+  All F views = (end : ℕ) (v : Log X) → get_elem? views end ≡ some v → F end v
 
-  all_set : (F : ℕ → Log T → Type 0) (views : List (Log T)) (end : ℕ) (w : Log T) → F end w
-      → ((j : ℕ) (u : Log T) → j ≢ end → get_elem? views j ≡ some u → F j u) → All F (set views end w)
+  pub all_set : (F : ℕ → Log X → Type 0) (views : List (Log X)) (end : ℕ) (w : Log X) → F end w
+      → ((j : ℕ) (u : Log X) → j ≢ end → get_elem? views j ≡ some u → F j u) → All F (set views end w)
   all_set F views end w mine others j u e =
-      ⊎_elim (λ (x : (j ≡ end) × (w ≡ u)). subst (λ (y : ℕ × Log T). F y.0 y.1) (λ i. (sym x.0 i, x.1 i)) mine)
+      ⊎_elim (λ (x : (j ≡ end) × (w ≡ u)). subst (λ (y : ℕ × Log X). F y.0 y.1) (λ i. (sym x.0 i, x.1 i)) mine)
       (λ (x : (j ≢ end) × (get_elem? views j ≡ some u)). others j u x.0 x.1) (at_set views end j w u e)
 
-  pub begins : IsInOrder {T = T} [] (log true true [] [] ∷ [])
-  begins = (
-    0,
-    0,
-    [],
-    [],
-    refl,
-    all_set (Fits 0 0 [] []) (log true true [] [] ∷ []) 0 (log true true [] []) ((λ _. (refl, refl)), λ _. (refl, refl))
-        (λ j u other e. absurd (other (at_end [] _ u j (λ x. some-ne-none u (sym x)) e))),
-  )
+  -- one end alone
+  pub one_fits : (put got : X) → AllFit 0 0 put got (log true true put got ∷ [])
+  one_fits put got =
+      all_set (Fits 0 0 put got) (log true true put got ∷ []) 0 (log true true put got) ((λ _. (refl, refl)), λ _. (refl, refl))
+      (λ j u other e. absurd (other (at_end [] _ u j (λ x. some-ne-none u (sym x)) e)))
 
-  pub puts : (n end : ℕ) (v : Log T) (x : T) → v.puts ≡ true → Pushes IsInOrder n end v x (λ w. w ≡ log v.puts v.gets (v.put ++ x ∷ []) v.got)
+  -- the role of getting passes to a new end
+  pub parted : (writer reader : ℕ) (put got : X) (views : List (Log X)) (end : ℕ) (v : Log X) (x y : X)
+      → v.gets ≡ true → AllFit writer reader put got views → get_elem? views end ≡ some v
+      → AllFit writer (length (set views end (log v.puts false v.put x))) put got (set views end (log v.puts false v.put x) ++ log false true y v.got ∷ [])
+  parted writer reader put got views end v x y may fits at =
+      let l : Log X = log v.puts false v.put x in
+      let r : Log X = log false true y v.got in
+      let mine = fits end v at in
+      let vs : List (Log X) = set views end l in
+      let Old : ℕ → Log X → Type 0 = λ j u. (u.puts ≡ true → (j ≡ writer) × (u.put ≡ put)) × (u.gets ≢ true) in
+      let old : All Old vs =
+      all_set Old views end l (mine.0, λ p. true≢false (sym p))
+      (λ j u other e. ((fits j u e).0, λ p. other (((fits j u e).1 p).0 ∙ sym (mine.1 may).0))) in
+      λ j u e. ⊎_elim (λ found. ((old j u found).0, λ p. absurd ((old j u found).1 p)))
+      (λ (is : r ≡ u). (
+        (λ p. absurd (true≢false (sym (ap (λ (z : Log X). z.puts) is ∙ p)))),
+        λ p. (at_end vs r u j (λ found. (old j u found).1 p) e, ap (λ (z : Log X). z.got) (sym is) ∙ (mine.1 may).1),
+      ))
+      (at_snoc vs r u j e)
+
+  -- and from another end to this one
+  pub joined : (writer reader : ℕ) (put got : X) (views : List (Log X)) (end : ℕ) (v : Log X) (other : ℕ) (u : Log X) (x y : X)
+      → u.gets ≡ true → AllFit writer reader put got views → get_elem? views end ≡ some v → ¬ (other ≡ end)
+      → get_elem? (set views end (log v.puts true v.put u.got)) other ≡ some u
+      → AllFit writer end put got (set (set views end (log v.puts true v.put u.got)) other (log false false x y))
+  joined writer reader put got views end v other u x y may fits at two at' =
+      let both : Log X = log v.puts true v.put u.got in
+      let mine = fits end v at in
+      let vs : List (Log X) = set views end both in
+      let was : get_elem? views other ≡ some u = ⊎_elim (λ found. absurd (two found.0)) (λ found. found.1) (at_set views end other both u at') in
+      let theirs = (fits other u was).1 may in
+      let Now : ℕ → Log X → Type 0 = λ j z. j ≢ other → Fits writer end put got j z in
+      let now : All Now vs =
+      all_set Now views end both (λ _. (mine.0, λ _. (refl, theirs.1)))
+      (λ j z _ e apart. ((fits j z e).0, λ p. absurd (apart (((fits j z e).1 p).0 ∙ sym theirs.0)))) in
+      all_set (Fits writer end put got) vs other (log false false x y) ((λ p. absurd (true≢false (sym p))), λ p. absurd (true≢false (sym p)))
+      (λ j z apart e. now j z e apart)
+
+  -- an end that has both roles knows something else from now on
+  pub tied : (writer reader : ℕ) (put got : X) (views : List (Log X)) (end : ℕ) (v : Log X) (x : X)
+      → v.puts ≡ true → v.gets ≡ true → AllFit writer reader put got views → get_elem? views end ≡ some v
+      → AllFit end end x x (set views end (log true true x x))
+  tied writer reader put got views end v x puts gets fits at =
+      let mine = fits end v at in
+      all_set (Fits end end x x) views end (log true true x x) ((λ _. (refl, refl)), λ _. (refl, refl))
+      (λ j u other e. (
+        (λ p. absurd (other (((fits j u e).0 p).0 ∙ sym (mine.0 puts).0))),
+        λ p. absurd (other (((fits j u e).1 p).0 ∙ sym (mine.1 gets).0)),
+      ))
+
+module _ {T : Type 0} where
+  pub begins : IsInOrder {T = T} [] (log true true [] [] ∷ [])
+  begins = (0, 0, [], [], refl, one_fits [] [])
+
+  pub puts : (n end : ℕ) (v : Items T) (x : T) → v.puts ≡ true → Pushes IsInOrder n end v x (λ w. w ≡ log v.puts v.gets (v.put ++ x ∷ []) v.got)
   puts n end v x may items views _ h at =
-      let w : Log T = log v.puts v.gets (v.put ++ x ∷ []) v.got in
+      let w : Items T = log v.puts v.gets (v.put ++ x ∷ []) v.got in
       let mine = h.5 end v at in
       let put = h.2 ++ x ∷ [] in (
         w,
@@ -52,9 +105,9 @@ module _ {T : Type 0} where
         refl,
       )
 
-  pub gets : (end : ℕ) (v : Log T) → v.gets ≡ true → Pops IsInOrder end v (λ x w. (w ≡ log v.puts v.gets v.put (v.got ++ x ∷ [])) × (v.puts ≡ true → BeginsWith w.got w.put))
+  pub gets : (end : ℕ) (v : Items T) → v.gets ≡ true → Pops IsInOrder end v (λ x w. (w ≡ log v.puts v.gets v.put (v.got ++ x ∷ [])) × (v.puts ≡ true → BeginsWith w.got w.put))
   gets end v may x items views h at =
-      let w : Log T = log v.puts v.gets v.put (v.got ++ x ∷ []) in
+      let w : Items T = log v.puts v.gets v.put (v.got ++ x ∷ []) in
       let mine = h.5 end v at in
       let got = h.3 ++ x ∷ [] in
       let order : h.2 ≡ got ++ items = h.4 ∙ sym (append_assoc h.3 (x ∷ []) items) in (
@@ -72,79 +125,49 @@ module _ {T : Type 0} where
       )
 
   -- the role of getting passes to a new end
-  pub forks : (end : ℕ) (v : Log T) → v.gets ≡ true → Forks IsInOrder end v (log v.puts false v.put []) (log false true [] v.got)
-  forks end v may items views h at =
-      let l : Log T = log v.puts false v.put [] in
-      let r : Log T = log false true [] v.got in
-      let mine = h.5 end v at in
-      let vs : List (Log T) = set views end l in
-      let Old : ℕ → Log T → Type 0 = λ j u. (u.puts ≡ true → (j ≡ h.0) × (u.put ≡ h.2)) × (u.gets ≢ true) in
-      let old : All Old vs =
-      all_set Old views end l (mine.0, λ p. true≢false (sym p))
-      (λ j u other e. ((h.5 j u e).0, λ p. other (((h.5 j u e).1 p).0 ∙ sym (mine.1 may).0))) in (
-        h.0,
-        length vs,
-        h.2,
-        h.3,
-        h.4,
-        λ j u e. ⊎_elim (λ x. ((old j u x).0, λ p. absurd ((old j u x).1 p)))
-            (λ (is : r ≡ u). (
-              (λ p. absurd (true≢false (sym (ap (λ (y : Log T). y.puts) is ∙ p)))),
-              λ p. (at_end vs r u j (λ x. (old j u x).1 p) e, ap (λ (y : Log T). y.got) (sym is) ∙ (mine.1 may).1),
-            ))
-            (at_snoc vs r u j e),
-      )
+  pub forks : (end : ℕ) (v : Items T) → v.gets ≡ true → Forks IsInOrder end v (log v.puts false v.put []) (log false true [] v.got)
+  forks end v may items views h at = (
+    h.0,
+    length (set views end (log v.puts false v.put [])),
+    h.2,
+    h.3,
+    h.4,
+    parted h.0 h.1 h.2 h.3 views end v [] [] may h.5 at,
+  )
 
   -- and from another end to this one
-  pub merges : (end : ℕ) (v : Log T) (other : ℕ) (u : Log T) → u.gets ≡ true
+  pub merges : (end : ℕ) (v : Items T) (other : ℕ) (u : Items T) → u.gets ≡ true
       → Merges IsInOrder end v other u (log v.puts true v.put u.got) (log false false [] [])
-  merges end v other u may items views h at two at' =
-      let both : Log T = log v.puts true v.put u.got in
-      let mine = h.5 end v at in
-      let vs : List (Log T) = set views end both in
-      let was : get_elem? views other ≡ some u = ⊎_elim (λ x. absurd (two x.0)) (λ x. x.1) (at_set views end other both u at') in
-      let theirs = (h.5 other u was).1 may in
-      let Now : ℕ → Log T → Type 0 = λ j y. j ≢ other → Fits h.0 end h.2 h.3 j y in
-      let now : All Now vs =
-      all_set Now views end both (λ _. (mine.0, λ _. (refl, theirs.1)))
-      (λ j y _ e apart. ((h.5 j y e).0, λ p. absurd (apart (((h.5 j y e).1 p).0 ∙ sym theirs.0)))) in (
-        h.0,
-        end,
-        h.2,
-        h.3,
-        h.4,
-        all_set (Fits h.0 end h.2 h.3) vs other (log false false [] []) ((λ p. absurd (true≢false (sym p))), λ p. absurd (true≢false (sym p)))
-            (λ j y apart e. now j y e apart),
-      )
+  merges end v other u may items views h at two at' = (h.0, end, h.2, h.3, h.4, joined h.0 h.1 h.2 h.3 views end v other u [] [] may h.5 at two at')
 
   -- what the lane holds is the last of what was put
-  pub holds_last : (end : ℕ) (v : Log T) → v.puts ≡ true → Learns IsInOrder end v (λ items. EndsWith items v.put)
+  pub holds_last : (end : ℕ) (v : Items T) → v.puts ≡ true → Learns IsInOrder end v (λ items. EndsWith items v.put)
   holds_last end v may items views h at = (h.3, ((h.5 end v at).0 may).1 ∙ h.4)
 
   -- where one end puts and gets, it knows what the lane holds
-  pub holds_rest : (end : ℕ) (v : Log T) → v.gets ≡ true → Learns IsInOrder end v (λ items. v.puts ≡ true → v.put ≡ v.got ++ items)
+  pub holds_rest : (end : ℕ) (v : Items T) → v.gets ≡ true → Learns IsInOrder end v (λ items. v.puts ≡ true → v.put ≡ v.got ++ items)
   holds_rest end v may items views h at puts =
       let mine = h.5 end v at in
       (mine.0 puts).1 ∙ h.4 ∙ ap (λ l. l ++ items) (sym (mine.1 may).1)
 
   -- what a pop leaves of an end that gets
-  abbrev pub Popped : Option T → Log T → Log T → Type 0
+  abbrev pub Popped : Option T → Items T → Items T → Type 0
   Popped result v w =
       MatchOption result ((w ≡ v) × Held 0 (λ items. v.puts ≡ true → v.put ≡ v.got ++ items))
       (λ x. (w ≡ log v.puts v.gets v.put (v.got ++ x ∷ [])) × (v.puts ≡ true → BeginsWith w.got w.put))
 
-  pub still_gets : (result : Option T) (v w : Log T) → Popped result v w → v.gets ≡ true → w.gets ≡ true
-  still_gets None v w popped may = ap (λ (y : Log T). y.gets) popped.0 ∙ may
-  still_gets (Some x) v w popped may = ap (λ (y : Log T). y.gets) popped.0 ∙ may
+  pub still_gets : (result : Option T) (v w : Items T) → Popped result v w → v.gets ≡ true → w.gets ≡ true
+  still_gets None v w popped may = ap (λ (y : Items T). y.gets) popped.0 ∙ may
+  still_gets (Some x) v w popped may = ap (λ (y : Items T). y.gets) popped.0 ∙ may
 
   nothing_left : (items put got : List T) → length items ≡ 0 → put ≡ got ++ items → put ≡ got
   nothing_left [] put got none e = e ∙ append-nil got
   nothing_left (x ∷ items) put got none e = absurd (omega (arith, none))
 
-  pub all_got : (v w : Log T) → Popped None v w → v.puts ≡ true → w.put ≡ w.got
+  pub all_got : (v w : Items T) → Popped None v w → v.puts ≡ true → w.put ≡ w.got
   all_got v w popped puts =
-      ap (λ (y : Log T). y.put) popped.0 ∙ nothing_left popped.1.0 v.put v.got popped.1.1 (popped.1.2 puts) ∙ sym (ap (λ (y : Log T). y.got) popped.0)
+      ap (λ (y : Items T). y.put) popped.0 ∙ nothing_left popped.1.0 v.put v.got popped.1.1 (popped.1.2 puts) ∙ sym (ap (λ (y : Items T). y.got) popped.0)
 
-  pub got_first : (result : Option T) (v w : Log T) → Popped result v w → v.puts ≡ true → BeginsWith w.got w.put
+  pub got_first : (result : Option T) (v w : Items T) → Popped result v w → v.puts ≡ true → BeginsWith w.got w.put
   got_first None v w popped puts = ([], all_got v w popped puts ∙ sym (append-nil w.got))
   got_first (Some x) v w popped puts = popped.1 puts

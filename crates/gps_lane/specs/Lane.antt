@@ -5,16 +5,20 @@ use mathlib.Core.Option.{some}
 use lib.ListN.{get_elem?}
 use Rattle.gps_lane.specs.declared.order.Log.{Log}
 
-abbrev pub log : {T : Type 0} → Bool → Bool → List T → List T → Log T
+abbrev pub log : {X : Type 0} → Bool → Bool → X → X → Log X
 log puts gets put got = record { puts = puts; gets = gets; put = put; got = got }
 
 -- what an end knows is so, where `writer` is the number of the end that puts, and `reader` that of the end that gets
-abbrev pub Fits : {T : Type 0} → ℕ → ℕ → List T → List T → ℕ → Log T → Type 0
+abbrev pub Fits : {X : Type 0} → ℕ → ℕ → X → X → ℕ → Log X → Type 0
 Fits writer reader put got end v = (v.puts ≡ true → (end ≡ writer) × (v.put ≡ put)) × (v.gets ≡ true → (end ≡ reader) × (v.got ≡ got))
 
-abbrev pub IsInOrder : {T : Type 0} → List T → List (Log T) → Type 0
-IsInOrder {T} items views = (writer : ℕ) × (reader : ℕ) × (put : List T) × (got : List T) × (put ≡ got ++ items)
-    × ((end : ℕ) (v : Log T) → get_elem? views end ≡ some v → Fits writer reader put got end v)
+-- what each end knows is so
+abbrev pub AllFit : {X : Type 0} → ℕ → ℕ → X → X → List (Log X) → Type 0
+AllFit {X} writer reader put got views = (end : ℕ) (v : Log X) → get_elem? views end ≡ some v → Fits writer reader put got end v
+
+abbrev pub IsInOrder : {T : Type 0} → List T → List (Log (List T)) → Type 0
+IsInOrder {T} items views =
+    (writer : ℕ) × (reader : ℕ) × (put : List T) × (got : List T) × (put ≡ got ++ items) × AllFit writer reader put got views
 
 -- these are the last of all
 abbrev pub EndsWith : {T : Type 0} → List T → List T → Type 0

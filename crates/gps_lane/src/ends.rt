@@ -1,14 +1,16 @@
-ghost use Rattle.std.specs.Prelude.{◌≡◌, ◌≤◌, List, [], ◌∷◌, ◌++◌, IfOk, IfNone};
+ghost use Rattle.std.specs.Prelude.{◌≡◌, ◌≤◌, List, [], ◌∷◌, ◌++◌, IfOk, IfNone, true, false};
 ghost use Rattle.std.specs.Option.{option_to_list};
-ghost use Rattle.gps_lane.specs.Lane.{PutAtLeast};
+ghost use Rattle.crossbeam_queue.specs.Passes.{IsPassOf};
+ghost use Rattle.gps_lane.specs.Lane.{BeginsWith, PutAtLeast, log};
 ghost use Rattle.gps_lane.specs.Ends.{MatchPushed};
 
-use crate::order::{Gets, Getting, Log, Puts, Queue};
-use crossbeam_queue::Pass;
+use crate::bond::{BondSeat, BondTable, meet, new_bond, part, untie};
+use crate::order::{Gets, Getting, LanePass, Puts, Queue};
 use gps_fixed::NoMemory;
 use std::alloc::Global;
 use std::marker::Model;
 use std::sync::{Arc, Wait};
+use std::thread::Parker;
 
 /// What a push into a lane answers.
 #[derive(Drop)]
@@ -22,47 +24,59 @@ pub enum Pushed<T> {
 #[derive(Drop)]
 pub struct Tx<T, R> {
     rt: R,
-    queue: Arc<Queue<T>>,
-    pass: Pass<T, Log<T>>,
+    // None where both ends have let go of it.
+    queue: Option<Arc<Queue<T>>>,
+    pass: LanePass<T>,
+    cap: u32,
+    table: BondTable<T>,
+    seat: BondSeat<T>,
 }
 
 impl<T, R> Model for Tx<T, R> {
-    ghost use Rattle.std.specs.Prelude.{◌≡◌, ◌≤◌, true, false, []};
+    ghost use Rattle.std.specs.Prelude.{◌≡◌, ◌≤◌, true, false, [], IfSome};
     ghost use Rattle.std.specs.Arc.{arc_value};
-    ghost use Rattle.crossbeam_queue.specs.Passes.{view, IsPassOf, ruled_capacity};
+    ghost use Rattle.crossbeam_queue.specs.Passes.{IsPassOf, ruled_capacity};
+    ghost use Rattle.gps_lane.specs.Bonds.{IsSeat, bond_by, putting};
     ghost use Rattle.gps_lane.specs.Lane.{log};
     ghost use Rattle.gps_lane.specs.Ends.{Putting};
 
     ghost Value = { Putting T };
 
-    ghost view = { λ s. record { lane = s.pass.table_id; cap = ruled_capacity (arc_value s.queue); put = s.pass.me.0.client.put } };
+    ghost view = { λ s. record { lane = s.table.shared.table_id; cap = s.cap; put = s.pass.me.0.client.put } };
 
-    ghost invariant = { λ s. IsPassOf (arc_value s.queue) s.pass
-        × (s.pass.me.0.client ≡ log true false s.pass.me.0.client.put [])
-        × (1 ≤ ruled_capacity (arc_value s.queue)) };
+    ghost invariant = { λ s. (s.pass.me.0.client ≡ log true false s.pass.me.0.client.put [])
+        × (1 ≤ s.cap)
+        × (s.table.shared.table_id.words ≡ 1)
+        × IfSome s.queue (λ q. IsPassOf (arc_value q) s.pass × (ruled_capacity (arc_value q) ≡ s.cap))
+        × IsSeat s.table.shared.table_id s.seat.table_id s.seat.me (putting (bond_by s.queue s.pass.table_id s.pass.me.0.client.put)) };
 }
 
 /// The end of a lane that gets.
 #[derive(Drop)]
 pub struct Rx<T, R> {
     rt: R,
-    queue: Arc<Queue<T>>,
-    pass: Pass<T, Log<T>>,
+    // None where both ends have let go of it.
+    queue: Option<Arc<Queue<T>>>,
+    pass: LanePass<T>,
+    seat: BondSeat<T>,
+    has_left: bool,
 }
 
 impl<T, R> Model for Rx<T, R> {
-    ghost use Rattle.std.specs.Prelude.{◌≡◌, true, false, []};
+    ghost use Rattle.std.specs.Prelude.{◌≡◌, true, false, [], IfSome};
     ghost use Rattle.std.specs.Arc.{arc_value};
-    ghost use Rattle.crossbeam_queue.specs.Passes.{view, IsPassOf, ruled_capacity};
+    ghost use Rattle.crossbeam_queue.specs.Passes.{IsPassOf};
+    ghost use Rattle.gps_lane.specs.Bonds.{IsSeat, bond_by, getting};
     ghost use Rattle.gps_lane.specs.Lane.{log};
     ghost use Rattle.gps_lane.specs.Ends.{Taking};
 
     ghost Value = { Taking T };
 
-    ghost view = { λ s. record { lane = s.pass.table_id; got = s.pass.me.0.client.got } };
+    ghost view = { λ s. record { lane = s.seat.table_id; got = s.pass.me.0.client.got } };
 
-    ghost invariant = { λ s. IsPassOf (arc_value s.queue) s.pass
-        × (s.pass.me.0.client ≡ log false true [] s.pass.me.0.client.got) };
+    ghost invariant = { λ s. (s.pass.me.0.client ≡ log false true [] s.pass.me.0.client.got)
+        × IfSome s.queue (λ q. IsPassOf (arc_value q) s.pass)
+        × IsSeat s.seat.table_id s.seat.table_id s.seat.me (getting (bond_by s.queue s.pass.table_id s.pass.me.0.client.got)) };
 }
 
 /// A new lane that may hold `cap` items, and its two ends.
@@ -80,29 +94,51 @@ pub fn lane<T: Drop, R: Wait + Copy>(
 {
     let (queue, mut pass) = Queue::<T>::ruled(alloc, cap as usize)?;
     let theirs = queue.another::<Getting>(&mut pass);
+    let (table, seat, their_seat) = new_bond(alloc, &pass)?;
     let queue = Arc::new(alloc, queue)?;
     let other = Arc::try_clone(&queue)?;
-    let tx = Tx { rt, queue, pass };
+    let tx = Tx {
+        rt,
+        queue: Some(queue),
+        pass,
+        cap,
+        table,
+        seat,
+    };
     let rx = Rx {
         rt,
-        queue: other,
+        queue: Some(other),
         pass: theirs,
+        seat: their_seat,
+        has_left: false,
     };
     Ok((tx, rx))
 }
 
+/// Waits for what never comes.
+fn wait_for_ever<T, R: Wait>(rt: &R) -> T
+    ensures { ⊥ }
+{
+    let parker = Parker::new();
+    for _ in rt.forever() {
+        parker.park(rt);
+    }
+    unreachable!()
+}
+
 impl<T: Drop, R: Wait + Copy> Tx<T, R> {
-    /// Puts an item. Full comes only where the lane held as many items as it may at the step of this push.
+    /// Puts an item. Full comes where the lane held as many items as it may at one moment of the call; the clause says that so many were put.
     ///
-    /// Takes no memory. It may wait for a step of the other end inside the queue.
+    /// Takes no memory. It may wait for a step of the other end inside the queue. Nothing can be put any more once both ends have let go of
+    /// the queue ([`settle`]): such a push never returns.
     pub fn push(&mut self, item: T) -> Pushed<T>
         ensures done { MatchPushed result (self.new ≡ record self.old { put = self.old.put ++ item ∷ [] }) (λ back. (back ≡ item) × (self.new ≡ self.old)) }
         ensures full { MatchPushed result (Unit {0}) (λ _. PutAtLeast self.old.cap self.old.put) }
     {
-        match self
-            .queue
-            .push_as::<Puts, R>(&self.rt, &mut self.pass, item)
-        {
+        let Some(queue) = &self.queue else {
+            return wait_for_ever(&self.rt);
+        };
+        match queue.push_as::<Puts, R>(&self.rt, &mut self.pass, item) {
             Ok(()) => Pushed::Done,
             Err(back) => Pushed::Full(back),
         }
@@ -112,23 +148,63 @@ impl<T: Drop, R: Wait + Copy> Tx<T, R> {
     pub fn show(&self)
         ensures { 1 ≤ self.now.cap }
     {
-        let _queue = &self.queue;
+        let _cap = &self.cap;
     }
 }
 
 impl<T: Drop, R: Wait + Copy> Rx<T, R> {
-    /// Gets the next item, or None where the lane holds none. That None comes only then no clause says; [`settle`] does.
+    /// Gets the next item, or None where the lane holds none. No clause says that None comes only then; [`settle`] says it, where both ends
+    /// are at hand.
     ///
     /// Takes no memory. It may wait for a step of the other end inside the queue.
     pub fn pop(&mut self) -> Option<T>
         ensures { self.new ≡ record self.old { got = self.old.got ++ option_to_list result } }
     {
-        self.queue.pop_as::<Gets, R>(&self.rt, &mut self.pass)
+        match &self.queue {
+            Some(queue) => queue.pop_as::<Gets, R>(&self.rt, &mut self.pass),
+            None => None,
+        }
     }
+
+    /// Says that this end has no more use for the lane: from now on a [`settle`] that finds nothing lets both ends go of their queue. Nothing
+    /// may be put into the lane after that, as such a push would never return.
+    pub fn leave(&mut self)
+        ensures { self.new ≡ self.old }
+    {
+        self.has_left = true;
+    }
+}
+
+/// Gets the next item by the passes of both ends of a queue.
+fn next<T: Drop, R: Wait + Copy>(
+    rt: &R,
+    queue: &Queue<T>,
+    tx: &mut LanePass<T>,
+    rx: &mut LanePass<T>,
+) -> Option<T>
+    requires tx { IsPassOf queue.now tx.old }
+    requires rx { IsPassOf queue.now rx.old }
+    requires puts { tx.old.me.0.client ≡ log true false tx.old.me.0.client.put [] }
+    requires gets { rx.old.me.0.client ≡ log false true [] rx.old.me.0.client.got }
+    ensures tx { IsPassOf queue.now tx.new × (tx.new.me.0.client ≡ tx.old.me.0.client) }
+    ensures rx { IsPassOf queue.now rx.new × (rx.new.me.0.client ≡ log false true [] (rx.old.me.0.client.got ++ option_to_list result)) }
+    ensures ids { (tx.new.table_id ≡ tx.old.table_id) × (rx.new.table_id ≡ rx.old.table_id) }
+    ensures prefix { BeginsWith rx.new.me.0.client.got tx.new.me.0.client.put }
+    ensures all { IfNone result (rx.new.me.0.client.got ≡ tx.new.me.0.client.put) }
+{
+    let lent = queue.another::<Getting>(rx);
+    queue.absorb::<Getting>(tx, lent);
+    let item = queue.pop_as::<Gets, R>(rt, tx);
+    let back = queue.another::<Getting>(tx);
+    queue.absorb::<Getting>(rx, back);
+    item
 }
 
 /// Gets the next item where both ends of a lane are at hand. What was got is then a prefix of what was put, and all of
 /// it where there was none to get. Takes no memory.
+///
+/// Where there was none and the end that gets has left ([`Rx::leave`]), both ends let go of the queue. So a lane of which no more use is made
+/// keeps one word, and can still be settled. No clause speaks of this.
 pub fn settle<T: Drop, R: Wait + Copy>(tx: &mut Tx<T, R>, rx: &mut Rx<T, R>) -> Option<T>
     requires { rx.old.lane ≡ tx.old.lane }
     ensures tx { tx.new ≡ tx.old }
@@ -136,10 +212,16 @@ pub fn settle<T: Drop, R: Wait + Copy>(tx: &mut Tx<T, R>, rx: &mut Rx<T, R>) -> 
     ensures prefix { (rest : List T) × (tx.new.put ≡ rx.new.got ++ rest) }
     ensures all { IfNone result (rx.new.got ≡ tx.new.put) }
 {
-    let lent = rx.queue.another::<Getting>(&mut rx.pass);
-    tx.queue.absorb::<Getting>(&mut tx.pass, lent);
-    let item = tx.queue.pop_as::<Gets, R>(&tx.rt, &mut tx.pass);
-    let back = tx.queue.another::<Getting>(&mut tx.pass);
-    rx.queue.absorb::<Getting>(&mut rx.pass, back);
+    meet(&tx.table, &mut tx.seat, &mut rx.seat);
+    let item = match &tx.queue {
+        Some(queue) => next(&tx.rt, queue, &mut tx.pass, &mut rx.pass),
+        None => None,
+    };
+    if item.is_none() && rx.has_left {
+        untie(&tx.table, &mut tx.seat, &tx.pass);
+        tx.queue = None;
+        rx.queue = None;
+    }
+    rx.seat = part(&tx.table, &mut tx.seat);
     item
 }

@@ -3,11 +3,14 @@
 #![tactic(auto)]
 
 mod bell;
+mod bond;
 mod ends;
 mod order;
 mod outlet;
+mod table_name;
 #[cfg(test)]
 mod tests;
 
 pub use bell::Bell;
 pub use ends::{Pushed, Rx, Tx, lane, settle};
+pub use table_name::TableName;

@@ -28,6 +28,27 @@ fn a_lane_of_two_is_full_after_two(rt: HostRuntime) -> Result<(), Fail> {
     Ok(())
 }
 
+#[test]
+fn a_lane_whose_ends_stay_goes_on_after_it_was_empty(rt: HostRuntime) -> Result<(), Fail> {
+    let (mut tx, mut rx) = lane(rt, rt.alloc(), 2)?;
+    assert_eq!(rt; settle(&mut tx, &mut rx), None);
+    assert_eq!(rt; back_of(tx.push(1)), None);
+    assert_eq!(rt; settle(&mut tx, &mut rx), Some(1));
+    Ok(())
+}
+
+#[test]
+fn ends_that_have_left_can_still_be_settled(rt: HostRuntime) -> Result<(), Fail> {
+    let (mut tx, mut rx) = lane(rt, rt.alloc(), 2)?;
+    assert_eq!(rt; back_of(tx.push(1)), None);
+    rx.leave();
+    assert_eq!(rt; settle(&mut tx, &mut rx), Some(1));
+    assert_eq!(rt; settle(&mut tx, &mut rx), None);
+    assert_eq!(rt; rx.pop(), None);
+    assert_eq!(rt; settle(&mut tx, &mut rx), None);
+    Ok(())
+}
+
 /// By these one thread says that an item came, and the other that there is room.
 #[derive(Drop)]
 struct Bells {

@@ -3,9 +3,9 @@
 use Rattle.std.specs.Prelude.{ℕ, Bool, true, false, ◌||◌, List, [], ◌∷◌, ◌++◌}
 use Rattle.std.specs.List.{flat_map, list_any}
 use Rattle.atomic_table.specs.Seated.{TableId}
+use Rattle.gps_lane.specs.Bonds.{table_name}
 use Rattle.hub_door.specs.declared.view.Entry.{Entry}
 use Rattle.hub_door.specs.declared.view.Entry.TheVariants.{Link as LinkEntry, Done}
-use Rattle.hub_door.specs.declared.view.LaneName.{LaneName}
 
 -- a session's outlet lane, with the number of items that may stand in it, and its input lane
 pub record Link : Type 0 where
@@ -31,11 +31,8 @@ is_done Done = true
 abbrev pub admissions : List Entry → Admissions
 admissions list = record { links = flat_map links_in list; done = list_any is_done list }
 
-abbrev pub lane_name : TableId → LaneName
-lane_name lane = record { marker = record {}; name = lane }
-
 abbrev pub entry_of : Link → Entry
-entry_of link = LinkEntry (lane_name link.outlet) link.cap (lane_name link.input)
+entry_of link = LinkEntry (table_name link.outlet) link.cap (table_name link.input)
 
 -- one more session
 abbrev pub admitting : Link → Admissions → Admissions

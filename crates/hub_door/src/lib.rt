@@ -16,4 +16,4 @@ pub use naming::DoorNaming;
 pub use plays::Entering;
 pub use seat::DoorSeat;
 pub use table::DoorTable;
-pub use view::{DoorView, Entry, LaneName};
+pub use view::{DoorView, Entry};

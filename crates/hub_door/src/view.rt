@@ -1,27 +1,13 @@
-ghost use Rattle.atomic_table.specs.Seated.{TableId, table_id_coded};
-
+use gps_lane::TableName;
 use std::collections::LinkedList;
-use std::marker::{Model, PhantomData};
-
-/// Which lane it is. It exists in proofs alone: no value of it is made.
-pub struct LaneName {
-    marker: PhantomData<()>,
-    pub ghost name: { TableId } by { table_id_coded },
-}
-
-impl Model for LaneName {
-    ghost use base.Fml.{ftrue};
-
-    ghost also_owns = { λ _. ftrue };
-}
 
 /// What the hub noted of its door. It exists in proofs alone.
 pub enum Entry {
     /// A session was admitted, with these two lanes; so many items may stand in the first.
     Link {
-        outlet: LaneName,
+        outlet: TableName,
         cap: u32,
-        input: LaneName,
+        input: TableName,
     },
     /// The door has closed or failed.
     Done,

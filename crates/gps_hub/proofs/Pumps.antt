@@ -1,6 +1,6 @@
 -- What a look at a device or a session answers, from what it did to the lanes.
-use Rattle.std.proofs.Common.{◌≡◌, ◌<◌, ◌≤◌, ℕ, zero, suc, Bool, true, false, List, [], ◌∷◌, ◌++◌, length, get_or, set, Option, Some, None, refl, sym, ap, ◌∙◌, subst, inl, inr, ◌⊎◌, ⊎_elim, arith, get_or-set_same}
-use Rattle.std.specs.Prelude.{is_some, option_map, MatchOption}
+use Rattle.std.proofs.Common.{◌≡◌, ◌<◌, ◌≤◌, ℕ, zero, suc, Bool, true, false, List, [], ◌∷◌, ◌++◌, length, get_or, set, Option, Some, None, refl, sym, ap, ◌∙◌, subst, inl, inr, ◌⊎◌, ⊎_elim, arith, get_or-set_same, get_or-set_other}
+use Rattle.std.specs.Prelude.{is_some, option_map, IfNone, MatchOption}
 use Rattle.std.proofs.lemmas.List.{get_or_default, set-get_or}
 use Rattle.book_sessions.specs.Attendance.{Attendance}
 use Rattle.book_sessions.specs.Roster.{IsOpenAt}
@@ -8,6 +8,7 @@ use Rattle.gps_lane.specs.Ends.{Taking}
 use Rattle.report_book.specs.BookView.{BookView}
 use Rattle.report_book.specs.Moves.{HangsUp}
 use Rattle.session_core.specs.declared.mark.Close.{Close}
+use Rattle.session_core.specs.declared.mark.Close.TheVariants.{NoMemory as CloseNoMemory}
 use Rattle.serve_pieces.specs.declared.piece.Piece.{Piece}
 use Rattle.hub_laws.specs.declared.ends.DeviceEnd.{DeviceEnd}
 use Rattle.hub_laws.specs.DaemonHub.{MayGoOn}
@@ -15,7 +16,7 @@ use Rattle.hub_laws.specs.Parts.{HubView, Lanes, names_of, parts_of}
 use Rattle.hub_laws.specs.Steps.{with_bytes, with_edge, with_got}
 use Rattle.gps_hub.specs.declared.pumped.Pumped.{Pumped}
 use Rattle.gps_hub.specs.declared.pumped.Pumped.TheVariants.{Fed, Empty, Waiting, Done, Refused}
-use Rattle.gps_hub.specs.Pumping.{ClosedBy, DevicePumped, GoesOn, GotInput, GotOne, Looked, LookedAt, SessionPumped}
+use Rattle.gps_hub.specs.Pumping.{ClosedBy, DevicePumped, GetsInput, GoesOn, GotOne, KeepsOtherInputs, KeepsOthers, Looked, LookedAt, SessionPumped, TookInput}
 
 pub none_of : {X : Type 0} (o : Option X) → false ≡ is_some o → o ≡ None
 none_of None e = refl
@@ -27,6 +28,10 @@ running_is ends at seen end lt s e none = e ∙ get_or_default ends at end seen 
 pub match_none : {X : Type 0} (r : Option X) (P : Type 0) (Q : X → Type 0) → MatchOption r P Q → ((x : X) → r ≡ Some x → ⊥) → P
 match_none None P Q is not = is
 match_none (Some x) P Q is not = absurd (not x refl)
+
+pub none_so : {X : Type 0} {P Q : Type 0} (r : Option X) → IfNone r P → (P → Q) → IfNone r Q
+none_so None is so = so is
+none_so (Some x) is so = tt
 
 edge_names : (piece : Piece) (o : Option (Taking Piece)) → option_map (λ (y : Taking Piece). y.lane) (option_map (with_got piece) o) ≡ option_map (λ (y : Taking Piece). y.lane) o
 edge_names piece None = refl
@@ -75,13 +80,30 @@ module _ (h : HubView) (d : ℕ) (book : BookView) (x y : Lanes) (was end : Opti
   device_pumped (Refused fault) goes looked empty =
       (goes, got_there looked.0, looked.1, get_or-set_same h.ends d end None ends_lt ∙ looked.2)
 
-module _ (h : HubView) (s : ℕ) (book : BookView) (x y : Taking Piece) (lt : s < length h.inputs) (here : get_or h.inputs s x ≡ x) where
-  input_there : GotInput x y → (free : Taking Piece) → GotInput (get_or h.inputs s free) (get_or (set h.inputs s y) s free)
-  input_there one free =
-      subst (λ (t : Taking Piece × Taking Piece). GotInput t.0 t.1) (λ i. ((sym here ∙ get_or_default h.inputs s x free lt) i, sym (get_or-set_same h.inputs s y free lt) i)) one
+  pub other_devices : KeepsOthers d h after
+  other_devices = record {
+    inlets = λ e free other. get_or-set_other h.inlets d e y free other;
+    ends = λ e free other. get_or-set_other h.ends d e end free other;
+    same = refl;
+  }
 
-  pub session_pumped : (r : Pumped) → IsOpenAt s h.book.sessions → LookedAt r x y book s → (r ≡ Empty → book ≡ h.book) → SessionPumped r s h (record h { book = book; inputs = set h.inputs s y })
-  session_pumped Fed goes looked empty = (goes, input_there looked)
+-- a session that was hung up is closed for that reason
+pub hung_closed : (s : ℕ) (why : Close) (old new : BookView) → s < length old.sessions → HangsUp s why old new → (free : Attendance) → ClosedBy why (get_or new.sessions s free)
+hung_closed s why old new lt hangs free = (
+  old.log.length,
+  ap (λ (l : List Attendance). (get_or l s free).session.closing) hangs.session.1
+      ∙ ap (λ (a : Attendance). a.session.closing) (get_or-set_same old.sessions s hangs.session.0 free lt ∙ (hangs.session.2 free).becomes),
+)
+
+module _ (h : HubView) (s : ℕ) (book : BookView) (x y : Taking Piece) (lt : s < length h.inputs) (there : s < length h.book.sessions) (here : get_or h.inputs s x ≡ x) where
+  abbrev heard : HubView
+  heard = record h { book = book; inputs = set h.inputs s y }
+
+  gets_there : (piece : Piece) → y ≡ with_got piece x → GetsInput piece s h heard
+  gets_there piece one free = get_or-set_same h.inputs s y free lt ∙ one ∙ ap (with_got piece) (sym here ∙ get_or_default h.inputs s x free lt)
+
+  pub session_pumped : (r : Pumped) → IsOpenAt s h.book.sessions → LookedAt r x y s h.book book → (r ≡ Empty → book ≡ h.book) → SessionPumped r s h heard
+  session_pumped Fed goes looked empty = (goes, (looked.0, gets_there looked.0 looked.1, looked.2))
   session_pumped Empty goes looked empty = (
     goes,
     (λ i. record {
@@ -96,12 +118,23 @@ module _ (h : HubView) (s : ℕ) (book : BookView) (x y : Taking Piece) (lt : s 
   )
   session_pumped (Waiting watched) goes looked empty = absurd looked
   session_pumped Done goes looked empty = absurd looked
-  session_pumped (Refused fault) goes looked empty = (goes, input_there looked.0, looked.1, looked.2)
+  session_pumped (Refused fault) goes looked empty =
+      (goes, (looked.0.0, gets_there looked.0.0 looked.0.1), looked.1, looked.2, hung_closed s CloseNoMemory h.book book there looked.2)
 
--- a session that was hung up is closed for that reason
-pub hung_closed : (s : ℕ) (why : Close) (old new : BookView) → s < length old.sessions → HangsUp s why old new → (free : Attendance) → ClosedBy why (get_or new.sessions s free)
-hung_closed s why old new lt hangs free = (
-  old.log.length,
-  ap (λ (l : List Attendance). (get_or l s free).session.closing) hangs.session.1
-      ∙ ap (λ (a : Attendance). a.session.closing) (get_or-set_same old.sessions s hangs.session.0 free lt ∙ (hangs.session.2 free).becomes),
-)
+  pub other_inputs : KeepsOtherInputs s h heard
+  other_inputs = record { inputs = λ e free other. get_or-set_other h.inputs s e y free other; same = refl }
+
+-- nothing changed
+pub inputs_stay : (s : ℕ) (old new : HubView) → new ≡ old → KeepsOtherInputs s old new
+inputs_stay s old new same = subst (KeepsOtherInputs s old) (sym same) (record { inputs = λ e free other. refl; same = refl })
+
+pub others_stay : (d : ℕ) (old new : HubView) → new ≡ old → KeepsOthers d old new
+others_stay d old new same = subst (KeepsOthers d old) (sym same) (record { inlets = λ e free other. refl; ends = λ e free other. refl; same = refl })
+
+-- a piece that was got was taken
+pub looked_at : (r : Pumped) (piece : Piece) (x y : Taking Piece) (s : ℕ) (old new : BookView) → y ≡ with_got piece x → TookInput r piece s old new → LookedAt r x y s old new
+looked_at Fed piece x y s old new is took = (piece, is, took)
+looked_at Empty piece x y s old new is took = absurd took
+looked_at (Waiting watched) piece x y s old new is took = absurd took
+looked_at Done piece x y s old new is took = absurd took
+looked_at (Refused fault) piece x y s old new is took = ((piece, is), took.0, took.1)

@@ -1,17 +1,20 @@
 -- What a look at the lanes of a device or of a session answers. This project's own.
-use Rattle.std.specs.Prelude.{◌≡◌, ◌<◌, ◌≤◌, ◌⊎◌, ℕ, Bool, true, false, List, [], ◌∷◌, ◌++◌, count_by, get_or, slice_index_or, is_some, Option, Some, None}
+use Rattle.std.specs.Prelude.{◌≡◌, ◌≢◌, ◌<◌, ◌≤◌, ◌⊎◌, ℕ, Bool, true, false, List, [], ◌∷◌, ◌++◌, count_by, get_or, slice_index_or, is_some, Option, Some, None}
 use Rattle.book_sessions.specs.Attendance.{Attendance}
 use Rattle.book_sessions.specs.Roster.{IsOpenAt, was_watched}
 use Rattle.gps_lane.specs.Ends.{Taking}
 use Rattle.report_book.specs.declared.fault.BookFault.{BookFault}
 use Rattle.report_book.specs.declared.fault.BookFault.TheVariants.{NoMemory}
 use Rattle.report_book.specs.BookView.{BookView}
+use Rattle.report_book.specs.Moves.{HangsUp, Hears}
 use Rattle.serve_pieces.specs.declared.piece.Piece.{Piece}
+use Rattle.serve_pieces.specs.declared.piece.Piece.TheVariants.{Bytes as BytesPiece, Line, Input, Last}
 use Rattle.session_core.specs.declared.mark.Close.{Close}
 use Rattle.session_core.specs.declared.mark.Close.TheVariants.{NoMemory as CloseNoMemory}
 use Rattle.hub_laws.specs.declared.ends.DeviceEnd.{DeviceEnd}
 use Rattle.hub_laws.specs.declared.ends.DeviceEnd.TheVariants.{NoMemory as LostNoMemory}
 use Rattle.hub_laws.specs.DaemonHub.{MayGoOn}
+use Rattle.hub_laws.specs.Given.{why_of}
 use Rattle.hub_laws.specs.Parts.{HubView, Lanes, parts_of}
 use Rattle.hub_laws.specs.Steps.{with_bytes, with_edge, with_got}
 use Rattle.gps_hub.specs.declared.inlets.Next.{Next}
@@ -61,6 +64,12 @@ DevicePumped Fed d old new = GoesOn old d × ((x : Lanes) → GotOne (get_or old
 DevicePumped (Refused fault) d old new =
     GoesOn old d × ((x : Lanes) → GotOne (get_or old.inlets d x) (get_or new.inlets d x)) × (fault ≡ NoMemory) × (get_or new.ends d None ≡ Some LostNoMemory)
 
+-- a look at a device changes nothing but the book and what belongs to this device
+pub record KeepsOthers (d : ℕ) (old new : HubView) : Type 0 where
+  pub inlets : (e : ℕ) (x : Lanes) → e ≢ d → get_or new.inlets e x ≡ get_or old.inlets e x
+  pub ends : (e : ℕ) (end : Option DeviceEnd) → e ≢ d → get_or new.ends e end ≡ get_or old.ends e end
+  pub same : new ≡ record old { book = new.book; inlets = new.inlets; ends = new.ends }
+
 -- one piece was got of the lane
 abbrev pub GotInput : Taking Piece → Taking Piece → Type 0
 GotInput x y = (piece : Piece) × (y ≡ with_got piece x)
@@ -69,21 +78,28 @@ GotInput x y = (piece : Piece) × (y ≡ with_got piece x)
 abbrev pub ClosedBy : Close → Attendance → Type 0
 ClosedBy why a = (place : ℕ) × (a.session.closing ≡ Some (place, why))
 
--- what became of a piece of a session's input: one that was refused has closed the session
-abbrev pub TookInput : Pumped → BookView → ℕ → Type 0
-TookInput Fed book s = Unit {0}
-TookInput Empty book s = ⊥
-TookInput (Waiting watched) book s = ⊥
-TookInput Done book s = ⊥
-TookInput (Refused fault) book s = (fault ≡ NoMemory) × ((free : Attendance) → ClosedBy CloseNoMemory (slice_index_or book.sessions s free))
+-- what a piece of a session's input does to the book: the requests that it ends are answered, and the last piece hangs the session up
+abbrev pub Hearing : Piece → ℕ → BookView → BookView → Type 0
+Hearing (BytesPiece at bytes) s old new = new ≡ old
+Hearing (Line line) s old new = new ≡ old
+Hearing (Input bytes) s old new = Hears false s bytes old new
+Hearing (Last ending) s old new = HangsUp s (why_of ending) old new
+
+-- what became of a piece of a session's input: of one that was refused no request is answered, and it has closed the session
+abbrev pub TookInput : Pumped → Piece → ℕ → BookView → BookView → Type 0
+TookInput Fed piece s old new = Hearing piece s old new
+TookInput Empty piece s old new = ⊥
+TookInput (Waiting watched) piece s old new = ⊥
+TookInput Done piece s old new = ⊥
+TookInput (Refused fault) piece s old new = (fault ≡ NoMemory) × HangsUp s CloseNoMemory old new
 
 -- what a look at an open session answers
-abbrev pub LookedAt : Pumped → Taking Piece → Taking Piece → BookView → ℕ → Type 0
-LookedAt Fed x y book s = GotInput x y
-LookedAt Empty x y book s = y ≡ x
-LookedAt (Waiting watched) x y book s = ⊥
-LookedAt Done x y book s = ⊥
-LookedAt (Refused fault) x y book s = GotInput x y × (fault ≡ NoMemory) × ((free : Attendance) → ClosedBy CloseNoMemory (slice_index_or book.sessions s free))
+abbrev pub LookedAt : Pumped → Taking Piece → Taking Piece → ℕ → BookView → BookView → Type 0
+LookedAt Fed x y s old new = (piece : Piece) × (y ≡ with_got piece x) × Hearing piece s old new
+LookedAt Empty x y s old new = y ≡ x
+LookedAt (Waiting watched) x y s old new = ⊥
+LookedAt Done x y s old new = ⊥
+LookedAt (Refused fault) x y s old new = GotInput x y × (fault ≡ NoMemory) × HangsUp s CloseNoMemory old new
 
 -- a session is closed
 abbrev pub IsClosedAt : HubView → ℕ → Type 0
@@ -92,12 +108,22 @@ IsClosedAt h s = (free : Attendance) → is_some (slice_index_or h.book.sessions
 abbrev pub IsOpenIn : HubView → ℕ → Type 0
 IsOpenIn h s = IsOpenAt s h.book.sessions
 
--- Done exactly where the session is closed. Else a piece is got of its lane, or none is there. Where the book refuses it, the session is closed.
+-- this piece was got of a session's lane
+abbrev pub GetsInput : Piece → ℕ → HubView → HubView → Type 0
+GetsInput piece s old new = (x : Taking Piece) → get_or new.inputs s x ≡ with_got piece (get_or old.inputs s x)
+
+-- Done exactly where the session is closed. Else a piece is got of its lane and heard, or none is there. Where the book refuses it, the session
+-- is hung up, and is else as it was.
 abbrev pub SessionPumped : Pumped → ℕ → HubView → HubView → Type 0
 SessionPumped (Waiting watched) s old new = ⊥
 SessionPumped Done s old new = IsClosedAt old s × (new ≡ old)
 SessionPumped Empty s old new = IsOpenIn old s × (new ≡ old)
-SessionPumped Fed s old new = IsOpenIn old s × ((x : Taking Piece) → GotInput (get_or old.inputs s x) (get_or new.inputs s x))
+SessionPumped Fed s old new = IsOpenIn old s × ((piece : Piece) × GetsInput piece s old new × Hearing piece s old.book new.book)
 SessionPumped (Refused fault) s old new =
-    IsOpenIn old s × ((x : Taking Piece) → GotInput (get_or old.inputs s x) (get_or new.inputs s x)) × (fault ≡ NoMemory)
+    IsOpenIn old s × ((piece : Piece) × GetsInput piece s old new) × (fault ≡ NoMemory) × HangsUp s CloseNoMemory old.book new.book
     × ((free : Attendance) → ClosedBy CloseNoMemory (slice_index_or new.book.sessions s free))
+
+-- a look at a session changes nothing but the book and this session's lane
+pub record KeepsOtherInputs (s : ℕ) (old new : HubView) : Type 0 where
+  pub inputs : (e : ℕ) (x : Taking Piece) → e ≢ s → get_or new.inputs e x ≡ get_or old.inputs e x
+  pub same : new ≡ record old { book = new.book; inputs = new.inputs }

@@ -1,16 +1,19 @@
-ghost use Rattle.std.specs.Prelude.{◌≡◌, ◌<◌, ◌≤◌, ◌++◌, true, false, [], ◌∷◌, length, is_some, IfOk, IfErr, OnOk, OnErr, IfSome, MatchOption, count_by};
+ghost use Rattle.std.specs.Prelude.{◌≡◌, ◌<◌, ◌≤◌, ◌++◌, true, false, [], ◌∷◌, length, get_or, is_some, IfOk, IfErr, OnOk, OnErr, IfSome, IfNone, MatchOption, count_by};
 ghost use Rattle.std.specs.List.{All, list_all};
+ghost use Rattle.std.specs.Option.{option_to_list};
 ghost use Rattle.book_log.specs.Standing.{has_stopped};
 ghost use Rattle.book_sessions.specs.Roster.{was_watched};
-ghost use Rattle.hub_door.specs.Admissions.{admitting, finished, link_of};
+ghost use Rattle.hub_door.specs.Admissions.{Link, admitting, finished, link_of};
 ghost use Rattle.report_book.specs.Moves.{PublishesAt, ShutsAll};
 ghost use Rattle.report_book.specs.Refusals.{crowd_fault};
 ghost use Rattle.report_book.specs.Standing.{Holds as BookHolds};
 ghost use Rattle.hub_laws.specs.DaemonHub.{DaemonHub, MayGoOn};
+ghost use Rattle.hub_laws.specs.Given.{TellsOnce};
 ghost use Rattle.hub_laws.specs.Keeping.{IsClosed, IsUnused, NothingGot};
 ghost use Rattle.hub_laws.specs.Parts.{AreAdmitted, parts_of, terms_of};
 ghost use Rattle.gps_hub.specs.Admitting.{AdmitsAs, IsCrowded, RefusesLink};
-ghost use Rattle.gps_hub.specs.Pumping.{DevicePumped, IsWaiting, SessionPumped};
+ghost use Rattle.gps_hub.specs.Emptied.{GotAllOrOpen};
+ghost use Rattle.gps_hub.specs.Pumping.{DevicePumped, IsWaiting, KeepsOtherInputs, KeepsOthers, SessionPumped};
 
 use crate::device::pump as pump_device;
 use crate::door::{finish, open, refusal_of, take_room};
@@ -19,6 +22,7 @@ use crate::naming::HubNaming;
 use crate::parted::Parted;
 use crate::pumped::Pumped;
 use crate::session::pump as pump_session;
+use crate::settling::{empty, next_item};
 use crate::watching::{Look, Watching};
 use gps_lane::{Rx, Tx};
 use hub_door::{DoorSeat, DoorTable, Keeper};
@@ -134,7 +138,8 @@ impl<J: HubNaming, R: Wait + Copy> Hub<J, R> {
     /// so has one of which the book refuses a piece, which is lost.
     pub fn device_piece(&mut self, d: u8) -> Pumped
         requires { d < length J.terms.names }
-        ensures { DevicePumped result d self.old self.new }
+        ensures pumped { DevicePumped result d self.old self.new }
+        ensures others { KeepsOthers d self.old self.new }
     {
         let at = usize::from(d);
         if self.ends[at].is_some() {
@@ -154,11 +159,12 @@ impl<J: HubNaming, R: Wait + Copy> Hub<J, R> {
         pumped
     }
 
-    /// Gets a piece of a session's input lane and gives it to the book. A session whose source has ended is hung up; one of which the book
-    /// refuses a piece is closed.
+    /// Gets a piece of a session's input lane and gives it to the book. A session whose source has ended is hung up; so is one of which the
+    /// book refuses a piece, and no request of that piece is answered.
     pub fn session_piece(&mut self, s: u32) -> Pumped
         requires { s < length self.old.inputs }
-        ensures { SessionPumped result s self.old self.new }
+        ensures pumped { SessionPumped result s self.old self.new }
+        ensures others { KeepsOtherInputs s self.old self.new }
     {
         if self.book.closing(s).is_some() {
             return Pumped::Done;
@@ -245,6 +251,45 @@ impl<J: HubNaming, R: Wait + Copy> Hub<J, R> {
         self.book.show();
         self.is_shut = true;
         true
+    }
+
+    /// Gets the next item of a closed session's outlet, where there is one. None where the session is not closed.
+    pub fn settle_outlet(
+        &mut self,
+        door: &mut DoorSeat<J>,
+        s: u32,
+        items: &mut Rx<Item, R>,
+    ) -> Option<Item>
+        requires there { s < length door.old.links }
+        requires outlet { (free : Link) → items.old.lane ≡ (get_or door.old.links s free).outlet }
+        ensures hub { self.new ≡ self.old }
+        ensures door { door.new ≡ door.old }
+        ensures items { items.new ≡ record items.old { got = items.old.got ++ option_to_list result } }
+        ensures all { IfNone result (GotAllOrOpen s self.old items.new) }
+    {
+        self.keeper.agree(door);
+        match self.book.closing(s) {
+            Some(_) => next_item(&mut self.book, s, items),
+            None => None,
+        }
+    }
+
+    /// Lets both ends of a closed session's input lane meet: pieces that it still holds are got, and no request of them is answered. Nothing
+    /// changes where the session is not closed.
+    pub fn settle_input(&mut self, door: &mut DoorSeat<J>, s: u32, pieces: &mut Tx<Piece, R>)
+        requires there { s < length door.old.links }
+        requires input { (free : Link) → pieces.old.lane ≡ (get_or door.old.links s free).input }
+        requires once { TellsOnce pieces.old.put }
+        ensures hub { self.new ≡ record self.old { inputs = self.new.inputs } }
+        ensures others { KeepsOtherInputs s self.old self.new }
+        ensures door { door.new ≡ door.old }
+        ensures pieces { pieces.new ≡ pieces.old }
+    {
+        if self.book.closing(s).is_none() {
+            return;
+        }
+        self.keeper.agree(door);
+        empty(pieces, &mut self.inputs[s as usize]);
     }
 
     /// How many devices there are.

@@ -11,6 +11,7 @@ mod naming;
 mod parted;
 mod pumped;
 mod session;
+mod settling;
 #[cfg(test)]
 mod tests;
 mod watching;

@@ -47,7 +47,7 @@ fn hear<R: Wait + Copy>(book: &mut Book<Tx<Item, R>>, s: u32, bytes: &Chunk) -> 
     requires within { s < length book.old.sessions }
     requires open_one { IsOpenAt s book.old.sessions }
     ensures step { (x : Taking Piece) → SessionStep s book.old book.new x (with_got (Input bytes.now) x) }
-    ensures answer { TookInput result book.new s }
+    ensures answer { TookInput result (Input bytes.now) s book.old book.new }
 {
     book.show();
     match book.input(s, bytes.as_slice()) {
@@ -62,7 +62,8 @@ fn hear<R: Wait + Copy>(book: &mut Book<Tx<Item, R>>, s: u32, bytes: &Chunk) -> 
 fn end<R: Wait + Copy>(book: &mut Book<Tx<Item, R>>, s: u32, ending: Ending)
     requires runs { session_fault book.old s ≡ None }
     requires open_one { IsOpenAt s book.old.sessions }
-    ensures { (x : Taking Piece) → SessionStep s book.old book.new x (with_got (Last ending) x) }
+    ensures step { (x : Taking Piece) → SessionStep s book.old book.new x (with_got (Last ending) x) }
+    ensures hangs_up { HangsUp s (why_of ending) book.old book.new }
 {
     book.show();
     hang_up(book, s, why(ending));
@@ -74,7 +75,7 @@ fn take_input<R: Wait + Copy>(book: &mut Book<Tx<Item, R>>, s: u32, piece: Piece
     requires within { s < length book.old.sessions }
     requires open_one { IsOpenAt s book.old.sessions }
     ensures step { (x : Taking Piece) → SessionStep s book.old book.new x (with_got piece x) }
-    ensures answer { TookInput result book.new s }
+    ensures answer { TookInput result piece s book.old book.new }
 {
     match piece {
         Piece::Input(bytes) => hear(book, s, &bytes),
@@ -97,7 +98,7 @@ pub(crate) fn pump<R: Wait + Copy>(
     requires within { s < length book.old.sessions }
     requires open_one { IsOpenAt s book.old.sessions }
     ensures step { SessionStep s book.old book.new input.old input.new }
-    ensures answer { LookedAt result input.old input.new book.new s }
+    ensures answer { LookedAt result input.old input.new s book.old book.new }
     ensures empty { result ≡ Pumped.Empty → book.new ≡ book.old }
 {
     match input.pop() {

@@ -1,5 +1,6 @@
-ghost use Rattle.std.specs.Prelude.{◌≡◌, ◌<◌, length, IfOk, []};
+ghost use Rattle.std.specs.Prelude.{◌≡◌, ◌<◌, ◌≤◌, ◌∷◌, ◌++◌, length, get_or, IfOk, OnOk, []};
 ghost use Rattle.std.specs.List.{All};
+ghost use Rattle.hub_door.specs.Admissions.{Link};
 ghost use Rattle.hub_laws.specs.Keeping.{IsUnused, NothingGot};
 ghost use Rattle.hub_laws.specs.Parts.{terms_of};
 
@@ -28,7 +29,9 @@ const ITEMS: &[&[u8]] = &[
     b"{\"class\":\"DEVICE\",\"path\":\"g\"}\r\n",
 ];
 
-fn put<R: Wait + Copy>(lane: &mut Tx<Piece, R>, piece: Piece) -> Result<(), Fail> {
+fn put<R: Wait + Copy>(lane: &mut Tx<Piece, R>, piece: Piece) -> Result<(), Fail>
+    ensures { OnOk result (lane.new ≡ record lane.old { put = lane.old.put ++ piece ∷ [] }) }
+{
     match lane.push(piece) {
         Pushed::Done => Ok(()),
         Pushed::Full(_) => Err(Fail::from("the lane is full")),
@@ -50,13 +53,21 @@ fn request(alloc: Global, bytes: &[u8]) -> Result<Piece, Fail> {
     Ok(Piece::input(alloc, bytes)?)
 }
 
-/// All items of a session, joined.
-fn taken<R: Wait + Copy>(alloc: Global, items: &mut Rx<Item, R>) -> Result<Vec<u8>, Fail> {
+/// All items of the first session, which is closed, joined.
+fn taken<J: HubNaming, R: Wait + Copy>(
+    alloc: Global,
+    hub: &mut Hub<J, R>,
+    door: &mut DoorSeat<J>,
+    items: &mut Rx<Item, R>,
+) -> Result<Vec<u8>, Fail>
+    requires there { 0 < length door.old.links }
+    requires outlet { (free : Link) → items.old.lane ≡ (get_or door.old.links 0 free).outlet }
+{
     let mut bytes = Vec::new(alloc);
-    for _ in 0..100 {
-        match items.pop() {
+    'items: for _ in 0..100 {
+        match hub.settle_outlet(door, 0, items) {
             Some(item) => bytes.extend_from_slice(item.bytes())?,
-            None => break,
+            None => return Ok(bytes),
         }
     }
     Ok(bytes)
@@ -73,28 +84,36 @@ fn first_session<J: HubNaming, R: Wait + Copy>(hub: &mut Hub<J, R>) -> Result<Pu
 /// What stands behind a lock, and the door's token, may go to another thread.
 fn cross<T: Send, U: Send>(_hub: &T, _door: &U) {}
 
-/// A session that watches: its items.
+/// A session that watches: the end of its input that puts, and the end of its outlet that gets.
 fn admit<J: HubNaming, R: Wait + Copy>(
     rt: R,
     alloc: Global,
     hub: &mut Hub<J, R>,
     door: &mut DoorSeat<J>,
-) -> Result<Rx<Item, R>, Fail> {
+) -> Result<(Tx<Piece, R>, Rx<Item, R>), Fail>
+    requires first { door.old.links ≡ [] }
+    ensures there { OnOk result (0 < length door.new.links) }
+    ensures input { IfOk result (λ ends. (free : Link) → ends.0.lane ≡ (get_or door.new.links 0 free).input) }
+    ensures few { IfOk result (λ ends. length ends.0.put ≤ 1) }
+    ensures outlet { IfOk result (λ ends. (free : Link) → ends.1.lane ≡ (get_or door.new.links 0 free).outlet) }
+{
     let (outlet, items) = lane(rt, alloc, 64)?;
-    let requests = watching(rt, alloc)?;
+    let (input, requests) = watching(rt, alloc)?;
     match hub.admit_link(door, outlet, requests) {
-        Ok(_) => Ok(items),
+        Ok(_) => Ok((input, items)),
         Err(_) => Err(Fail::from("not admitted")),
     }
 }
 
 /// An input lane with one request.
-fn watching<R: Wait + Copy>(rt: R, alloc: Global) -> Result<Rx<Piece, R>, Fail>
-    ensures { IfOk result (λ lane. lane.got ≡ []) }
+fn watching<R: Wait + Copy>(rt: R, alloc: Global) -> Result<(Tx<Piece, R>, Rx<Piece, R>), Fail>
+    ensures one_lane { IfOk result (λ ends. ends.1.lane ≡ ends.0.lane) }
+    ensures few { IfOk result (λ ends. length ends.0.put ≤ 1) }
+    ensures got { IfOk result (λ ends. ends.1.got ≡ []) }
 {
     let (mut input, requests) = lane(rt, alloc, 64)?;
     put(&mut input, request(alloc, b"?WATCH={\"json\":true};")?)?;
-    Ok(requests)
+    Ok((input, requests))
 }
 
 /// All that the lanes hold goes to the book, which is then shut.
@@ -130,14 +149,16 @@ fn run<J: HubNaming + Send + Sync, R: Wait + Copy + Send>(
         return Err(Fail::from("no memory"));
     };
     cross(&hub, &door);
-    let mut items = admit(rt, alloc, &mut hub, &mut door)?;
+    let (mut input, mut items) = admit(rt, alloc, &mut hub, &mut door)?;
     let is_shut = play(&mut hub)?;
+    hub.settle_input(&mut door, 0, &mut input);
+    let sent = taken(alloc, &mut hub, &mut door, &mut items)?;
     hub.door_done(&mut door);
     let parted = hub.part(door);
     if !is_shut || parted.book.live() != 0 {
         return Err(Fail::from("not heard, or not shut"));
     }
-    taken(alloc, &mut items)
+    Ok(sent)
 }
 
 /// One device, with a lane for its bytes alone.

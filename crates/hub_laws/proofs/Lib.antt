@@ -10,3 +10,4 @@ pub mod Going
 pub mod Shutting
 pub mod Calls
 pub mod Beginning
+pub mod Settling

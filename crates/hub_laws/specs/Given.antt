@@ -1,5 +1,5 @@
 -- What the pieces of a lane give to a device or a session, and how a device ends by them. This project's own.
-use Rattle.std.specs.Prelude.{ℕ, Bool, true, false, List, [], ◌∷◌, map, Option, Some, None, option_to_list}
+use Rattle.std.specs.Prelude.{◌≡◌, ℕ, Bool, true, false, List, [], ◌∷◌, ◌++◌, map, Option, Some, None, is_some, option_to_list}
 use Rattle.std.specs.List.{flat_map}
 use Rattle.book_log.specs.Readings.{last_of}
 use Rattle.gps_lane.specs.Ends.{Taking}
@@ -44,6 +44,10 @@ edges_of pieces = flat_map edges_by pieces
 -- how the source of a lane ended, where the lane has told that
 abbrev pub ending_of : List Piece → Option Ending
 ending_of pieces = last_of ending_in pieces
+
+-- nothing was put behind the piece that tells how the source ended
+abbrev pub TellsOnce : List Piece → Type 0
+TellsOnce put = (first rest : List Piece) → put ≡ first ++ rest → is_some (ending_of first) ≡ true → rest ≡ []
 
 -- what was got of an edge lane, where there is one
 abbrev pub got_of : Option (Taking Piece) → List Piece

@@ -20,6 +20,7 @@ use Rattle.session_runs.specs.Following.{GoesOn, forgotten_if}
 use Rattle.hub_laws.specs.declared.ends.DeviceEnd.{DeviceEnd}
 use Rattle.hub_laws.specs.declared.ends.DeviceEnd.TheVariants.{Ended, ReadFault, NoMemory as LostNoMemory}
 use Rattle.hub_laws.specs.DaemonHub.{SessionFits}
+use Rattle.hub_laws.specs.Given.{ending_of}
 use Rattle.hub_laws.specs.Keeping.{DeviceKeeps, Lasts}
 use Rattle.hub_laws.specs.Parts.{Lanes}
 
@@ -34,6 +35,12 @@ with_bytes piece x = record x { bytes = with_got piece x.bytes }
 -- of its edge lane
 abbrev pub with_edge : Piece → Lanes → Lanes
 with_edge piece x = record x { edges = option_map (with_got piece) x.edges }
+
+-- more pieces are got of a lane, or none; none where it had told how its source ended
+pub record GetsMore (x y : Taking Piece) : Type 0 where
+  pub more : List Piece
+  pub gets : y ≡ record x { got = x.got ++ more }
+  pub untold : is_some (ending_of x.got) ≡ true → more ≡ []
 
 -- the session is as it was closed; or it was open, and is closed by an overrun at most
 abbrev pub ClosesBy : Option (ℕ × Close) → Shown → Shown → Type 0

@@ -1,14 +1,13 @@
 use Rattle.std.proofs.Common.{◌≡◌, ℕ, List, sym, subst, false}
 use Rattle.report_book.specs.BookView.{BookView}
 use Rattle.std.specs.Prelude.{Err, Option}
-use Rattle.report_book.specs.Moves.{HangsUp}
+use Rattle.report_book.specs.Moves.{HangsUp, Hears}
 use Rattle.report_book.specs.Refusals.{RefusesAs}
 use Rattle.report_book.specs.declared.fault.BookFault.{BookFault}
 use Rattle.serve_pieces.specs.declared.piece.Piece.TheVariants.{Input}
 use Rattle.session_core.specs.declared.mark.Close.TheVariants.{NoMemory}
 use Rattle.hub_laws.specs.Steps.{SessionStep, with_got}
 use Rattle.hub_laws.proofs.Sessions.{heard_step, hung_step}
-use Rattle.gps_hub.proofs.Pumps.{hung_closed}
 use Rattle.gps_hub.proofs.session.hear.Goals as goal
 
 pub returns-in-Ok-clause-step : goal.returns-in-Ok-clause-step
@@ -16,6 +15,11 @@ returns-in-Ok-clause-step g c = λ x.
     let P : List ℕ → Type 0 = λ b. SessionStep c.args.s c.args.book.now c.input.new.self x (with_got (Input b) x) in
     subst P c.as_slice.ensures.bytes
     (heard_step false c.args.book.now c.input.new.self c.args.s c.as_slice.result.now x c.show.ensures.holds c.requires.within c.requires.open_one c.in-Ok.ensures.hears)
+
+pub returns-in-Ok-clause-answer : goal.returns-in-Ok-clause-answer
+returns-in-Ok-clause-answer g c =
+    let P : List ℕ → Type 0 = λ b. Hears false c.args.s b c.args.book.now c.input.new.self in
+    subst P c.as_slice.ensures.bytes c.in-Ok.ensures.hears
 
 pub returns-in-Err-clause-step : goal.returns-in-Err-clause-step
 returns-in-Err-clause-step g c = λ x.
@@ -27,5 +31,5 @@ returns-in-Err-clause-answer g c =
     let P : BookView → Type 0 = λ b. HangsUp c.args.s NoMemory b c.hang_up.new.book in
     let Q : Option BookFault → Type 0 = λ o. RefusesAs {X = Unit {0}} o (Err c.in-Err.fault) in (
       subst Q c.requires.runs c.in-Err.ensures.refusal,
-      hung_closed c.args.s NoMemory c.args.book.now c.hang_up.new.book c.requires.within (subst P c.in-Err.ensures.unchanged c.hang_up.ensures),
+      subst P c.in-Err.ensures.unchanged c.hang_up.ensures,
     )

@@ -5,8 +5,8 @@ use Rattle.hub_laws.specs.Keeping.{HubKeeps, Lasts}
 use Rattle.hub_laws.specs.Parts.{HubView, Lanes, Terms, parts_of}
 use Rattle.hub_laws.proofs.Going.{device_free}
 use Rattle.hub_laws.proofs.Hubs.{hub_device}
-use Rattle.gps_hub.specs.Pumping.{DevicePumped}
-use Rattle.gps_hub.proofs.Pumps.{device_pumped, looked_names, match_none, running_is}
+use Rattle.gps_hub.specs.Pumping.{DevicePumped, KeepsOthers}
+use Rattle.gps_hub.proofs.Pumps.{device_pumped, other_devices, looked_names, match_none, running_is}
 use Rattle.gps_hub.proofs.hub.Hub.device_piece.Goals as goal
 
 -- the hub as its fields show it, before the device was looked at
@@ -72,8 +72,8 @@ invariant_of-self g c =
       c.self.invariant.1,
     )
 
-pub returns : goal.returns
-returns g c =
+pub returns-clause-pumped : goal.returns-clause-pumped
+returns-clause-pumped g c =
     let x = c.index_mut.result.now in
     let e = c.index_mut-3.result.now in
     let new = c.pump-pumped.new in
@@ -87,3 +87,18 @@ returns g c =
     let P : HubView × ℕ → Type 0 = λ t. DevicePumped c.pump-pumped.result c.args.d t.0 (record h { book = new.book; inlets = set c.self.inside.inlets.items t.1 new.inlets; ends = set c.self.inside.ends.items t.1 new.end }) in
     subst P (λ i. (c.self.view_is i, sym at i))
     (device_pumped h c.args.d new.book x new.inlets e new.end (omega arith) (omega arith) here (there_after g c) c.pump-pumped.result (may_after g c, none) c.pump-pumped.ensures.answer c.pump-pumped.ensures.empty)
+
+pub returns-clause-others : goal.returns-clause-others
+returns-clause-others g c =
+    let x = c.index_mut.result.now in
+    let e = c.index_mut-3.result.now in
+    let new = c.pump-pumped.new in
+    let h : HubView = seen_after g c in
+    let at = c.from-at.ensures in
+    let lt = within_after g c in
+    let n = c.self.invariant.0.count in
+    let m = c.self.invariant.0.ends_count in
+    let here = subst (λ (n : ℕ). get_or c.self.inside.inlets.items n x ≡ x) at (sym c.index_mut.ensures.value) in
+    let P : HubView × ℕ → Type 0 = λ t. KeepsOthers c.args.d t.0 (record h { book = new.book; inlets = set c.self.inside.inlets.items t.1 new.inlets; ends = set c.self.inside.ends.items t.1 new.end }) in
+    subst P (λ i. (c.self.view_is i, sym at i))
+    (other_devices h c.args.d new.book x new.inlets e new.end (omega arith) (omega arith) here (there_after g c))

@@ -6,10 +6,10 @@ use Rattle.hub_laws.specs.Parts.{HubView, Lanes, Terms, parts_of}
 use Rattle.hub_laws.proofs.Going.{open_at, session_free}
 use Rattle.hub_laws.proofs.Hubs.{hub_session}
 use Rattle.hub_laws.proofs.Lists.{zip_length}
-use Rattle.gps_hub.specs.Pumping.{SessionPumped}
+use Rattle.gps_hub.specs.Pumping.{KeepsOtherInputs, SessionPumped}
 use Rattle.std.specs.Prelude.{option_and_then, slice_get}
 use Rattle.book_sessions.specs.Attendance.{Attendance}
-use Rattle.gps_hub.proofs.Pumps.{none_of, session_pumped}
+use Rattle.gps_hub.proofs.Pumps.{none_of, other_inputs, session_pumped}
 use Rattle.gps_hub.proofs.hub.Hub.session_piece.Goals as goal
 
 module _ (g : _) (c : goal.After-index_mut g) where
@@ -62,10 +62,18 @@ invariant_of-self g c =
       c.self.invariant.1,
     )
 
-pub returns : goal.returns
-returns g c =
+pub returns-clause-pumped : goal.returns-clause-pumped
+returns-clause-pumped g c =
     let new = c.pump-pumped.new in
     let h : HubView = seen_after g c in
     let P : HubView → Type 0 = λ v. SessionPumped c.pump-pumped.result c.args.s v (record h { book = new.book; inputs = set c.self.inside.inputs.items c.args.s new.input }) in
     subst P c.self.view_is
-    (session_pumped h c.args.s new.book c.index_mut.result.now new.input (held_after g c) (sym c.index_mut.ensures.value) c.pump-pumped.result (open_at c.self.inside.book.sessions c.args.s (within_after g c) (not_closed_after g c)) c.pump-pumped.ensures.answer c.pump-pumped.ensures.empty)
+    (session_pumped h c.args.s new.book c.index_mut.result.now new.input (held_after g c) (within_after g c) (sym c.index_mut.ensures.value) c.pump-pumped.result (open_at c.self.inside.book.sessions c.args.s (within_after g c) (not_closed_after g c)) c.pump-pumped.ensures.answer c.pump-pumped.ensures.empty)
+
+pub returns-clause-others : goal.returns-clause-others
+returns-clause-others g c =
+    let new = c.pump-pumped.new in
+    let h : HubView = seen_after g c in
+    let P : HubView → Type 0 = λ v. KeepsOtherInputs c.args.s v (record h { book = new.book; inputs = set c.self.inside.inputs.items c.args.s new.input }) in
+    subst P c.self.view_is
+    (other_inputs h c.args.s new.book c.index_mut.result.now new.input (held_after g c) (within_after g c) (sym c.index_mut.ensures.value))

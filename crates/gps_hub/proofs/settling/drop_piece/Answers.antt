@@ -1,0 +1,11 @@
+use Rattle.std.proofs.Common.{subst}
+use Rattle.gps_lane.specs.Ends.{Putting}
+use Rattle.gps_lane.specs.Lane.{BeginsWith}
+use Rattle.serve_pieces.specs.declared.piece.Piece.{Piece}
+use Rattle.hub_laws.proofs.Settling.{gets_one}
+use Rattle.gps_hub.proofs.settling.drop_piece.Goals as goal
+
+pub returns-clause-input : goal.returns-clause-input
+returns-clause-input g c =
+    gets_one c.args.pieces.now.put c.args.input.now c.settle.new.rx c.settle.result c.requires.once c.settle.ensures.rx
+    (subst (λ (t : Putting Piece). BeginsWith c.settle.new.rx.got t.put) c.settle.ensures.tx c.settle.ensures.prefix)

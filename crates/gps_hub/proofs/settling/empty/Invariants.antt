@@ -1,0 +1,9 @@
+use Rattle.std.proofs.Common.{◌≡◌}
+use Rattle.hub_laws.specs.Steps.{GetsMore}
+use Rattle.gps_hub.proofs.settling.empty.Given as goal
+
+abbrev pub invariant-pieces : goal.invariant-pieces
+invariant-pieces g l = record {
+  pieces : l.pieces ≡ l.initial.pieces;
+  input : GetsMore l.initial.input l.input;
+}

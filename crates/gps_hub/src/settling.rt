@@ -1,0 +1,61 @@
+// Both ends of a closed session's lanes meet.
+ghost use Rattle.std.specs.Prelude.{◌≡◌, ◌<◌, ◌++◌, length, get_or, IfNone};
+ghost use Rattle.std.specs.Option.{option_to_list};
+ghost use Rattle.book_sessions.specs.Attendance.{Attendance};
+ghost use Rattle.session_core.specs.Naming.{of_table};
+ghost use Rattle.hub_laws.specs.Given.{TellsOnce};
+ghost use Rattle.hub_laws.specs.Steps.{GetsMore};
+ghost use Rattle.gps_hub.specs.Emptied.{GotAll};
+
+use gps_lane::{Rx, Tx, settle};
+use report_book::Book;
+use serve_pieces::Piece;
+use session_core::Item;
+use std::sync::Wait;
+
+/// As many pieces as an input lane may hold.
+const PIECES: u32 = 64;
+
+/// Gets the next item of a session's outlet, where there is one.
+#[tactic(auto, using(hub_laws::proofs::Settling::settles, hub_laws::proofs::Settling::far_end))]
+pub(crate) fn next_item<R: Wait + Copy>(
+    book: &mut Book<Tx<Item, R>>,
+    s: u32,
+    items: &mut Rx<Item, R>,
+) -> Option<Item>
+    requires there { s < length book.old.sessions }
+    requires outlet { (free : Attendance) → of_table items.old.lane ≡ (get_or book.old.sessions s free).session.name }
+    ensures book { book.new ≡ book.old }
+    ensures items { items.new ≡ record items.old { got = items.old.got ++ option_to_list result } }
+    ensures all { IfNone result (GotAll s book.new items.new) }
+{
+    match book.settle(s, items) {
+        Ok(item) => item,
+        Err(_) => unreachable!(),
+    }
+}
+
+/// Gets the next piece of a closed session's input lane, and drops it; false where there was none.
+fn drop_piece<R: Wait + Copy>(pieces: &mut Tx<Piece, R>, input: &mut Rx<Piece, R>) -> bool
+    requires one_lane { input.old.lane ≡ pieces.old.lane }
+    requires once { TellsOnce pieces.old.put }
+    ensures pieces { pieces.new ≡ pieces.old }
+    ensures input { GetsMore input.old input.new }
+{
+    settle(pieces, input).is_some()
+}
+
+/// Gets what a closed session's input lane still holds, and drops it. Its getting end has left.
+pub(crate) fn empty<R: Wait + Copy>(pieces: &mut Tx<Piece, R>, input: &mut Rx<Piece, R>)
+    requires one_lane { input.old.lane ≡ pieces.old.lane }
+    requires once { TellsOnce pieces.old.put }
+    ensures pieces { pieces.new ≡ pieces.old }
+    ensures input { GetsMore input.old input.new }
+{
+    input.leave();
+    'pieces: for _ in 0..=PIECES {
+        if !drop_piece(pieces, input) {
+            return;
+        }
+    }
+}

@@ -15,3 +15,5 @@ pub mod Taking
 pub mod Gates
 pub mod Returned
 pub mod Lost
+pub mod Released
+pub mod First

@@ -127,6 +127,14 @@ module _ {S K R : Type 0} (sources : SourceFacts S) (sinks : SinkFacts K) where
   sessions_none sessions inputs runs ready =
       record { gone = []; rest = sessions; split = refl; gone_inputs = []; inputs_split = refl; inputs_are = tt; outlets_are = tt; numbers = refl; count = refl; ready = ready }
 
+  -- from the iterators' beginnings on
+  pub sessions_begin : (sessions : List Attendance) (inputs left_inputs : List (Taking Piece)) (runs left_runs : List (SessionRun S K R)) (done : List (SessionDone S K R))
+      → AreReady sources sinks sessions inputs runs → left_inputs ≡ inputs → left_runs ≡ runs → done ≡ [] → SessionsSoFar sources sinks sessions inputs left_inputs left_runs 0 done
+  sessions_begin sessions inputs left_inputs runs left_runs done ready same is none =
+      subst (λ (i : List (Taking Piece)). SessionsSoFar sources sinks sessions inputs i left_runs 0 done) (sym same)
+      (subst (λ (r : List (SessionRun S K R)). SessionsSoFar sources sinks sessions inputs inputs r 0 done) (sym is)
+      (subst (λ (d : List (SessionDone S K R)). SessionsSoFar sources sinks sessions inputs inputs runs 0 d) (sym none) (sessions_none sessions inputs runs ready)))
+
 at : {X : Type 0} (gone rest : List X) (x free : X) → get_or (gone ++ x ∷ rest) (length gone) free ≡ x
 at [] rest x free = refl
 at (g ∷ gone) rest x free = at gone rest x free

@@ -1,5 +1,5 @@
 -- Two lists side by side, each of which grows by one.
-use Rattle.std.proofs.Common.{◌≡◌, ℕ, List, Option, [], ◌∷◌, ◌++◌, refl, sym, ◌∙◌, subst, append_assoc, length, arith}
+use Rattle.std.proofs.Common.{◌≡◌, ℕ, List, Option, [], ◌∷◌, ◌++◌, map, refl, sym, ◌∙◌, subst, append_assoc, length, arith}
 use Rattle.std.proofs.lemmas.List.{append-nil}
 use Rattle.std.specs.List.{AllZip}
 use Rattle.gps_fixed.specs.Moment.{Moment}
@@ -43,6 +43,11 @@ pub ran_end : {L Run : Type 0} (Runs : L → Run → Type 0) (links left : List 
     → AllZip Runs links runs
 ran_end Runs links [] runs so none = ran_all Runs links runs so
 ran_end Runs links (link ∷ left) runs so none = absurd (omega (arith, none))
+
+pub ran_each : {X L Run : Type 0} (Runs : L → Run → Type 0) (link : X → L) (links : List L) (left : List X) (runs : List Run)
+    → RanSoFar Runs links (map link left) runs → length left ≡ 0 → AllZip Runs links runs
+ran_each Runs link links [] runs so none = ran_all Runs links runs so
+ran_each Runs link links (x ∷ left) runs so none = absurd (omega (arith, none))
 
 -- from the iterator's beginning on
 pub ran_begin : {L Run : Type 0} (Runs : L → Run → Type 0) (links left : List L) (runs : List Run) → left ≡ links → runs ≡ [] → RanSoFar Runs links left runs

@@ -10,7 +10,7 @@ use Rattle.gps_serve.specs.declared.door.Seated.{Seated}
 
 -- the link on which a session's threads work
 abbrev pub link_at : {S K R : Type 0} → Seated S K R → Link S K R
-link_at seated = seated.work.link.value
+link_at seated = seated.attended
 
 abbrev pub links_at : {S K R : Type 0} → List (Seated S K R) → List (Link S K R)
 links_at seated = map link_at seated
@@ -38,6 +38,12 @@ pub record AreSeated {S K R : Type 0} (P : Link S K R → Type 0) (queue : ℕ) 
   pub lanes : map (lanes_of queue) links ≡ seat.links
   pub unused : EachLink IsUnused links
   pub each : EachLink P links
+
+-- The same, whatever P and the number of items that may stand in an outlet.
+pub record HaveLanes {S K R : Type 0} (links : List (Link S K R)) (seat : Admissions) : Type 0 where
+  pub queue : ℕ
+  pub lanes : map (lanes_of queue) links ≡ seat.links
+  pub unused : EachLink IsUnused links
 
 -- The door's faults do not fall, and it says that the door failed only where they rose.
 pub record FailsBy (failed : Bool) (faults faults' : ℕ) : Type 0 where

@@ -9,3 +9,4 @@ pub mod Units
 pub mod Whole
 pub mod Scopes
 pub mod Lost
+pub mod Released

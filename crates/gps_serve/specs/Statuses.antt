@@ -1,9 +1,13 @@
--- When want of memory was met. This project's own.
-use Rattle.std.specs.Prelude.{◌≡◌, Bool, true, not, ◌&&◌, ◌||◌, is_some, List, Option}
+-- When want of memory was met, and when a device was lost by a fault. This project's own.
+use Rattle.std.specs.Prelude.{◌≡◌, Bool, true, not, ◌&&◌, ◌||◌, is_some, List, Option, Some, None}
 use Rattle.std.specs.List.{list_all}
+use Rattle.gps_lane.specs.Ends.{Putting}
 use Rattle.hub_laws.specs.declared.ends.DeviceEnd.{DeviceEnd}
-use Rattle.hub_laws.specs.Given.{is_end}
+use Rattle.hub_laws.specs.declared.ends.DeviceEnd.TheVariants.{ReadFault}
+use Rattle.hub_laws.specs.Given.{ending_of, is_end}
 use Rattle.serve_parts.specs.declared.done.DeviceDone.{DeviceDone}
+use Rattle.serve_pieces.specs.declared.piece.Ending.TheVariants.{Failed}
+use Rattle.serve_pieces.specs.declared.piece.Piece.{Piece}
 use Rattle.serve_threads.specs.declared.monitors.WatchDone.{WatchDone}
 use Rattle.gps_serve.specs.declared.status.Outcome.{Outcome}
 
@@ -22,3 +26,17 @@ HasStopped end = is_some end ≡ true
 -- each device has ended
 abbrev pub AllEnded : {S R : Type 0} → List (DeviceDone S R) → Type 0
 AllEnded {S} {R} devices = list_all (λ (d : DeviceDone S R). is_end d.end) devices ≡ true
+
+-- a device was lost by the fault of a source
+abbrev pub WasLostByFault : {S R : Type 0} → DeviceDone S R → Type 0
+WasLostByFault device = device.end ≡ Some ReadFault
+
+-- what was put into a lane says that its source failed
+abbrev pub TellsFault : Option (Putting Piece) → Type 0
+TellsFault None = ⊥
+TellsFault (Some tx) = ending_of tx.put ≡ Some Failed
+
+-- what was put into a device's lanes says of no source that it failed
+pub record TellsNoFault {S R : Type 0} (device : DeviceDone S R) : Type 0 where
+  pub bytes : TellsFault (Some device.bytes_tx) → ⊥
+  pub edges : TellsFault device.edges_tx → ⊥

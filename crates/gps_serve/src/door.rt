@@ -4,8 +4,9 @@ ghost use Rattle.std.specs.Vec.{vec_len, vec_capacity};
 ghost use Rattle.gps_outside.specs.Counts.{Rose};
 ghost use Rattle.gps_outside.specs.Links.{IsUnread, IsUnwritten};
 ghost use Rattle.serve_threads.specs.Sessions.{SessionRuns};
-ghost use Rattle.gps_serve.specs.Doors.{AreSeated, Deals, FailsBy, IsNewLink, Tended, Tends, Way, door_now, links_at, way_of};
+ghost use Rattle.gps_serve.specs.Doors.{AreSeated, Deals, FailsBy, HaveLanes, IsNewLink, Tended, Tends, Way, door_now, links_at, way_of};
 
+use crate::attended::Attended;
 use crate::floor::Floor;
 use gps_fixed::NoMemory;
 use gps_hub::{DoorSeat, HubNaming};
@@ -14,9 +15,7 @@ use gps_outside::{Door, DoorStep, Sink, Source};
 use report_book::BookFault;
 use serve_parts::SessionDone;
 use serve_pieces::Piece;
-use serve_threads::{
-    Attending, Bells, Link, SessionBells, SessionRun, Work, start_if, start_session,
-};
+use serve_threads::{Bells, Link, SessionBells, SessionRun, Work, start_if, start_session};
 use session_core::Item;
 use std::alloc::Global;
 use std::marker::PhantomData;
@@ -34,7 +33,7 @@ const REST: u64 = 1;
 /// A session's threads, and their bells.
 #[derive(Drop)]
 pub(crate) struct Seated<S: Source, K: Sink, R: Wait + Copy> {
-    pub(crate) work: Work<SessionRun<S, K, R>, Attending<S, K, R>>,
+    pub(crate) attended: Attended<S, K, R>,
     pub(crate) bells: Arc<SessionBells>,
 }
 
@@ -42,7 +41,7 @@ pub(crate) struct Seated<S: Source, K: Sink, R: Wait + Copy> {
 #[derive(Drop)]
 struct Sessions<S: Source, K: Sink, R: Wait + Copy> {
     seated: Vec<Seated<S, K, R>>,
-    // Those whose threads have not been joined.
+    // Those whose lanes were not let go of yet.
     live: Vec<usize>,
     runs: Vec<SessionRun<S, K, R>>,
     ghost none: { runs.items ≡ [] },
@@ -154,6 +153,28 @@ fn make_places<R: Wait + Copy>(rt: R, alloc: Global, queue: u32) -> Result<Place
     })
 }
 
+/// Joins the threads of a session, and gets what its lanes hold once it is closed. False where it is not closed yet.
+fn release_at<S: Source, K: Sink, J: HubNaming, R: Threads + Wait + Copy>(
+    seated: &mut Vec<Seated<S, K, R>>,
+    rt: &R,
+    floor: &Mutex<Floor<J, R>>,
+    seat: &mut DoorSeat<J>,
+    session: usize,
+) -> bool
+    requires lanes { HaveLanes (links_at seated.old.items) seat.old }
+    ensures seat { seat.new ≡ seat.old }
+    ensures links { links_at seated.new.items ≡ links_at seated.old.items }
+    ensures count { vec_len seated.new ≡ vec_len seated.old }
+{
+    if session >= seated.len() {
+        return false;
+    }
+    let Ok(number) = u32::try_from(session) else {
+        return false;
+    };
+    seated[session].attended.release(rt, floor, seat, number)
+}
+
 impl<S: Source, K: Sink, R: Wait + Copy> Sessions<S, K, R> {
     fn none(alloc: Global) -> Sessions<S, K, R>
         ensures { result.seated.items ≡ [] }
@@ -192,7 +213,10 @@ impl<S: Source, K: Sink, R: Wait + Copy> Sessions<S, K, R> {
         self.seated.push_reserved(session);
     }
 
-    fn is_gone(&self, k: usize) -> bool {
+    /// Whether the threads of the session at a place of the list of those that live have ended.
+    fn is_gone(&self, k: usize) -> bool
+        ensures { result ≡ true → k < vec_len self.now.live }
+    {
         match self.live.get(k) {
             Some(session) => match self.seated.get(*session) {
                 Some(seated) => seated.bells.is_gone(),
@@ -202,28 +226,51 @@ impl<S: Source, K: Sink, R: Wait + Copy> Sessions<S, K, R> {
         }
     }
 
-    fn join_one<T: Threads>(&mut self, rt: &T, k: usize)
+    /// Joins the threads of the session at a place of the list of those that live, where they have ended. Once it is closed, it leaves the list.
+    /// False where it stays.
+    fn let_go<J: HubNaming>(
+        &mut self,
+        rt: &R,
+        floor: &Mutex<Floor<J, R>>,
+        seat: &mut DoorSeat<J>,
+        k: usize,
+    ) -> bool
+    where
+        R: Threads,
+        requires lanes { HaveLanes (links_at self.old.seated.items) seat.old }
+        ensures seat { seat.new ≡ seat.old }
         ensures links { links_at self.new.seated.items ≡ links_at self.old.seated.items }
         ensures count { vec_len self.new.seated ≡ vec_len self.old.seated }
     {
-        if k < self.live.len() {
-            let session = self.live.swap_remove(k);
-            if session < self.seated.len() {
-                self.seated[session].work.settle(rt);
-            }
+        if !self.is_gone(k) {
+            return false;
         }
+        let session = self.live[k];
+        if !release_at(&mut self.seated, rt, floor, seat, session) {
+            return false;
+        }
+        self.live.swap_remove(k);
+        true
     }
 
     /// Joins the threads that have ended.
-    fn join_gone<T: Threads>(&mut self, rt: &T)
+    #[tactic(auto, using(crate::proofs::Released::same_lanes))]
+    fn join_gone<J: HubNaming>(
+        &mut self,
+        rt: &R,
+        floor: &Mutex<Floor<J, R>>,
+        seat: &mut DoorSeat<J>,
+    )
+    where
+        R: Threads,
+        requires lanes { HaveLanes (links_at self.old.seated.items) seat.old }
+        ensures seat { seat.new ≡ seat.old }
         ensures links { links_at self.new.seated.items ≡ links_at self.old.seated.items }
         ensures count { vec_len self.new.seated ≡ vec_len self.old.seated }
     {
         let mut k = 0usize;
         'live: for _ in 0..self.live.len() {
-            if self.is_gone(k) {
-                self.join_one(rt, k);
-            } else {
+            if !self.let_go(rt, floor, seat, k) {
                 k = k.saturating_add(1);
             }
         }
@@ -236,7 +283,6 @@ impl<S: Source, K: Sink, R: Wait + Copy> Sessions<S, K, R> {
     }
 
     /// Waits for all threads.
-    #[tactic(auto, using(crate::proofs::Zips::ran_none, crate::proofs::Zips::ran_more, crate::proofs::Zips::ran_all))]
     fn join_all<T: Threads>(self, rt: &T) -> Vec<SessionRun<S, K, R>>
         ensures runs { AllZip (SessionRuns S.content S.faults S.quiets K.written K.faults) (links_at self.seated.items) result.items }
         ensures count { vec_len result ≡ vec_len self.seated }
@@ -247,8 +293,8 @@ impl<S: Source, K: Sink, R: Wait + Copy> Sessions<S, K, R> {
             mut runs,
         } = self;
         'sessions: for session in seated {
-            let Seated { work, bells: _ } = session;
-            runs.push_reserved(work.join(rt));
+            let Seated { attended, bells: _ } = session;
+            runs.push_reserved(attended.join(rt));
         }
         runs
     }
@@ -355,6 +401,7 @@ impl<S: Source, K: Sink, G: Door<In = S, Out = K>, J: HubNaming, R: Wait + Copy>
                     pieces,
                     items,
                 };
+                let shown = Snapshot::of(&link);
                 let work = start_session(
                     rt,
                     alloc,
@@ -365,7 +412,10 @@ impl<S: Source, K: Sink, G: Door<In = S, Out = K>, J: HubNaming, R: Wait + Copy>
                     &door,
                     &bells.pump,
                 );
-                self.seat(Seated { work, bells: door });
+                self.seat(Seated {
+                    attended: Attended::new(shown, work),
+                    bells: door,
+                });
             }
             Err(BookFault::TooManySessions { live: _, opened: _ }) => {
                 self.full = self.full.saturating_add(1);
@@ -467,7 +517,10 @@ impl<S: Source, K: Sink, G: Door<In = S, Out = K>, J: HubNaming, R: Wait + Copy>
 
     /// Joins the threads that have ended.
     #[tactic(auto, using(crate::proofs::Seating::same_links))]
-    fn join_gone<T: Threads>(&mut self, rt: &T)
+    fn join_gone(&mut self, rt: &R, floor: &Mutex<Floor<J, R>>)
+    where
+        R: Threads,
+        requires lanes { HaveLanes (links_at self.old.sessions.seated.items) self.old.seat }
         ensures gate { self.new.gate ≡ self.old.gate }
         ensures seat { self.new.seat ≡ self.old.seat }
         ensures failed { self.new.failed ≡ self.old.failed }
@@ -475,10 +528,11 @@ impl<S: Source, K: Sink, G: Door<In = S, Out = K>, J: HubNaming, R: Wait + Copy>
         ensures no_memory { self.new.no_memory ≡ self.old.no_memory }
         ensures links { links_at self.new.sessions.seated.items ≡ links_at self.old.sessions.seated.items }
     {
-        self.sessions.join_gone(rt);
+        self.sessions.join_gone(rt, floor, &mut self.seat);
     }
 
     /// A turn of the door worker: it asks the door, and joins the threads that have ended.
+    #[tactic(auto, using(crate::proofs::Released::have_lanes))]
     fn turn<'s, E>(
         &mut self,
         rt: R,
@@ -502,7 +556,7 @@ impl<S: Source, K: Sink, G: Door<In = S, Out = K>, J: HubNaming, R: Wait + Copy>
         ensures tends { (told : Option (List (Way S K))) → Tends told (door_now (G.links self.old.gate) (G.faults self.old.gate) (G.quiets self.old.gate) self.old.full self.old.no_memory) (map way_of (links_at self.old.sessions.seated.items)) self.old.seat.done to_ask → Tends told (door_now (G.links self.new.gate) (G.faults self.new.gate) (G.quiets self.new.gate) self.new.full self.new.no_memory) (map way_of (links_at self.new.sessions.seated.items)) self.new.seat.done false }
     {
         let to_ask = self.ask_if(rt, alloc, scope, floor, bells, queue, to_ask, last);
-        self.join_gone(&rt);
+        self.join_gone(&rt, floor);
         to_ask
     }
 

@@ -188,6 +188,11 @@ impl<J: HubNaming, R: Wait + Copy> Floor<J, R> {
         stored
     }
 
+    /// Whether a session is closed.
+    pub(crate) fn is_closed(&self, session: u32) -> bool {
+        self.hub.book().closing(session).is_some()
+    }
+
     /// Admits a session, whose bells these are.
     pub(crate) fn admit(
         &mut self,

@@ -5,12 +5,14 @@
 //! Who has nothing to do waits in a read, in an accept, or on a bell.
 #![tactic(auto)]
 
+mod attended;
 mod door;
 mod floor;
 mod ground;
 mod lanes;
 mod pump;
 mod readers;
+mod release;
 mod scope;
 mod served;
 mod settling;

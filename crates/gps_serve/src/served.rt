@@ -17,7 +17,7 @@ ghost use Rattle.gps_serve.specs.Doors.{IsNewLink, Tended, door_now};
 ghost use Rattle.gps_serve.specs.Lost.{NoneLost};
 ghost use Rattle.gps_serve.specs.Runs.{DeviceReads, DevicesRan, IsLeftOf};
 ghost use Rattle.gps_serve.specs.Starts.{IsFreshDevice, edges_at, sources_at};
-ghost use Rattle.gps_serve.specs.Statuses.{AllEnded, HasStopped};
+ghost use Rattle.gps_serve.specs.Statuses.{AllEnded, HasStopped, WasLostByFault};
 ghost use Rattle.gps_serve.specs.Units.{AreAtRest, CountFromZero};
 ghost use Rattle.gps_serve.specs.Whole.{IsWhole};
 ghost use Rattle.gps_serve.specs.Works.{WatchersRan, monitored};
@@ -52,6 +52,7 @@ struct Numbers {
 }
 
 /// What is handed back where nothing was served.
+#[tactic(auto, using(crate::proofs::First::no_devices))]
 fn nothing<W: World, R: Wait + Copy>(alloc: Global, world: W, stop: Stop) -> Served<W, R>
     ensures book { result.book ≡ None }
     ensures world { result.world ≡ world }
@@ -60,6 +61,7 @@ fn nothing<W: World, R: Wait + Copy>(alloc: Global, world: W, stop: Stop) -> Ser
     ensures three { result.status ≡ 3 → stop ≡ Stop.Input }
     ensures eight { result.status ≡ 8 → stop ≡ Stop.Listen }
     ensures seven { result.status ≡ 7 → result.no_memory ≡ true }
+    ensures first { SomeFailed WasLostByFault result.devices.items → result.status ≡ 3 }
     ensures lacked { stop ≡ Stop.NoMemory → result.status ≡ 7 }
     ensures each { ((result.status ≡ 3) × (stop ≡ Stop.Input)) ⊎ ((result.status ≡ 8) × (stop ≡ Stop.Listen)) ⊎ (result.status ≡ 7) }
 {
@@ -173,6 +175,7 @@ fn gather<W: World, J: HubNaming, D: Dials, R: Wait + Copy>(
     ensures three { result.status ≡ 3 → SomeFailed (DeviceFailed W.In.faults) result.devices.items }
     ensures eight { result.status ≡ 8 → SourceFailed W.Gate.faults result.gate }
     ensures seven { result.status ≡ 7 → result.no_memory ≡ true }
+    ensures first { SomeFailed WasLostByFault result.devices.items → result.status ≡ 3 }
     ensures zero { result.status ≡ 0 → result.no_memory ≡ false }
     ensures ended { result.status ≡ 0 → AllEnded result.devices.items }
     ensures lacks { result.no_memory ≡ false → IfSome result.book (λ book. NoneLost book result.devices.items) }
@@ -308,6 +311,7 @@ fn run<
     ensures three { result.status ≡ 3 → SomeFailed (DeviceFailed W.In.faults) result.devices.items }
     ensures eight { result.status ≡ 8 → SourceFailed W.Gate.faults result.gate }
     ensures seven { result.status ≡ 7 → result.no_memory ≡ true }
+    ensures first { SomeFailed WasLostByFault result.devices.items → result.status ≡ 3 }
     ensures zero { result.status ≡ 0 → (result.no_memory ≡ false) × IsSome result.book }
     ensures ended { result.status ≡ 0 → AllEnded result.devices.items }
     ensures lacks { result.no_memory ≡ false → IfSome result.book (λ book. NoneLost book result.devices.items) }
@@ -363,6 +367,7 @@ pub fn serve<W: World, R: Threads + Wait + Copy + Send + Sync>(
     ensures three { result.status ≡ 3 → SomeFailed (DeviceFailed W.In.faults) result.devices.items ⊎ Rose (W.input_faults world) (W.input_faults result.world) }
     ensures eight { result.status ≡ 8 → SourceFailed W.Gate.faults result.gate ⊎ Rose (W.listen_faults world) (W.listen_faults result.world) }
     ensures seven { result.status ≡ 7 → result.no_memory ≡ true }
+    ensures first { SomeFailed WasLostByFault result.devices.items → result.status ≡ 3 }
     ensures zero { result.status ≡ 0 → (result.no_memory ≡ false) × IsSome result.book }
     ensures ended { result.status ≡ 0 → AllEnded result.devices.items }
     ensures lacks { result.no_memory ≡ false → IfSome result.book (λ book. NoneLost book result.devices.items) }

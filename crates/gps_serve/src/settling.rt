@@ -1,4 +1,4 @@
-ghost use Rattle.std.specs.Prelude.{◌≡◌, ◌≤◌, ◌<◌, ◌||◌, [], ◌∷◌, length, map, Some, true, get_or};
+ghost use Rattle.std.specs.Prelude.{◌≡◌, ◌≤◌, ◌<◌, ◌||◌, [], ◌∷◌, length, map, Some, true, false, get_or};
 ghost use Rattle.std.specs.List.{AllZip, range_with_len};
 ghost use Rattle.std.specs.Vec.{vec_len, vec_capacity};
 ghost use Rattle.std.specs.Vec.Iter.{into_iter_items};
@@ -10,6 +10,7 @@ ghost use Rattle.serve_settling.specs.Runs.{RunCause, EachRun, source_facts};
 ghost use Rattle.gps_serve.specs.AtEnd.{DeviceServed, MonitorServed, OutletServed, sink_facts, watched_units};
 ghost use Rattle.gps_serve.specs.Readies.{AllServed, AreReady, InputLeft, IsSourceOf, MonitorReady, SessionReady};
 ghost use Rattle.gps_serve.specs.Runs.{DeviceReady, IsLeftOf};
+ghost use Rattle.gps_serve.specs.Statuses.{TellsNoFault};
 
 use crate::status::either;
 use gps_hub::{DeviceEnd, Inlets};
@@ -54,6 +55,7 @@ fn left_of<S: Source, D: Dials, R: Wait + Copy>(
     ensures served { DeviceServed D.may (source_facts S.content S.faults S.quiets) inlets result.device }
     ensures end { result.device.end ≡ end }
     ensures failed { result.failed ≡ true → DeviceFailed S.faults result.device }
+    ensures untold { result.failed ≡ false → TellsNoFault result.device }
     ensures source { result.device.source ≡ Some run.bytes.source }
     ensures edges { result.device.edges ≡ source_of run.edges }
     ensures bytes_tx { result.device.bytes_tx ≡ run.bytes.pieces }
@@ -88,6 +90,7 @@ pub(crate) fn devices_done<S: Source, D: Dials, R: Wait + Copy>(
     ensures served { AllZip (DeviceServed D.may (source_facts S.content S.faults S.quiets)) inlets.items result.devices.items }
     ensures ends { map (λ device. device.end) result.devices.items ≡ ends.items }
     ensures failed { result.failed ≡ true → SomeFailed (DeviceFailed S.faults) result.devices.items }
+    ensures untold { result.failed ≡ false → EachRun TellsNoFault result.devices.items }
     ensures left { AllZip IsLeftOf runs.items result.devices.items }
 {
     let mut devices = room;
@@ -125,7 +128,7 @@ fn settled<S: Source, K: Sink, R: Wait + Copy>(
 }
 
 /// Puts together what is left of the sessions, in order.
-#[tactic(auto, using(crate::proofs::Sessions::sessions_none, crate::proofs::Zips::ran_begin))]
+#[tactic(auto, using(crate::proofs::Sessions::sessions_begin, crate::proofs::Zips::ran_begin))]
 pub(crate) fn sessions_done<S: Source, K: Sink, R: Wait + Copy>(
     rt: &R,
     book: &mut Book<Tx<Item, R>>,

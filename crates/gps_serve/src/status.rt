@@ -45,6 +45,7 @@ impl Outcome {
     pub(crate) fn status(&self) -> u8
         ensures range { (result ≡ 0) ⊎ (result ≡ 3) ⊎ (result ≡ 7) ⊎ (result ≡ 8) }
         ensures three { result ≡ 3 → self.now.read_fault ≡ true }
+        ensures three_first { self.now.read_fault ≡ true → result ≡ 3 }
         ensures eight { result ≡ 8 → self.now.door_fault ≡ true }
         ensures seven { result ≡ 7 → lacks_memory self.now ≡ true }
         ensures zero { result ≡ 0 → (lacks_memory self.now ≡ false) × (self.now.ended ≡ true) }

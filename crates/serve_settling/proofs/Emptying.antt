@@ -1,12 +1,6 @@
 -- What a session's outlet still held is written behind what its writer wrote.
 use Rattle.std.proofs.Common.{◌≡◌, ◌≤◌, ◌<◌, ℕ, true, List, [], ◌∷◌, ◌++◌, length, append_assoc, append-nil, Option, None, refl, sym, ◌∙◌, ap, subst, arith}
-use Rattle.std.specs.Prelude.{option_to_list, nat_lt, Result, IsOk}
-use Rattle.std.proofs.lemmas.Bool.Decides.{nat_tests}
-use Rattle.atomic_table.specs.Seated.{TableId}
-use Rattle.report_book.specs.declared.fault.BookFault.{BookFault}
-use Rattle.report_book.specs.BookView.{BookView}
-use Rattle.report_book.specs.Refusals.{RefusesOnly, missing, missing_session}
-use Rattle.session_core.specs.Naming.{OutletName, alone, of_table}
+use Rattle.std.specs.Prelude.{option_to_list}
 use Rattle.std.specs.List.{concat}
 use Rattle.std.proofs.lemmas.List.Folds.{concat-append}
 use Rattle.gps_lane.specs.Ends.{Taking}
@@ -21,26 +15,6 @@ use Rattle.serve_workers.specs.Writing.{Writes, WritesBytes}
 use Rattle.serve_workers.proofs.Rounds.{nothing_written}
 use Rattle.serve_threads.specs.Sessions.{Wrote}
 use Rattle.serve_settling.specs.Outlets.{Empties}
-
-session_there : (b : BookView) (s : ℕ) → s < length b.sessions → missing_session b s ≡ None
-session_there b s within =
-    let there : nat_lt s (length b.sessions) ≡ true = grind (arith, nat_tests) in
-    ap missing there
-
--- a session of the book is settled
-pub settles : {X : Type 0} → (b : BookView) (s : ℕ) (result : Result X BookFault) → s < length b.sessions → RefusesOnly (missing_session b s) result → IsOk result
-settles b s result within refuses = subst (λ fault. RefusesOnly fault result) (session_there b s within) refuses
-
-abbrev table_or : TableId → OutletName → TableId
-table_or free alone = free
-table_or free (of_table table) = table
-
--- the far end of an outlet, after one more item or none
-pub far_end : (old new : Taking (List ℕ)) (item : Option (List ℕ)) → new.got ≡ old.got ++ option_to_list item → of_table new.lane ≡ of_table old.lane
-    → new ≡ record old { got = old.got ++ option_to_list item }
-far_end old new item got name =
-    let lane : new.lane ≡ old.lane = ap (table_or old.lane) name in
-    λ i. record { lane = lane i; got = got i }
 
 bytes_on : (end : SessionEnd) (first second : List (List ℕ)) (before between after : Option (List ℕ))
     → WritesBytes Drained (concat first) before between → WritesBytes end (concat second) between after → WritesBytes end (concat (first ++ second)) before after

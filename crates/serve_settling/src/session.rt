@@ -31,7 +31,7 @@ fn session_end(end: WriterEnd) -> SessionEnd
 }
 
 /// Gets the next item of a session's outlet, where there is one.
-#[tactic(auto, using(crate::proofs::Emptying::settles, crate::proofs::Emptying::far_end))]
+#[tactic(auto, using(hub_laws::proofs::Settling::settles, hub_laws::proofs::Settling::far_end))]
 fn next_item<R: Wait + Copy>(
     book: &mut Book<Tx<Item, R>>,
     number: u32,

@@ -1,4 +1,4 @@
-use Rattle.std.proofs.Common.{◌≤◌, length, sym, ◌∙◌, ap, subst}
+use Rattle.std.proofs.Common.{◌≤◌, length, Some, refl, sym, ◌∙◌, ap, subst, arith}
 use Rattle.std.specs.List.{All, list_all}
 use Rattle.hub_laws.specs.Given.{is_end}
 use Rattle.hub_laws.specs.Keeping.{IsClosed}
@@ -10,7 +10,9 @@ use Rattle.gps_serve.specs.Units.{AreAtRest}
 use Rattle.gps_serve.proofs.Gates.{gate_served, none_lost_in}
 use Rattle.report_book.specs.BookView.{BookView}
 use Rattle.gps_serve.proofs.Ends.{all_ended_by, at_end_of, devices_by, ends_count, monitors_by, not_lacked, units_few}
+use Rattle.gps_serve.proofs.First.{first_of}
 use Rattle.gps_serve.proofs.Sessions.{sessions_ready}
+use Rattle.gps_serve.proofs.Whole.{whole_at_end}
 use Rattle.gps_serve.proofs.served.gather.Goals as goal
 
 pub devices_done-devices-requires-clause-ready : goal.devices_done-devices-requires-clause-ready
@@ -21,6 +23,15 @@ devices_done-devices-requires-clause-ends g c = ends_count _ c.part-book.ensures
 
 pub sessions_done-sessions-requires-clause-ready : goal.sessions_done-sessions-requires-clause-ready
 sessions_done-sessions-requires-clause-ready g c = sessions_ready _ _ c.args.numbers.queue _ _ c.args.ended.door.seat _ _ _ c.requires.tended c.part-book.ensures.sessions
+
+pub sessions_done-sessions-requires-clause-none : goal.sessions_done-sessions-requires-clause-none
+sessions_done-sessions-requires-clause-none g c = c.args.ended.door.none
+
+pub sessions_done-sessions-requires-clause-empty : goal.sessions_done-sessions-requires-clause-empty
+sessions_done-sessions-requires-clause-empty g c = omega (arith, ap length c.args.ended.door.none, c.args.ended.door.room.ok.0)
+
+pub sessions_done-sessions-requires-clause-enough : goal.sessions_done-sessions-requires-clause-enough
+sessions_done-sessions-requires-clause-enough g c = c.args.ended.door.enough
 
 pub monitors_done-monitors-requires-clause-ready : goal.monitors_done-monitors-requires-clause-ready
 monitors_done-monitors-requires-clause-ready g c =
@@ -61,6 +72,15 @@ returns-clause-at_end g c =
     c.sessions_done-sessions.ensures.served c.monitors_done-monitors.ensures.book c.monitors_done-monitors.ensures.served c.monitors_done-monitors.ensures.numbers whole
     (gate_served sources sinks gates c.args.numbers.queue (g.W.Gate.Door.links c.args.first.value) door.gate door.full door.no_memory c.lacks.result door.seat _ _
     c.requires.tended c.sessions_done-sessions.ensures.sources (λ e. c.lacked-no_memory.ensures.before (whole e)))
+
+pub returns-clause-three : goal.returns-clause-three
+returns-clause-three g c e = c.devices_done-devices.ensures.failed (c.status.ensures.three e)
+
+pub returns-clause-first : goal.returns-clause-first
+returns-clause-first g c =
+    let sources = source_facts g.W.In.Source.content g.W.In.Source.faults g.W.In.Source.quiets in
+    first_of g.D.Dials.may sources _ _ _ c.status.ensures.three_first c.devices_done-devices.ensures.untold
+    (whole_at_end _ _ sources _ _ _ _ _ (Some _) _ _ _ _ (returns-clause-at_end g c) refl)
 
 pub returns-clause-eight : goal.returns-clause-eight
 returns-clause-eight g c e = c.requires.cause (c.status.ensures.eight e)

@@ -1,4 +1,4 @@
-use Rattle.std.proofs.Common.{◌≡◌, ◌≤◌, ◌+◌, true, ◌++◌, length, map}
+use Rattle.std.proofs.Common.{◌≡◌, ◌≤◌, ◌+◌, true, false, ◌++◌, length, map}
 use Rattle.std.specs.Vec.{vec_len, vec_capacity}
 use Rattle.std.specs.Vec.Iter.{into_iter_items}
 use Rattle.serve_parts.specs.declared.done.DeviceDone.{DeviceDone}
@@ -6,6 +6,7 @@ use Rattle.serve_settling.specs.Failing.{DeviceFailed, SomeFailed}
 use Rattle.serve_settling.specs.Runs.{EachRun, RunCause, source_facts}
 use Rattle.gps_serve.specs.Doors.{RanSoFar}
 use Rattle.gps_serve.specs.Runs.{DevicesSoFar, IsLeftOf}
+use Rattle.gps_serve.specs.Statuses.{TellsNoFault}
 use Rattle.gps_serve.proofs.settling.devices_done.Given as goal
 
 abbrev pub invariant-devices : goal.invariant-devices
@@ -17,6 +18,7 @@ invariant-devices g l = record {
   ends : map (λ (d : DeviceDone g.row.S.Denot g.row.R.Denot). d.end) l.devices.items ++ into_iter_items l.ends ≡ l.fn.ends.items;
   left : length (into_iter_items l.ends) ≡ length (into_iter_items l.inlets);
   failed : l.failed ≡ true → SomeFailed (DeviceFailed g.S.Source.faults) l.devices.items;
+  untold : l.failed ≡ false → EachRun TellsNoFault l.devices.items;
   count : vec_len l.devices + length (into_iter_items l.run-iterator) ≡ vec_len l.fn.runs;
   room : vec_len l.fn.runs ≤ vec_capacity l.devices;
 }

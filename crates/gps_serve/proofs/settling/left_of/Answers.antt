@@ -3,6 +3,7 @@ use Rattle.hub_laws.specs.Parts.{Lanes}
 use Rattle.serve_settling.specs.Lanes.{Settles, SettlesSome, tx_of}
 use Rattle.serve_settling.specs.Runs.{source_facts}
 use Rattle.gps_serve.proofs.Devices.{device_served}
+use Rattle.gps_serve.proofs.First.{tells_none}
 use Rattle.gps_serve.proofs.settling.left_of.Goals as goal
 
 pub returns-clause-served : goal.returns-clause-served
@@ -13,3 +14,9 @@ returns-clause-served g c =
     device_served g.D.Dials.may (source_facts g.S.Source.content g.S.Source.faults g.S.Source.quiets) c.args.inlets c.args.run done.result c.requires.ready
     done.ensures.source done.ensures.edges done.ensures.bytes_tx done.ensures.edges_tx (subst P c.inlets.view_is done.ensures.bytes_rx)
     (subst Q c.inlets.view_is done.ensures.edges_rx)
+
+pub returns-clause-untold : goal.returns-clause-untold
+returns-clause-untold g c =
+    let done = c.device_done-device in
+    tells_none g.D.Dials.may (source_facts g.S.Source.content g.S.Source.faults g.S.Source.quiets) c.args.inlets c.args.run done.result _ c.requires.ready
+    done.ensures.bytes_tx done.ensures.edges_tx c.device_failed-failed.ensures.said

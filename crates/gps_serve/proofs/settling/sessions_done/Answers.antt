@@ -1,11 +1,21 @@
-use Rattle.std.proofs.Common.{◌∙◌, length, sym, ap, subst, arith}
+use Rattle.std.proofs.Common.{◌∙◌, length, refl, sym, ap, subst, arith}
 use Rattle.report_book.specs.BookView.{BookView}
 use Rattle.serve_settling.specs.Runs.{source_facts}
 use Rattle.gps_serve.specs.AtEnd.{sink_facts}
 use Rattle.gps_serve.specs.Readies.{AllServed, IsSourceOf}
-use Rattle.gps_serve.proofs.Sessions.{is_next, next_session, none_left, same_book, sessions_all, sessions_more, some_left}
-use Rattle.gps_serve.proofs.Zips.{ran_end, ran_next}
+use Rattle.gps_serve.proofs.Sessions.{is_next, next_session, none_left, same_book, sessions_all, sessions_begin, sessions_more, some_left}
+use Rattle.gps_serve.proofs.Zips.{ran_begin, ran_end, ran_next}
 use Rattle.gps_serve.proofs.settling.sessions_done.Goals as goal
+
+pub sessions-init : goal.sessions-init
+sessions-init g c = record {
+  so_far = sessions_begin _ _ _ _ _ _ _ _ c.requires.ready c.into_iter-inputs.ensures.rest c.into_iter-runs.ensures.rest c.requires.none;
+  sources = ran_begin _ _ _ _ c.into_iter-runs.ensures.rest c.requires.none;
+  book = refl;
+  all = c.opened-number-end.ensures;
+  count = omega (arith, c.requires.empty, c.into_iter-runs.ensures.len);
+  room = c.requires.enough;
+}
 
 pub next_of-run-requires : goal.next_of-run-requires
 next_of-run-requires g c =

@@ -1,0 +1,127 @@
+-- Where a device was lost by the fault of a source, a reader of it says so, and the status is 3.
+use Rattle.std.proofs.Common.{◌≡◌, ◌↔◌, ◌⊎◌, inl, inr, ℕ, Bool, true, false, ◌||◌, zero, suc, List, [], ◌∷◌, ◌++◌, Option, Some, None, option_map, refl, sym, ◌∙◌, ap, subst, arith}
+use Rattle.std.specs.List.{All}
+use Rattle.gps_fixed.specs.Moment.{Moment}
+use Rattle.gps_lane.specs.Ends.{Putting, Taking}
+use Rattle.hub_laws.specs.declared.ends.DeviceEnd.{DeviceEnd}
+use Rattle.hub_laws.specs.declared.ends.DeviceEnd.TheVariants.{ReadFault}
+use Rattle.hub_laws.specs.Given.{end_of, ending_of}
+use Rattle.hub_laws.specs.Parts.{Lanes}
+use Rattle.serve_parts.specs.declared.done.DeviceDone.{DeviceDone}
+use Rattle.serve_pieces.specs.declared.piece.Ending.{Ending}
+use Rattle.serve_pieces.specs.declared.piece.Ending.TheVariants.{End, Failed, NoMemory}
+use Rattle.serve_pieces.specs.declared.piece.Piece.{Piece}
+use Rattle.serve_threads.specs.declared.reading.ReaderDone.{ReaderDone}
+use Rattle.serve_settling.specs.declared.device.DeviceRun.{DeviceRun}
+use Rattle.serve_settling.specs.Failing.{EdgeFailed, SaysFailed, SomeFailed}
+use Rattle.serve_settling.specs.Lanes.{tx_of}
+use Rattle.serve_settling.specs.Runs.{EachRun, EdgesRan, SourceFacts}
+use Rattle.serve_settling.proofs.Causes.{each_run_more}
+use Rattle.gps_serve.specs.declared.lanes.EdgeStart.{EdgeStart}
+use Rattle.gps_serve.specs.Runs.{DeviceReady}
+use Rattle.gps_serve.specs.Starts.{IsFreshEdge, edge_start_of}
+use Rattle.gps_serve.specs.Statuses.{TellsFault, TellsNoFault, WasLostByFault}
+use Rattle.gps_serve.specs.Whole.{EdgesWhole, IsWhole}
+use Rattle.gps_serve.proofs.Lost.{neither}
+use Rattle.gps_serve.proofs.Whole.{bytes_told, lines_told}
+
+not_said : {Says : Type 0} (failed : Bool) → ((failed ≡ true) ↔ Says) → failed ≡ false → Says → ⊥
+not_said failed said none says =
+    let yes : failed ≡ true = said.1 says in
+    absurd (cc (yes, none))
+
+-- a lane that says so was put into by a reader that says so
+bytes_say : {S R : Type 0} (may : Option (List Moment)) (facts : SourceFacts S) (x : Lanes) (run : DeviceRun S R) → DeviceReady may facts x run
+    → ending_of run.bytes.pieces.put ≡ Some Failed → run.bytes.ending ≡ Some Failed
+bytes_say may facts x run ready tells =
+    let start = ready.start in
+    sym (bytes_told may run.bytes.ending start.bytes.put run.bytes.pieces.put (facts.content start.source) (facts.content run.bytes.source)
+    ready.ran.bytes.hands ready.fresh.bytes.put)
+    ∙ tells
+
+lines_say : {S R : Type 0} (facts : SourceFacts S) (start : Option (EdgeStart S R)) (first : Option (Taking Piece)) (reader : Option (ReaderDone S R))
+    → IsFreshEdge facts start first → EdgesRan facts (option_map edge_start_of start) reader → TellsFault (tx_of reader) → EdgeFailed reader
+lines_say facts start first None fresh ran tells = absurd tells
+lines_say facts None first (Some reader) fresh ran tells = absurd ran
+lines_say facts (Some start) None (Some reader) fresh ran tells = absurd fresh
+lines_say facts (Some start) (Some first) (Some reader) fresh ran tells =
+    sym (lines_told reader.ending start.lines.put reader.pieces.put (facts.content start.source) (facts.content reader.source) ran.hands fresh.0.put) ∙ tells
+
+-- no reader of a device says so, and so its lanes do not
+pub tells_none : {S R : Type 0} (may : Option (List Moment)) (facts : SourceFacts S) (x : Lanes) (run : DeviceRun S R) (device : DeviceDone S R) (failed : Bool)
+    → DeviceReady may facts x run → device.bytes_tx ≡ run.bytes.pieces → device.edges_tx ≡ tx_of run.edges → ((failed ≡ true) ↔ SaysFailed run) → failed ≡ false
+    → TellsNoFault device
+tells_none may facts x run device failed ready bytes_tx edges_tx said none = record {
+  bytes = λ (tells : ending_of device.bytes_tx.put ≡ Some Failed).
+      let same : ending_of run.bytes.pieces.put ≡ ending_of device.bytes_tx.put = ap (λ (tx : Putting Piece). ending_of tx.put) (sym bytes_tx) in
+      not_said failed said none (inl (bytes_say may facts x run ready (same ∙ tells)));
+  edges = λ (tells : TellsFault device.edges_tx).
+      let lines = lines_say facts ready.start.edges ready.first.edges run.edges ready.fresh.edges ready.ran.edges (subst TellsFault edges_tx tells) in
+      not_said failed said none (inr lines);
+}
+
+-- of each device
+pub untold_begin : {S R : Type 0} (devices : List (DeviceDone S R)) → devices ≡ [] → EachRun TellsNoFault devices
+untold_begin [] none = tt
+untold_begin (device ∷ devices) none = absurd (cc)
+
+pub untold_more : {S R : Type 0} (before now failed : Bool) (devices devices' : List (DeviceDone S R)) (device : DeviceDone S R)
+    → (before ≡ false → EachRun TellsNoFault devices) → (now ≡ false → TellsNoFault device) → failed ≡ (before || now) → devices' ≡ devices ++ device ∷ []
+    → failed ≡ false → EachRun TellsNoFault devices'
+untold_more before now failed devices devices' device so one is more e =
+    let none = neither before now (sym is ∙ e) in
+    subst (EachRun TellsNoFault) (sym more) (each_run_more TellsNoFault devices device (so none.0) (one none.1))
+
+-- a device is lost by a fault as one of its sources failed
+fault_of : (bytes edges : Ending) (end : Option DeviceEnd) → end ≡ Some (end_of bytes edges) → end ≡ Some ReadFault → (bytes ≡ Failed) ⊎ (edges ≡ Failed)
+fault_of NoMemory edges end is lost = absurd (cc (is, lost))
+fault_of Failed edges end is lost = inl refl
+fault_of End End end is lost = absurd (cc (is, lost))
+fault_of End Failed end is lost = inr refl
+fault_of End NoMemory end is lost = absurd (cc (is, lost))
+
+lines_tell : {S : Type 0} (facts : SourceFacts S) (ending : Ending) (tx : Option (Putting Piece)) (rx : Option (Taking Piece)) (source : Option S)
+    → EdgesWhole facts ending tx rx source → ending ≡ Failed → TellsFault tx
+lines_tell facts ending None None None whole failed =
+    let ended : ending ≡ End = whole in
+    absurd (cc (ended, failed))
+lines_tell facts ending None None (Some source) whole failed = absurd whole
+lines_tell facts ending None (Some rx) source whole failed = absurd whole
+lines_tell facts ending (Some tx) None source whole failed = absurd whole
+lines_tell facts ending (Some tx) (Some rx) None whole failed = absurd whole
+lines_tell facts ending (Some tx) (Some rx) (Some source) whole failed =
+    ap ending_of (sym whole.got) ∙ lines_told (Some ending) [] rx.got (facts.content whole.first) (facts.content source) whole.hands refl ∙ ap Some failed
+
+-- what was put into its lanes says so
+not_lost : {S R : Type 0} (may : Option (List Moment)) (facts : SourceFacts S) (device : DeviceDone S R) → TellsNoFault device → IsWhole may facts device
+    → WasLostByFault device → ⊥
+not_lost may facts device untold whole lost =
+    let came = whole (inr lost) in
+    elim (fault_of came.bytes_ending came.edges_ending device.end came.end_is lost) [
+      | inl failed ↦ untold.bytes (
+          ap ending_of (sym came.bytes.got)
+          ∙ bytes_told may (Some came.bytes_ending) [] device.bytes_rx.got (facts.content came.bytes.first) (facts.content came.source) came.bytes.hands refl
+          ∙ ap Some failed
+          )
+      | inr failed ↦ untold.edges (lines_tell facts came.edges_ending device.edges_tx device.edges_rx device.edges came.edges failed)
+    ]
+
+none_lost : {S R : Type 0} (may : Option (List Moment)) (facts : SourceFacts S) (devices : List (DeviceDone S R)) → EachRun TellsNoFault devices
+    → All (IsWhole may facts) devices → SomeFailed WasLostByFault devices → ⊥
+none_lost may facts [] untold whole lost = lost
+none_lost may facts (device ∷ devices) untold whole lost = elim lost [
+  | inl this ↦ not_lost may facts device untold.0 (whole zero device (omega arith)) this
+  | inr later ↦ none_lost may facts devices untold.1 (λ k d there. whole (suc k) d (omega (arith, there))) later
+]
+
+-- of the causes of a status a device that was lost by a fault is the first
+pub first_of : {S R : Type 0} (may : Option (List Moment)) (facts : SourceFacts S) (devices : List (DeviceDone S R)) (failed : Bool) (status : ℕ)
+    → (failed ≡ true → status ≡ 3) → (failed ≡ false → EachRun TellsNoFault devices) → All (IsWhole may facts) devices
+    → SomeFailed WasLostByFault devices → status ≡ 3
+first_of may facts devices true status three untold whole lost = three refl
+first_of may facts devices false status three untold whole lost = absurd (none_lost may facts devices (untold refl) whole lost)
+
+-- where no device is there, none was lost
+pub no_devices : {S R : Type 0} (devices : List (DeviceDone S R)) (status : ℕ) → devices ≡ [] → SomeFailed WasLostByFault devices → status ≡ 3
+no_devices [] status none lost = absurd lost
+no_devices (device ∷ devices) status none lost = absurd (cc)

@@ -1,0 +1,9 @@
+use Rattle.std.proofs.Common.{◌≡◌}
+use Rattle.gps_serve.specs.Released.{WritesOn}
+use Rattle.gps_serve.proofs.release.empty_outlet.Given as goal
+
+abbrev pub invariant-items : goal.invariant-items
+invariant-items g l = record {
+  seat : l.seat ≡ l.initial.seat;
+  on : WritesOn g.K.Sink.written g.K.Sink.faults l.initial.writer l.writer;
+}

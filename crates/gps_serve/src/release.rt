@@ -1,0 +1,118 @@
+ghost use Rattle.std.specs.Prelude.{◌≡◌, ◌<◌, ◌++◌, [], length, get_or};
+ghost use Rattle.std.specs.Option.{option_to_list};
+ghost use Rattle.hub_door.specs.Admissions.{Link as Lanes};
+ghost use Rattle.hub_laws.specs.Given.{TellsOnce};
+ghost use Rattle.serve_threads.specs.declared.session.Link.{Link};
+ghost use Rattle.serve_threads.specs.Sessions.{SessionRuns};
+ghost use Rattle.gps_serve.specs.Released.{AreEndsOf, WritesItem, WritesOn};
+
+use crate::floor::Floor;
+use gps_hub::{DoorSeat, HubNaming};
+use gps_lane::Rx;
+use gps_outside::{Sink, Source, write_all};
+use serve_threads::{SessionRun, WriterDone};
+use serve_workers::SessionEnd;
+use session_core::Item;
+use std::sync::{Mutex, Wait};
+
+/// Gets the next item of a closed session's outlet, where there is one.
+fn next_item<J: HubNaming, R: Wait + Copy>(
+    rt: &R,
+    floor: &Mutex<Floor<J, R>>,
+    seat: &mut DoorSeat<J>,
+    number: u32,
+    items: &mut Rx<Item, R>,
+) -> Option<Item>
+    requires there { number < length seat.old.links }
+    requires outlet { (free : Lanes) → items.old.lane ≡ (get_or seat.old.links number free).outlet }
+    ensures seat { seat.new ≡ seat.old }
+    ensures items { items.new ≡ record items.old { got = items.old.got ++ option_to_list result } }
+{
+    floor.lock(rt).hub.settle_outlet(seat, number, items)
+}
+
+/// Writes an item, unless the sink had failed.
+#[tactic(auto, using(crate::proofs::Released::item_written, crate::proofs::Released::item_cut, crate::proofs::Released::item_skipped))]
+fn write_item<K: Sink>(end: SessionEnd, sink: &mut K, item: Item) -> SessionEnd
+    ensures { WritesItem item end result (K.written sink.old) (K.written sink.new) (K.faults sink.old) (K.faults sink.new) }
+{
+    match end {
+        SessionEnd::WriteFault => return SessionEnd::WriteFault,
+        SessionEnd::Drained => {}
+    }
+    if write_all(sink, item.bytes()) {
+        return SessionEnd::Drained;
+    }
+    SessionEnd::WriteFault
+}
+
+/// Gets the next item of a closed session's outlet, and writes it unless the sink had failed. False where there is none.
+#[tactic(auto, using(crate::proofs::Released::none_on))]
+fn write_next<K: Sink, J: HubNaming, R: Wait + Copy>(
+    rt: &R,
+    floor: &Mutex<Floor<J, R>>,
+    seat: &mut DoorSeat<J>,
+    number: u32,
+    writer: &mut WriterDone<K, R>,
+) -> bool
+    requires there { number < length seat.old.links }
+    requires outlet { (free : Lanes) → writer.old.items.lane ≡ (get_or seat.old.links number free).outlet }
+    ensures seat { seat.new ≡ seat.old }
+    ensures on { WritesOn K.written K.faults writer.old writer.new }
+{
+    let Some(item) = next_item(rt, floor, seat, number, &mut writer.items) else {
+        return false;
+    };
+    writer.end = write_item(writer.end, &mut writer.sink, item);
+    true
+}
+
+/// Gets the items that a closed session's outlet still holds, and writes them until the sink fails. No item is written under the lock.
+#[tactic(auto, using(crate::proofs::Released::on_none, crate::proofs::Released::outlet_still))]
+fn empty_outlet<K: Sink, J: HubNaming, R: Wait + Copy>(
+    rt: &R,
+    floor: &Mutex<Floor<J, R>>,
+    seat: &mut DoorSeat<J>,
+    number: u32,
+    writer: &mut WriterDone<K, R>,
+)
+    requires there { number < length seat.old.links }
+    requires outlet { (free : Lanes) → writer.old.items.lane ≡ (get_or seat.old.links number free).outlet }
+    ensures seat { seat.new ≡ seat.old }
+    ensures on { WritesOn K.written K.faults writer.old writer.new }
+{
+    'items: for _ in rt.forever() {
+        if !write_next(rt, floor, seat, number, writer) {
+            return;
+        }
+    }
+    unreachable!()
+}
+
+/// Gets what the two lanes of a closed session hold, so that they need no memory from then on. Items are written, where the writer wrote all that
+/// it got.
+#[tactic(auto, using(crate::proofs::Released::input_still))]
+pub(crate) fn release_lanes<S: Source, K: Sink, J: HubNaming, R: Wait + Copy>(
+    rt: &R,
+    floor: &Mutex<Floor<J, R>>,
+    seat: &mut DoorSeat<J>,
+    number: u32,
+    run: SessionRun<S, K, R>,
+) -> SessionRun<S, K, R>
+    requires ends { AreEndsOf seat.old number run.writer.items run.reader.pieces }
+    requires once { TellsOnce run.reader.pieces.put }
+    ensures seat { seat.new ≡ seat.old }
+    ensures runs { (link : Link S K R) → SessionRuns S.content S.faults S.quiets K.written K.faults link run → SessionRuns S.content S.faults S.quiets K.written K.faults link result }
+{
+    let SessionRun {
+        mut reader,
+        mut writer,
+    } = run;
+    writer.items.leave();
+    empty_outlet(rt, floor, seat, number, &mut writer);
+    floor
+        .lock(rt)
+        .hub
+        .settle_input(seat, number, &mut reader.pieces);
+    SessionRun { reader, writer }
+}

@@ -10,7 +10,7 @@ ghost use Rattle.serve_settling.specs.Failing.{DeviceFailed, SomeFailed, SourceF
 ghost use Rattle.serve_settling.specs.Runs.{source_facts};
 ghost use Rattle.gps_serve.specs.AtEnd.{AtEnd, gate_facts, sink_facts, told_in};
 ghost use Rattle.gps_serve.specs.Lost.{NoneLost};
-ghost use Rattle.gps_serve.specs.Statuses.{AllEnded};
+ghost use Rattle.gps_serve.specs.Statuses.{AllEnded, WasLostByFault};
 ghost use Rattle.gps_serve.specs.Whole.{IsWhole};
 ghost use Rattle.gpsrelay.specs.Served.{AsksFor, AsksWhole, HaveEdges, HeldBehind, edge_place_of, place_of, places_of, told_by};
 
@@ -100,11 +100,13 @@ fn plan_of(alloc: Global, options: ServeOptions) -> Result<Plan, NoMemory>
 }
 
 /// What is handed back where nothing was served.
+#[tactic(auto, using(gps_serve::proofs::First::no_devices))]
 fn nothing<W: World, R: Wait + Copy>(alloc: Global, world: W, status: u8) -> Served<W, R>
     ensures status { result.status ≡ status }
     ensures book { result.book ≡ None }
     ensures world { result.world ≡ world }
     ensures devices { result.devices.items ≡ [] }
+    ensures first { SomeFailed WasLostByFault result.devices.items → result.status ≡ 3 }
     ensures lacks { result.status ≡ 7 → result.no_memory ≡ true }
 {
     Served {
@@ -140,6 +142,7 @@ pub fn serve_main<W: World, R: Threads + Wait + Copy + Send + Sync>(
     ensures three { result.status ≡ 3 → SomeFailed (DeviceFailed W.In.faults) result.devices.items ⊎ Rose (W.input_faults world) (W.input_faults result.world) }
     ensures eight { result.status ≡ 8 → SourceFailed W.Gate.faults result.gate ⊎ Rose (W.listen_faults world) (W.listen_faults result.world) }
     ensures seven { result.status ≡ 7 → result.no_memory ≡ true }
+    ensures first { SomeFailed WasLostByFault result.devices.items → result.status ≡ 3 }
     ensures zero { result.status ≡ 0 → (result.no_memory ≡ false) × IsSome result.book }
     ensures ended { result.status ≡ 0 → AllEnded result.devices.items }
     ensures lacks { result.no_memory ≡ false → IfSome result.book (λ book. NoneLost book result.devices.items) }

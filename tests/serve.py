@@ -21,6 +21,9 @@ from packets import sentence
 
 PROGRAM = os.path.abspath(sys.argv[1])
 
+# How many clients come and go one after another.
+LINKS = 10_000
+
 
 def second(t, minute=0):
     """The two sentences of one second."""
@@ -260,14 +263,14 @@ def crowd():
     probe = daemon.client()
     probe.line()
     files, memory, threads = daemon.open_files(), daemon.memory(), daemon.threads()
-    for _ in range(2_000):
+    for _ in range(LINKS):
         client = daemon.client()
         client.line()
         client.close()
     time.sleep(1.5)
-    check("2,000 links later: open files", True, daemon.open_files() <= files + 8 or (files, daemon.open_files()))
-    check("2,000 links later: threads", True, daemon.threads() <= threads + 8 or (threads, daemon.threads()))
-    check("2,000 links later: at most 64 KB each", True, daemon.memory() <= memory + 2_000 * 64 or (memory, daemon.memory()))
+    check(f"{LINKS:,} links later: open files", True, daemon.open_files() <= files + 8 or (files, daemon.open_files()))
+    check(f"{LINKS:,} links later: threads", True, daemon.threads() <= threads + 8 or (threads, daemon.threads()))
+    check(f"{LINKS:,} links later: at most 2 KB each", True, daemon.memory() <= memory + LINKS * 2 or (memory, daemon.memory()))
     device.end()
     check("the crowd: status", 0, daemon.wait()[0])
 

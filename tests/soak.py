@@ -620,7 +620,7 @@ class Run:
             it.join(WAIT)
         guests = Client.numbers[0] - 1 - STAYERS
         check("while nobody comes or goes memory rises by at most 2 MB", True, last[0] - middle[0] <= 2048 or (middle[0], last[0]))
-        check("a client that has gone leaves at most 256 KB", True, middle[0] - warm[0] <= 8192 + 256 * guests or (warm[0], middle[0], guests))
+        check("a client that has gone leaves at most 2 KB", True, middle[0] - warm[0] <= 8192 + 2 * guests or (warm[0], middle[0], guests))
         for link in self.links:
             link.shutdown(socket.SHUT_WR)
         self.pulses.close()

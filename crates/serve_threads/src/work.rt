@@ -96,13 +96,4 @@ impl<T: Drop, P: Promise<T> + Drop> Work<T, P> {
             },
         }
     }
-
-    /// Waits for the result, and keeps it.
-    pub fn settle<R: Threads>(&mut self, rt: &R)
-        ensures { self.new ≡ self.old }
-    {
-        if let Some(handle) = self.running.take() {
-            self.done = Some(handle.join(rt));
-        }
-    }
 }

@@ -20,9 +20,10 @@ import time
 
 TOP = os.path.dirname(os.path.dirname(os.path.abspath(__file__)))
 sys.path.insert(0, os.path.join(TOP, "tests"))
-from packets import frame, sentence
+from packets import frame, nav_eoe, nav_pvt, sentence
 
 MB = 1_000_000
+MIDNIGHT = 1717200000  # of 2024-06-01
 
 
 def nmea_second(rng, t):
@@ -54,16 +55,13 @@ def ubx(size):
     rng, out, t, count = random.Random(2), bytearray(), 0, 0
     while len(out) < size:
         itow = 1000 * t
-        day = 1 + t // 86400 % 28
-        pvt = struct.pack("<IHBBBBBBIiBBBBiiiiIIiiiiiIIHHIihH", itow, 2024, 6, day, t // 3600 % 24, t // 60 % 60, t % 60, 7,
-                          50, rng.randrange(1000), 3, 1, 0, 12, 115_166_667 + rng.randrange(10_000),
-                          481_173_000 + rng.randrange(10_000), 592_300, 545_400, 900, 1_400, 10, 20, -30, 22,
-                          8_440_000, 300, 90_000, 183, 0, 0, 0, 0, 0)
+        nanoseconds, east, north = rng.randrange(1000), rng.randrange(10_000), rng.randrange(10_000)
+        pvt = nav_pvt(MIDNIGHT + t % (28 * 86400), itow, nanoseconds, 12, east, north)
         sat = struct.pack("<IBBH", itow, 1, 12, 0) + b"".join(
             struct.pack("<BBBbhhI", 0, n + 1, rng.randrange(50), rng.randrange(91), rng.randrange(360), 0, 8 * (n % 2))
             for n in range(12))
         dop = struct.pack("<IHHHHHHH", itow, 200, 183, 90, 157, 94, 60, 70)
-        for message in (frame(1, 7, pvt), frame(1, 0x35, sat), frame(1, 4, dop), frame(1, 0x61, struct.pack("<I", itow))):
+        for message in (pvt, frame(1, 0x35, sat), frame(1, 4, dop), nav_eoe(itow)):
             out += message
             count += 1
         t += 1

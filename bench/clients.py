@@ -18,7 +18,7 @@ import threading
 import time
 
 sys.path.insert(0, os.path.join(os.path.dirname(os.path.dirname(os.path.abspath(__file__))), "tests"))
-from checks import free_port
+from harness import Daemon, Gpsd
 
 LOG, PROGRAM, NAMES = sys.argv[1], os.path.abspath(sys.argv[2]), sys.argv[3:]
 SHOWN, WIDTH = 5, 150
@@ -111,18 +111,14 @@ source = receiver.getsockname()[1]
 place = tempfile.mkdtemp()
 with open(os.path.join(place, "python.py"), "w") as it:
     it.write(PYTHON)
-daemons, proxies = [], []
-for name in "gpsrelay", "gpsd":
-    port, sent, proxy = free_port(), [], socket.create_server(("127.0.0.1", 0))
-    if name == "gpsd":
-        gpsd = shutil.which("gpsd") or "/usr/sbin/gpsd"
-        if not os.path.exists(gpsd):
-            continue
-        call = [gpsd, "-N", "-n", "-b", "-S", str(port), f"tcp://127.0.0.1:{source}"]
-    else:
-        call = [PROGRAM, "serve", "--listen", f"127.0.0.1:{port}", "--history", "100000", f"gps0=tcp:127.0.0.1:{source}"]
-    daemons.append(subprocess.Popen(call, stdout=subprocess.DEVNULL, stderr=subprocess.DEVNULL))
-    threading.Thread(target=hand_on, args=(proxy, port, sent), daemon=True).start()
+daemons = {"gpsrelay": Daemon(PROGRAM, "--history", "100000", f"gps0=tcp:127.0.0.1:{source}")}
+gpsd = shutil.which("gpsd") or shutil.which("gpsd", path="/usr/sbin")
+if gpsd:
+    daemons["gpsd"] = Gpsd(gpsd, f"tcp://127.0.0.1:{source}")
+proxies = []
+for name, daemon in daemons.items():
+    sent, proxy = [], socket.create_server(("127.0.0.1", 0))
+    threading.Thread(target=hand_on, args=(proxy, daemon.listening().port, sent), daemon=True).start()
     proxies.append((name, proxy.getsockname()[1], sent))
 time.sleep(2)
 try:
@@ -137,7 +133,6 @@ try:
             for line in out.decode(errors="replace").splitlines()[:SHOWN]:
                 print(f"    {line[:WIDTH].rstrip()}", flush=True)
 finally:
-    for process in daemons:
-        process.kill()
-        process.wait()
+    for daemon in daemons.values():
+        daemon.stop()
     shutil.rmtree(place)

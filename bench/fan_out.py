@@ -9,35 +9,31 @@ client's first byte at ten sentences a second; the processor time of idle client
 three that never read, from its first fix on.
 """
 import os
-import re
 import selectors
 import shutil
 import socket
-import subprocess
 import sys
-import tempfile
 import threading
 import time
 from hashlib import sha256
 
 sys.path.insert(0, os.path.join(os.path.dirname(os.path.dirname(os.path.abspath(__file__))), "tests"))
-from checks import free_port
-from packets import sentence
+from harness import Daemon, FifoDevice, Gpsd, TcpDevice, gga, rmc
 
 PROGRAM = os.path.abspath(sys.argv[1])
 SENTENCES = int(sys.argv[2]) if len(sys.argv) > 2 else 100_000
 CLIENTS = int(sys.argv[3]) if len(sys.argv) > 3 else 64
 AHEAD = 2_000
-GPSD = shutil.which("gpsd") or (os.path.exists("/usr/sbin/gpsd") and "/usr/sbin/gpsd") or None
+GPSD = shutil.which("gpsd") or shutil.which("gpsd", path="/usr/sbin")
+MIDNIGHT = 1717200000  # of 2024-06-01
 
 
 def stream(count):
     """RMC and GGA by turns, a second each pair, so that each pair is an epoch."""
     out = []
     for k in range(count // 2):
-        clock = f"{k // 3600 % 24:02d}{k // 60 % 60:02d}{k % 60:02d}"
-        out.append(sentence(f"GPRMC,{clock},A,4807.{k % 1000:03d},N,01131.000,E,022.4,084.4,{1 + k // 86400:02d}0624,,,A"))
-        out.append(sentence(f"GPGGA,{clock},4807.{k % 1000:03d},N,01131.000,E,1,08,0.9,545.4,M,46.9,M,,"))
+        place = f"4807.{k % 1000:03d},N,01131.000,E"
+        out += [rmc(MIDNIGHT + k, place), gga(MIDNIGHT + k, place)]
     return out
 
 
@@ -45,66 +41,33 @@ class Run:
     """A daemon with one device, behind TCP or, of gpsrelay, a FIFO."""
 
     def __init__(self, kind, *words, fifo=False):
-        self.listener = socket.create_server(("127.0.0.1", 0))
-        self.listener.settimeout(10)
-        device = self.listener.getsockname()[1]
-        self.port = free_port()
-        self.link = None
-        if fifo:
-            with tempfile.TemporaryDirectory() as place:
-                path = os.path.join(place, "fifo")
-                os.mkfifo(path)
-                self.start([PROGRAM, "serve", "--listen", f"127.0.0.1:{self.port}", *words, f"gps0=file:{path}"])
-                self.link = open(path, "wb", buffering=0)
-        elif kind == "gpsd":
-            self.start([GPSD, "-N", "-n", "-b", "-S", str(self.port), f"tcp://127.0.0.1:{device}"])
+        self.device = FifoDevice() if fifo else TcpDevice()
+        if kind == "gpsd":
+            self.daemon = Gpsd(GPSD, f"tcp://127.0.0.1:{self.device.port}")
         else:
-            self.start([PROGRAM, "serve", "--listen", f"127.0.0.1:{self.port}", *words, f"gps0=tcp:127.0.0.1:{device}"])
+            self.daemon = Daemon(PROGRAM, *words, self.device.word)
+        self.cpu = self.daemon.cpu
 
-    def start(self, call):
-        self.process = subprocess.Popen(call, stdout=subprocess.DEVNULL, stderr=subprocess.DEVNULL)
-
-    def device(self):
+    def sender(self):
         """What sends to the daemon as the device."""
-        if self.link is None:
-            self.link, _ = self.listener.accept()
-            self.link.setsockopt(socket.IPPROTO_TCP, socket.TCP_NODELAY, 1)
-        return self.link.sendall if isinstance(self.link, socket.socket) else self.link.write
+        return self.device.take().send
 
     def client(self, watch=b'?WATCH={"enable":true,"json":true};\n'):
-        for _ in range(500):
-            try:
-                it = socket.create_connection(("127.0.0.1", self.port), timeout=20)
-                break
-            except ConnectionRefusedError:
-                time.sleep(0.02)
+        it = self.daemon.client(seconds=20)
         if watch:
-            it.sendall(watch)
+            it.send(watch)
         return it
 
-    def cpu(self):
-        with open(f"/proc/{self.process.pid}/stat") as it:
-            fields = it.read().rpartition(")")[2].split()
-        return (int(fields[11]) + int(fields[12])) / os.sysconf("SC_CLK_TCK")
-
-    def peak(self):
-        with open(f"/proc/{self.process.pid}/status") as it:
-            return int(re.search(r"VmHWM:\s+(\d+)", it.read())[1]) / 1024
-
     def end(self):
-        if self.link:
-            self.link.close()
-        try:
-            self.process.wait(5)
-        except subprocess.TimeoutExpired:
-            self.process.kill()
-            self.process.wait()
+        self.device.close()
+        self.daemon.wait(5)
 
 
 def fan_out(kind, fifo=False):
     run = Run(kind, fifo=True) if fifo else Run(kind, "--queue", "65536")
-    clients = [run.client() for _ in range(CLIENTS)]
-    send = run.device()
+    links = [run.client() for _ in range(CLIENTS)]
+    clients = [it.socket for it in links]
+    send = run.sender()
     time.sleep(0.5)
     lines = stream(SENTENCES)
     wanted = len(lines) // 2 - 2
@@ -152,10 +115,10 @@ def fan_out(kind, fifo=False):
     total = sum(counts)
     same = len({it[2].hexdigest() for it in state.values()})
     print(f"{kind:9} {SENTENCES} sentences{' from a FIFO, default queues' if fifo else ''}, {CLIENTS} clients: {wall:.2f} s, {spent / max(total, 1) * 1e6:.2f} us of processor time a line, "
-          f"{total} lines, {sum(c >= wanted for c in counts)} clients have all, {same} different streams, peak {run.peak():.1f} MB", flush=True)
+          f"{total} lines, {sum(c >= wanted for c in counts)} clients have all, {same} different streams, peak {run.daemon.peak() / 1024:.1f} MB", flush=True)
     feeder.join(10)
-    for client in clients:
-        client.close()
+    for link in links:
+        link.close()
     run.end()
 
 
@@ -167,22 +130,16 @@ def from_fifo(kind):
 def latency(kind):
     run = Run(kind)
     client = run.client(b'?WATCH={"enable":true,"nmea":true};\n')
-    send = run.device()
+    send = run.sender()
     time.sleep(0.5)
-    client.settimeout(2)
-    try:
-        while client.recv(65536):
-            client.settimeout(0.3)
-    except socket.timeout:
+    client.receive(seconds=2)
+    while client.receive(seconds=0.3):
         pass
-    client.settimeout(3)
     waits = []
     for line in stream(120):
         send(line)
         begun = time.monotonic()
-        try:
-            client.recv(65536)
-        except socket.timeout:
+        if client.receive(seconds=3) is None:
             continue
         waits.append((time.monotonic() - begun) * 1000)
         time.sleep(0.1)
@@ -197,11 +154,12 @@ def latency(kind):
 def idle(kind):
     run = Run(kind)
     clients = [run.client() for _ in range(CLIENTS)]
-    run.device()
+    run.sender()
     time.sleep(1)
-    before = run.cpu()
+    before, woken = run.cpu(), run.daemon.wakeups()
     time.sleep(5)
-    print(f"{kind:9} {CLIENTS} idle clients: {(run.cpu() - before) / 5 * 100:.2f} % of a processor", flush=True)
+    print(f"{kind:9} {CLIENTS} idle clients: {(run.cpu() - before) / 5 * 100:.2f} % of a processor, "
+          f"{(run.daemon.wakeups() - woken) / 5:.0f} wake-ups a second", flush=True)
     for client in clients:
         client.close()
     run.end()
@@ -213,24 +171,18 @@ def stuck(kind):
     others = []
     for _ in range(3):
         it = run.client(None)
-        it.setsockopt(socket.SOL_SOCKET, socket.SO_RCVBUF, 4096)
-        it.sendall(b'?WATCH={"enable":true,"json":true,"nmea":true};\n')
+        it.socket.setsockopt(socket.SOL_SOCKET, socket.SO_RCVBUF, 4096)
+        it.send(b'?WATCH={"enable":true,"json":true,"nmea":true};\n')
         others.append(it)
-    send = run.device()
+    send = run.sender()
     lines = stream(60_000)  # made before anything is measured
     stamps, stop = [], threading.Event()
 
     def read():
-        quick.settimeout(1)
-        while not stop.is_set():
-            try:
-                data = quick.recv(1 << 16)
-                if not data:
-                    return
-                if stamps or b'"TPV"' in data:
-                    stamps.append(time.monotonic())
-            except socket.timeout:
-                pass
+        while not stop.is_set() and not quick.ended:
+            data = quick.receive(seconds=1)
+            if data and (stamps or b'"TPV"' in data):
+                stamps.append(time.monotonic())
 
     reader = threading.Thread(target=read)
     reader.start()

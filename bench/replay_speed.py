@@ -9,16 +9,14 @@ a receiver's bytes in lines of 512 and in lines of one. Each figure is the least
 greatest memory, of which some 16 MB are this script's, from before the program begins.
 """
 
-import datetime
 import os
 import subprocess
 import sys
 import tempfile
 
 sys.path.insert(0, os.path.join(os.path.dirname(os.path.dirname(os.path.abspath(__file__))), "tests"))
-from packets import sentence
+from packets import BEGIN, clock_of, gga, rmc, sentence
 
-START = 1717243200
 OPENING = [
     "device a", "device b", "monitor 0 0",
     "open 0", 'say 0 ?WATCH={"json":true};',
@@ -29,20 +27,20 @@ TAKING = ["store 0 13", "store 1 13", "store 2 13", "store 3 13", "load 0 12", "
 
 
 def sentences(t):
-    at = datetime.datetime.fromtimestamp(START + t, datetime.timezone.utc)
-    tod, day, part = at.strftime("%H%M%S"), at.strftime("%d%m%y"), f"{t * 7919 % 100000:05}"
-    return [sentence(body)[:-2].decode() for body in [
-        f"GPRMC,{tod},A,4807.{part},N,01131.{part},E,0.50,84.40,{day},,,A",
-        "GPVTG,84.40,T,,M,0.50,N,0.93,K,A",
-        f"GPGGA,{tod},4807.{part},N,01131.{part},E,1,04,0.90,545.4,M,46.9,M,,",
-        "GPGSA,A,3,01,02,12,14,,,,,,,,,2.50,1.30,2.10",
-        "GPGSV,1,1,04,01,40,083,46,02,17,308,41,12,07,344,39,14,22,228,45",
-        f"GPGLL,4807.{part},N,01131.{part},E,{tod},A,A",
+    at, part = BEGIN + t, f"{t * 7919 % 100000:05}"
+    place = f"4807.{part},N,01131.{part},E"
+    return [whole[:-2].decode() for whole in [
+        rmc(at, place, motion="0.50,84.40"),
+        sentence("GPVTG,84.40,T,,M,0.50,N,0.93,K,A"),
+        gga(at, place, quality="04,0.90"),
+        sentence("GPGSA,A,3,01,02,12,14,,,,,,,,,2.50,1.30,2.10"),
+        sentence("GPGSV,1,1,04,01,40,083,46,02,17,308,41,12,07,344,39,14,22,228,45"),
+        sentence(f"GPGLL,{place},{clock_of(at)},A,A"),
     ]]
 
 
 def second(t):
-    at = START + t
+    at = BEGIN + t
     for device in 0, 1:
         yield f"edge {device} assert {at}.000000000#{t + 1}"
     for device in 0, 1:
@@ -62,7 +60,7 @@ def write_seconds(path, size):
 
 
 def write_bytes(path, size, width):
-    """Writes so many bytes of one receiver, `width` of them a line."""
+    """Writes `size` bytes of one receiver, `width` of them a line."""
     stream = bytearray()
     t = 0
     while len(stream) < size:
@@ -71,7 +69,7 @@ def write_bytes(path, size, width):
     with open(path, "w", encoding="ascii") as script:
         script.write("device a\nopen 0 65536\nsay 0 ?WATCH={\"json\":true};\n")
         for at in range(0, size, width):
-            script.write(f"bytes 0 {START}.100000000 {stream[at:min(at + width, size)].hex()}\n")
+            script.write(f"bytes 0 {BEGIN}.100000000 {stream[at:min(at + width, size)].hex()}\n")
 
 
 def played(program, path, words=()):

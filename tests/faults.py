@@ -4,38 +4,38 @@ read, clients that reset their link at each point of a conversation, and a daemo
 
 Use: faults.py PROGRAM. Prints a line for each check, and ends with 1 if one fails.
 """
+import contextlib
 import fcntl
 import os
 import re
 import signal
-import socket
-import struct
 import subprocess
 import sys
 import threading
 import time
 
-from checks import check, exit_status, free_port
-from packets import sentence
+from harness import Daemon, TcpDevice, check, free_port, run, run_parts, sample_path, second, until, within
 
 PROGRAM = os.path.abspath(sys.argv[1])
-SAMPLES = os.path.join(os.path.dirname(os.path.dirname(os.path.abspath(__file__))), "samples")
-DRIVE, SCRIPT = os.path.join(SAMPLES, "drive.nmea"), os.path.join(SAMPLES, "two_devices.script")
+DRIVE, SCRIPT = sample_path("drive.nmea"), sample_path("two_devices.script")
 WAIT = 60
+COMMANDS = [(("decode",), DRIVE), (("pseudo",), DRIVE), (("replay",), SCRIPT), (("generate", "--seed", "1", "--size", "3"), os.devnull),
+            (("lines",), os.devnull), (("serve", "--listen", f"127.0.0.1:{free_port()}", f"g=file:{DRIVE}"), os.devnull)]
 
 
-def second(t):
-    return sentence(f"GPRMC,12{t // 60:02d}{t % 60:02d},A,4807.038,N,01131.000,E,022.4,084.4,010624,,,A")
+def rmc(t):
+    """The one sentence of second t."""
+    return second(t, "RMC")
+
+
+def content(path):
+    with open(path, "rb") as it:
+        return it.read()
 
 
 def whole(words, path):
-    """What the program writes where nothing fails."""
-    with open(path, "rb") as it:
-        return subprocess.run([PROGRAM, *words], stdin=it, stdout=subprocess.PIPE, timeout=WAIT).stdout
-
-
-COMMANDS = [(("decode",), DRIVE), (("pseudo",), DRIVE), (("replay",), SCRIPT), (("generate", "--seed", "1", "--size", "3"), os.devnull),
-            (("lines",), os.devnull), (("serve", "--listen", f"127.0.0.1:{free_port()}", f"g=file:{DRIVE}"), os.devnull)]
+    """What the program writes if nothing fails."""
+    return run(PROGRAM, *words, given=content(path))[1]
 
 
 def full_disk():
@@ -73,8 +73,7 @@ def byte_by_byte():
         fcntl.fcntl(process.stdout, fcntl.F_SETPIPE_SZ, 4096)
 
         def give():
-            with open(path, "rb") as it:
-                data = it.read()
+            data = content(path)
             for at in range(0, 3000):
                 process.stdin.write(data[at:at + 1])
             for at in range(3000, len(data), 61):
@@ -102,61 +101,32 @@ class Served:
     """A daemon with one device behind TCP, and a client that watches in JSON from the beginning."""
 
     def __init__(self):
-        listener = socket.create_server(("127.0.0.1", 0))
-        listener.settimeout(WAIT)
-        self.port = free_port()
-        self.process = subprocess.Popen([PROGRAM, "serve", "--listen", f"127.0.0.1:{self.port}", f"g=tcp:127.0.0.1:{listener.getsockname()[1]}"],
-                                        stdout=subprocess.PIPE, stderr=subprocess.DEVNULL)
-        self.device, _ = listener.accept()
-        self.device.setsockopt(socket.IPPROTO_TCP, socket.TCP_NODELAY, 1)
+        self.device = TcpDevice("g")
+        self.daemon = Daemon(PROGRAM, self.device.word)
+        self.device.take()
         self.good = self.client()
-        self.good.sendall(b'?WATCH={"json":true};')
-        self.had = b""
-        while self.had.count(b"\n") < 3:
-            self.had += self.good.recv(65536)
+        self.had = b"".join(self.good.watching())
 
     def client(self, buffer=None):
-        end = time.monotonic() + WAIT
-        while True:
-            it = socket.socket()
-            if buffer:
-                it.setsockopt(socket.SOL_SOCKET, socket.SO_RCVBUF, buffer)
-            it.settimeout(WAIT)
-            try:
-                it.connect(("127.0.0.1", self.port))
-                return it
-            except ConnectionRefusedError:
-                it.close()
-                if time.monotonic() > end:
-                    raise
-                time.sleep(0.02)
+        return self.daemon.client(buffer, WAIT)
 
     def counts(self):
-        place = f"/proc/{self.process.pid}"
-        return len(os.listdir(f"{place}/fd")), len(os.listdir(f"{place}/task"))
+        return self.daemon.open_files(), self.daemon.threads()
 
     def settled(self, wanted):
-        end = time.monotonic() + 20
-        while self.counts() != wanted and time.monotonic() < end:
-            time.sleep(0.05)
+        until(lambda: self.counts() == wanted, 20)
         return self.counts()
 
     def end(self):
         """The device ends; the good client's lines, the status and the closing lines."""
-        self.device.shutdown(socket.SHUT_WR)
-        while data := self.good.recv(65536):
-            self.had += data
-        try:
-            out, _ = self.process.communicate(timeout=WAIT)
-        except subprocess.TimeoutExpired:
-            self.process.kill()
-            out, _ = self.process.communicate()
-        return self.had.split(b"\r\n"), self.process.returncode, out.decode()
+        self.device.end()
+        self.had += self.good.rest()
+        status, out = self.daemon.wait(WAIT)
+        return self.had.split(b"\r\n"), status, out.decode()
 
 
-def reset(link):
-    link.setsockopt(socket.SOL_SOCKET, socket.SO_LINGER, struct.pack("ii", 1, 0))
-    link.close()
+def fixes_of(lines):
+    return [line for line in lines if line.startswith(b'{"class":"TPV"')]
 
 
 def resets():
@@ -169,66 +139,56 @@ def resets():
     for reads in False, True:
         for point in points:
             link = served.client()
-            served.device.sendall(second(t))
-            t += 1
-            try:
-                if point:
-                    link.sendall(said[:point])
-                if reads:
-                    link.settimeout(0.05)
-                    while link.recv(65536):
-                        pass
-            except (socket.timeout, ConnectionResetError):
+            served.device.send(rmc(t))
+            with contextlib.suppress(ConnectionResetError):
+                link.send(said[:point])
+            while reads and link.receive(seconds=0.05):
                 pass
-            served.device.sendall(second(t))
-            t += 1
-            reset(link)
+            served.device.send(rmc(t + 1))
+            t += 2
+            link.reset()
     for _ in range(20):  # and before it was greeted
-        reset(served.client())
+        served.client().reset()
     check("after all resets: open files and threads", base, served.settled(base))
     lines, status, out = served.end()
     check("resets: who watched meanwhile has each fix once, in order", [f"T12:{k // 60:02d}:{k % 60:02d}.000Z".encode() for k in range(t)],
-          [re.search(rb"T12:..:..\.000Z", line)[0] for line in lines if line.startswith(b'{"class":"TPV"')])
+          [re.search(rb"T12:..:..\.000Z", line)[0] for line in fixes_of(lines)])
     check("resets: status", 0, status)
     closings = [line for line in out.splitlines() if line.startswith("s")]
     check("resets: each closing line is one of these", [], [line for line in closings if not re.fullmatch(r"s\d+ (drained|writefault) (hungup|readfault|daemonend) \d+", line)][:3])
-    check("resets: at least a session for each point", True, len(closings) >= 2 * len(points) + 1 or len(closings))
+    within("resets: at least a session for each point", len(closings) >= 2 * len(points) + 1, len(closings))
 
 
 def narrow():
     """Reads and writes that are short on both sides: the device sends byte by byte, one client takes a few bytes at a time."""
     served = Served()
     slow = served.client(2304)
-    slow.sendall(b'?WATCH={"json":true};')
+    slow.send(b'?WATCH={"json":true};')
     had = bytearray()
     while had.count(b"\n") < 3:  # the watch is answered before anything is fed
-        had += slow.recv(37)
-    data = b"".join(second(t) for t in range(20))
+        had += slow.receive(37)
+    data = b"".join(rmc(t) for t in range(20))
 
     def feed():
         for at in range(len(data)):
-            served.device.sendall(data[at:at + 1])
-        served.device.sendall(b"".join(second(t) for t in range(20, 300)))
+            served.device.send(data[at:at + 1])
+        served.device.send(b"".join(rmc(t) for t in range(20, 300)))
 
     feeder = threading.Thread(target=feed, daemon=True)
     feeder.start()
-    done = threading.Event()
 
     def read():
-        try:
-            while piece := slow.recv(37):
-                had.extend(piece)
-        except OSError as error:
-            had.extend(repr(error).encode())
-        done.set()
+        while piece := slow.receive(37):
+            had.extend(piece)
 
-    threading.Thread(target=read, daemon=True).start()
+    reader = threading.Thread(target=read, daemon=True)
+    reader.start()
     feeder.join(WAIT)
     lines, status, _ = served.end()
-    done.wait(WAIT)
-    fixes = [line for line in lines if line.startswith(b'{"class":"TPV"')]
+    reader.join(WAIT)
+    fixes = fixes_of(lines)
     check("short reads of the device: all fixes", 300, len(fixes))
-    check("a client that takes 37 bytes at a time: the same fixes", True, [line for line in bytes(had).split(b"\r\n") if line.startswith(b'{"class":"TPV"')] == fixes)
+    check("a client that takes 37 bytes at a time: the same fixes", True, fixes_of(bytes(had).split(b"\r\n")) == fixes)
     check("short reads and writes: status", 0, status)
 
 
@@ -236,21 +196,16 @@ def stopped():
     """A daemon that is stopped and continued again and again takes none of it for a fault."""
     served = Served()
     for t in range(20):
-        served.process.send_signal(signal.SIGSTOP)
+        served.daemon.process.send_signal(signal.SIGSTOP)
         time.sleep(0.01)
-        served.process.send_signal(signal.SIGCONT)
-        served.device.sendall(second(t))
+        served.daemon.process.send_signal(signal.SIGCONT)
+        served.device.send(rmc(t))
         time.sleep(0.02)
     late = served.client()
-    check("stopped and continued: a new client is greeted", True, late.recv(65536).startswith(b'{"class":"VERSION"'))
+    check("stopped and continued: a new client is greeted", True, late.receive().startswith(b'{"class":"VERSION"'))
     lines, status, _ = served.end()
-    check("stopped and continued: all fixes", 20, sum(line.startswith(b'{"class":"TPV"') for line in lines))
+    check("stopped and continued: all fixes", 20, len(fixes_of(lines)))
     check("stopped and continued: status", 0, status)
 
 
-for part in full_disk, reader_goes, byte_by_byte, no_input, resets, narrow, stopped:
-    try:
-        part()
-    except Exception as error:  # one part that breaks must not hide the others
-        check(f"{part.__name__} ran to its end", None, repr(error))
-sys.exit(exit_status())
+sys.exit(run_parts(full_disk, reader_goes, byte_by_byte, no_input, resets, narrow, stopped))

@@ -1,23 +1,7 @@
 #!/usr/bin/env bash
 # What only the built program shows: its standard streams, its exit status and the usage line.
 # Use: program.sh PROGRAM, from anywhere. Prints a line for each check, and ends with 1 if one fails.
-set -u
-program=$(readlink -f "${1:?the path of the built program}")
-samples=$(dirname "$(readlink -f "$0")")/../samples
-place=$(mktemp -d)
-trap 'rm -rf "$place"' EXIT
-failed=0
-
-# check NAME WANTED FOUND
-check() {
-    if [ "$2" = "$3" ]; then echo "ok      $1"; else echo "FAILED  $1: wanted '$2', found '$3'"; failed=1; fi
-}
-
-# run WORD..: runs the program on $place/in; its output, its errors and its status are left in $place and $status
-run() {
-    "$program" "$@" <"$place/in" >"$place/out" 2>"$place/err"
-    status=$?
-}
+. "$(dirname "$(readlink -f "$0")")/common.sh"
 
 usage='usage: gpsrelay decode|replay|generate|pseudo|lines|serve'
 sentence='$GPRMC,123519,A,4807.038,N,01131.000,E,022.4,084.4,230394,003.1,W*6A'
@@ -157,13 +141,6 @@ fi
 check 'a pipe that is closed early: ten lines' 10 "$(wc -l <"$place/out")"
 check 'a pipe that is closed early: status' 4 "$(cat "$place/status")"
 
-# checksum TEXT: the sentence of this body
-checksum() {
-    local sum=0 at
-    for ((at = 0; at < ${#1}; at++)); do sum=$((sum ^ $(printf '%d' "'${1:at:1}"))); done
-    printf '$%s*%02X\r\n' "$1" "$sum"
-}
-
 # limited KILOBYTES WORD..: the status under a limit of memory; 126 and 127 say that the system could not begin the program
 limited() {
     (ulimit -v "$1"; shift; exec "$program" "$@" <"$place/in" >"$place/out" 2>"$place/err") 2>"$place/shell"
@@ -172,8 +149,10 @@ limited() {
 # One epoch of 1,600 satellites, whose line takes some hundred kilobytes. Under each limit of memory the program ends by 0 or by 7, and
 # refused words by 2 or by 7.
 for ((id = 1; id <= 797; id += 4)); do
-    checksum "GPGSV,1,1,04,$id,40,083,46,$((id + 1)),17,308,41,$((id + 2)),07,344,39,$((id + 3)),22,228,45,1"
-    checksum "GPGSV,1,1,04,$id,40,083,46,$((id + 1)),17,308,41,$((id + 2)),07,344,39,$((id + 3)),22,228,45,2"
+    for signal in 1 2; do
+        summed "GPGSV,1,1,04,$id,40,083,46,$((id + 1)),17,308,41,$((id + 2)),07,344,39,$((id + 3)),22,228,45,$signal"
+        printf '%s\r\n' "$summed"
+    done
 done >"$place/in"
 statuses='' refused=''
 for limit in $(seq 2000 20 4500); do

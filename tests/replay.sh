@@ -1,23 +1,7 @@
 #!/usr/bin/env bash
 # Scripts played by the built program: the sample one, made ones, and lines that none may have.
 # Use: replay.sh PROGRAM, from anywhere. Prints a line for each check, and ends with 1 if one fails.
-set -u
-program=$(readlink -f "${1:?the path of the built program}")
-samples=$(dirname "$(readlink -f "$0")")/../samples
-place=$(mktemp -d)
-trap 'rm -rf "$place"' EXIT
-failed=0
-
-# check NAME WANTED FOUND
-check() {
-    if [ "$2" = "$3" ]; then echo "ok      $1"; else echo "FAILED  $1: wanted '$2', found '$3'"; failed=1; fi
-}
-
-# run WORD..: runs the program on $place/in; its output, its errors and its status are left in $place and $status
-run() {
-    "$program" "$@" <"$place/in" >"$place/out" 2>"$place/err"
-    status=$?
-}
+. "$(dirname "$(readlink -f "$0")")/common.sh"
 
 # same NAME WANTED: the output is this file, and the status 0
 same() {
@@ -213,7 +197,7 @@ check 'a script, standard output closed: status' 4 $?
 
 # made SEED SIZE: the script that generate makes, written once more.
 made() {
-    local x=$(($1 % 2147483648)) t device f time body sum at code
+    local x=$(($1 % 2147483648)) t device f time body
     printf '%s\n' 'device a' 'device b' 'monitor 0 0' 'open 0' 'say 0 ?WATCH={"json":true};' \
         'open 1' 'say 1 ?WATCH={"nmea":true,"device":"b"};' 'open 2' 'say 2 ?WATCH={"pps":true};'
     for ((t = 0; t < $2; t++)); do
@@ -225,9 +209,8 @@ made() {
             for body in "GPRMC,$time,A,4807.$f,N,01131.$f,E,0.50,84.40,010624,,,A" 'GPVTG,84.40,T,,M,0.50,N,0.93,K,A' \
                 "GPGGA,$time,4807.$f,N,01131.$f,E,1,04,0.90,545.4,M,46.9,M,," 'GPGSA,A,3,01,02,12,14,,,,,,,,,2.50,1.30,2.10' \
                 'GPGSV,1,1,04,01,40,083,46,02,17,308,41,12,07,344,39,14,22,228,45' "GPGLL,4807.$f,N,01131.$f,E,$time,A,A"; do
-                sum=0
-                for ((at = 0; at < ${#body}; at++)); do printf -v code '%d' "'${body:at:1}"; sum=$((sum ^ code)); done
-                printf 'text %d %d.100000000 $%s*%02X\n' "$device" $((1717243200 + t)) "$body" "$sum"
+                summed "$body"
+                printf 'text %d %d.100000000 %s\n' "$device" $((1717243200 + t)) "$summed"
             done
         done
         printf '%s\n' 'store 0 13' 'store 1 13' 'store 2 13' 'store 3 13' 'load 0 12' 'take 0 64' 'take 1 64' 'take 2 64'

@@ -7,152 +7,27 @@ Use: serve.py PROGRAM. Prints a line for each check, and ends with 1 if one fail
 import json
 import os
 import re
-import resource
 import socket
-import struct
-import subprocess
 import sys
-import tempfile
 import threading
 import time
 
-from checks import check, exit_status, free_port
-from packets import sentence
+from harness import VERSION, Daemon, FifoDevice, TcpDevice, check, many_files, run_parts, second, until, within
 
 PROGRAM = os.path.abspath(sys.argv[1])
-
-# How many clients come and go one after another.
-LINKS = 10_000
-
-
-def second(t, minute=0):
-    """The two sentences of one second."""
-    clock = f"12{minute:02d}{t:02d}"
-    return (sentence(f"GPRMC,{clock},A,4807.038,N,01131.000,E,022.4,084.4,010624,,,A")
-            + sentence(f"GPGGA,{clock},4807.038,N,01131.000,E,1,08,0.9,545.4,M,46.9,M,,"))
-
-
-class Device:
-    """A receiver behind TCP: it accepts one connection and sends what it is given."""
-
-    def __init__(self):
-        self.listener = socket.create_server(("127.0.0.1", 0))
-        self.listener.settimeout(20)
-        self.port = self.listener.getsockname()[1]
-        self.link = None
-
-    def take(self):
-        self.link, _ = self.listener.accept()
-        self.link.settimeout(20)
-
-    def send(self, data):
-        self.link.sendall(data)
-
-    def end(self):
-        self.link.shutdown(socket.SHUT_WR)
-
-    def reset(self):
-        self.link.setsockopt(socket.SOL_SOCKET, socket.SO_LINGER, struct.pack("ii", 1, 0))
-        self.link.close()
-
-
-class Client:
-    def __init__(self, port, buffer=None):
-        self.socket = socket.socket()
-        if buffer:
-            self.socket.setsockopt(socket.SOL_SOCKET, socket.SO_RCVBUF, buffer)
-        self.socket.settimeout(20)
-        self.socket.connect(("127.0.0.1", port))
-        self.buffer = b""
-        self.ended = False
-
-    def send(self, data):
-        self.socket.sendall(data)
-
-    def line(self):
-        """The next line, or None at the end."""
-        while b"\n" not in self.buffer:
-            try:
-                data = self.socket.recv(65536)
-            except (ConnectionResetError, socket.timeout):
-                data = b""
-            if not data:
-                self.ended = True
-                return None
-            self.buffer += data
-        line, _, self.buffer = self.buffer.partition(b"\n")
-        return line + b"\n"
-
-    def lines(self):
-        found = []
-        while (line := self.line()) is not None:
-            found.append(line)
-        return found
-
-    def object(self):
-        line = self.line()
-        return None if line is None else json.loads(line)
-
-    def close(self):
-        self.socket.close()
-
-
-class Daemon:
-    def __init__(self, *words, port=None):
-        self.port = port or free_port()
-        self.errors = tempfile.TemporaryFile()
-        self.process = subprocess.Popen([PROGRAM, "serve", "--listen", f"127.0.0.1:{self.port}", *words],
-                                        stdout=subprocess.PIPE, stderr=self.errors)
-
-    def client(self, buffer=None):
-        end = time.monotonic() + 20
-        while True:
-            try:
-                return Client(self.port, buffer)
-            except ConnectionRefusedError:
-                if time.monotonic() > end or self.process.poll() is not None:
-                    raise
-                time.sleep(0.02)
-
-    def wait(self, seconds=30):
-        try:
-            out, _ = self.process.communicate(timeout=seconds)
-        except subprocess.TimeoutExpired:
-            self.process.kill()
-            out, _ = self.process.communicate()
-            return "still running", out
-        return self.process.returncode, out
-
-    def said(self):
-        self.errors.seek(0)
-        return self.errors.read().decode(errors="replace")
-
-    def cpu(self):
-        with open(f"/proc/{self.process.pid}/stat") as it:
-            fields = it.read().rpartition(")")[2].split()
-        return (int(fields[11]) + int(fields[12])) / os.sysconf("SC_CLK_TCK")
-
-    def open_files(self):
-        return len(os.listdir(f"/proc/{self.process.pid}/fd"))
-
-    def threads(self):
-        return len(os.listdir(f"/proc/{self.process.pid}/task"))
-
-    def memory(self):
-        with open(f"/proc/{self.process.pid}/status") as it:
-            return int(re.search(r"VmRSS:\s+(\d+)", it.read())[1])
+WATCH = b'?WATCH={"json":true};'
+LINKS = 10_000  # how many clients come and go one after another
 
 
 def started(*words):
     """A daemon with one device, gps0, which is there."""
-    device = Device()
-    daemon = Daemon(*words, f"gps0=tcp:127.0.0.1:{device.port}")
-    device.take()
-    return daemon, device
+    device = TcpDevice()
+    daemon = Daemon(PROGRAM, *words, device.word)
+    return daemon, device.take()
 
 
-VERSION = b'{"class":"VERSION","release":"gpsrelay-1","rev":"1","proto_major":3,"proto_minor":1}\r\n'
-WATCH = b'?WATCH={"json":true};'
+def classes_of(lines):
+    return [json.loads(line)["class"] for line in lines]
 
 
 def a_day():
@@ -180,10 +55,10 @@ def a_day():
     check("a bad WATCH in two pieces", {"class": "ERROR", "message": "Invalid WATCH"}, client.object())
     device.end()
     rest = client.lines()
-    check("the end: the last fix, the device's end, and nothing else", ["TPV", "DEVICE"], [json.loads(line)["class"] for line in rest])
+    check("the end: the last fix, the device's end, and nothing else", ["TPV", "DEVICE"], classes_of(rest))
     status, out = daemon.wait()
     check("the daemon ends by itself: status", 0, status)
-    check("the closing lines", True, re.fullmatch(rb"s0 drained daemonend \d+\nu0 published 2 count 4 left 0\n", out) is not None or out)
+    within("the closing lines", re.fullmatch(rb"s0 drained daemonend \d+\nu0 published 2 count 4 left 0\n", out) is not None, out)
 
 
 def forms():
@@ -208,9 +83,7 @@ def bad_clients():
     """Garbage, megabytes, one byte at a time, half a close, a reset: nobody else is touched."""
     daemon, device = started()
     good = daemon.client()
-    good.line()
-    good.send(WATCH)
-    good.line(), good.line()
+    good.watching()
     garbage, huge, half, gone, slow = (daemon.client() for _ in range(5))
     garbage.line(), huge.line(), half.line(), slow.line()
     garbage.send(bytes(range(1, 256)) * 4 + b"\n;")
@@ -221,23 +94,22 @@ def bad_clients():
     check("and what follows its line is answered", VERSION, huge.line())
     sender.join()
     half.send(b"?VERSION;")
-    half.socket.shutdown(socket.SHUT_WR)
+    half.finish()
     check("a client that closes its half has had its answer", VERSION, half.line())
-    check("and its link is let go of", None, half.line())
+    check("and its link is closed", None, half.line())
     for byte in b"?VERSION;":
         slow.send(bytes([byte]))
         time.sleep(0.01)
     check("one byte at a time", VERSION, slow.line())
     gone.send(b'?WATCH={"json":true};?POLL;?POLL;?POL')
-    gone.socket.setsockopt(socket.SOL_SOCKET, socket.SO_LINGER, struct.pack("ii", 1, 0))
-    gone.close()
+    gone.reset()
     device.send(second(0) + second(1) + second(2))
     device.end()
-    check("the good client has it all", ["DEVICE", "TPV", "TPV", "TPV", "DEVICE"], [json.loads(line)["class"] for line in good.lines()])
+    check("the good client has it all", ["DEVICE", "TPV", "TPV", "TPV", "DEVICE"], classes_of(good.lines()))
     status, out = daemon.wait()
     check("bad clients: status", 0, status)
-    check("bad clients: the one that reset hung up or could not be written to", True,
-          re.search(rb"^s4 (drained (hungup|readfault)|writefault [a-z]+) \d+$", out, re.M) is not None or out)
+    within("bad clients: the one that reset hung up or could not be written to",
+           re.search(rb"^s4 (drained (hungup|readfault)|writefault [a-z]+) \d+$", out, re.M) is not None, out)
 
 
 def crowd():
@@ -268,9 +140,9 @@ def crowd():
         client.line()
         client.close()
     time.sleep(1.5)
-    check(f"{LINKS:,} links later: open files", True, daemon.open_files() <= files + 8 or (files, daemon.open_files()))
-    check(f"{LINKS:,} links later: threads", True, daemon.threads() <= threads + 8 or (threads, daemon.threads()))
-    check(f"{LINKS:,} links later: at most 2 KB each", True, daemon.memory() <= memory + LINKS * 2 or (memory, daemon.memory()))
+    within(f"{LINKS:,} links later: open files", daemon.open_files() <= files + 8, (files, daemon.open_files()))
+    within(f"{LINKS:,} links later: threads", daemon.threads() <= threads + 8, (threads, daemon.threads()))
+    within(f"{LINKS:,} links later: at most 2 KB each", daemon.memory() <= memory + LINKS * 2, (memory, daemon.memory()))
     device.end()
     check("the crowd: status", 0, daemon.wait()[0])
 
@@ -286,7 +158,6 @@ def stuck_client():
     for client in quick, stuck:
         client.send(b'?WATCH={"json":true,"nmea":true};')
     quick.line(), quick.line()
-    longest, stop = [0.0], [False]
     stamps = []
 
     def read():
@@ -296,82 +167,73 @@ def stuck_client():
     reader = threading.Thread(target=read)
     reader.start()
     for t in range(2_000):
-        device.send(second(t % 60, t // 60 % 60) * 20)
+        device.send(second(t) * 20)
         time.sleep(0.002)
     fed = time.monotonic()
-    end = fed + 10
-    while daemon.open_files() > files and time.monotonic() < end:
-        time.sleep(0.05)
+    until(lambda: daemon.open_files() <= files, 10)
     check("of a stuck one no file is left", files, daemon.open_files())
     device.end()
     reader.join(30)
     gaps = [b - a for a, b in zip(stamps, stamps[1:]) if b <= fed]
-    check("a quick client beside a stuck one waits less than half a second", True, max(gaps, default=9) < 0.5 or max(gaps, default=9))
-    check("and gets every sentence", True, len(stamps) >= 2_000 * 20 * 2 or len(stamps))
+    within("a quick client beside a stuck one waits less than half a second", max(gaps, default=9) < 0.5, max(gaps, default=9))
+    within("and gets every sentence", len(stamps) >= 2_000 * 20 * 2, len(stamps))
     status, out = daemon.wait()
     check("a stuck client: status", 0, status)
-    check("the stuck one overran", True, re.search(rb"^s1 (drained|writefault) overrun \d+$", out, re.M) is not None or out)
+    within("the stuck one overran", re.search(rb"^s1 (drained|writefault) overrun \d+$", out, re.M) is not None, out)
 
 
 def devices():
     """Devices that send junk, end in mid-packet, reset, or are not there; edges; FIFOs."""
     daemon, device = started()
     client = daemon.client()
-    client.line()
-    client.send(WATCH)
-    client.line(), client.line()
+    client.watching()
     device.send(os.urandom(5000).replace(b"$", b"%").replace(b"\xb5", b"\xb6") + second(0) + second(1)[:20])
     device.end()
-    check("junk, and an end in the middle of a packet", ["DEVICE", "TPV", "DEVICE"], [json.loads(line)["class"] for line in client.lines()])
+    check("junk, and an end in the middle of a packet", ["DEVICE", "TPV", "DEVICE"], classes_of(client.lines()))
     check("junk: status", 0, daemon.wait()[0])
 
     daemon, device = started()
     client = daemon.client()
-    client.line()
-    client.send(WATCH)
-    client.line(), client.line()
+    client.watching()
     device.send(second(0) + second(1))
     client.line(), client.line()
     device.reset()
     check("a device that fails adds nothing", [], client.lines())
     check("a device that fails: status", 3, daemon.wait()[0])
 
-    place = tempfile.mkdtemp()
-    fifo, edges = os.path.join(place, "fifo"), os.path.join(place, "edges")
-    os.mkfifo(fifo)
-    now = int(time.time())
+    device = FifoDevice()
+    edges, now = os.path.join(device.folder.name, "edges"), int(time.time())
     with open(edges, "w") as it:
         it.write(f"assert {now}.000000000#1\r\nnonsense\nclear {now}.500000000#2\nassert {now + 1}.000000000#2")
-    daemon = Daemon("--wait", "1", f"gps0=file:{fifo}", f"gps0=edges:{edges}")
-    with open(fifo, "wb", buffering=0) as it:
-        client = daemon.client()
-        client.line()
-        it.write(second(0) + second(1))
-        client.send(b'?WATCH={"json":true,"pps":true}\n')
-        client.line(), client.line()
-        told = client.object()
-        check("with --wait nothing is read before a client watches", "DEVICE", told["class"])
-        it.write(second(2))
-    classes = [json.loads(line)["class"] for line in client.lines()]
+    daemon = Daemon(PROGRAM, "--wait", "1", device.word, f"gps0=edges:{edges}")
+    client = daemon.client()
+    client.line()
+    device.send(second(0) + second(1))
+    client.send(b'?WATCH={"json":true,"pps":true}\n')
+    client.line(), client.line()
+    check("with --wait nothing is read before a client watches", "DEVICE", client.object()["class"])
+    device.send(second(2))
+    device.end()
+    classes = classes_of(client.lines())
     check("a FIFO and its edges: fixes", 3, classes.count("TPV"))
     check("a FIFO and its edges: serial times", 3, classes.count("TOFF"))
     check("a FIFO and its edges: status", 0, daemon.wait()[0])
 
-    daemon = Daemon("gps0=file:/nonexistent/path")
+    daemon = Daemon(PROGRAM, "gps0=file:/nonexistent/path")
     check("a device that is not there: status", 3, daemon.wait()[0])
 
 
 def listening():
     with socket.create_server(("127.0.0.1", 0)) as taken:
         port = taken.getsockname()[1]
-        daemon = Daemon("gps0=file:/dev/null", port=port)
+        daemon = Daemon(PROGRAM, "gps0=file:/dev/null", port=port)
         check("a port that is taken: status", 8, daemon.wait()[0])
-        check("a port that is taken is named", True, str(port) in daemon.said() or daemon.said())
-    daemon = Daemon("gps0=file:/dev/null")
+        within("a port that is taken is named", str(port) in daemon.said(), daemon.said())
+    daemon = Daemon(PROGRAM, "gps0=file:/dev/null")
     check("an empty device: status", 0, daemon.wait()[0])
-    check("where it listens is said", True, f"127.0.0.1:{daemon.port}" in daemon.said() or daemon.said())
+    within("where it listens is said", f"127.0.0.1:{daemon.port}" in daemon.said(), daemon.said())
     for words in (), ("frob",), ("gps0=",), ("gps0=file:",), ("gps0=file:a", "gps0=tcp:b:1"), ("gps0=edges:a",), ("--queue", "0", "gps0=file:a"):
-        daemon = Daemon(*words)
+        daemon = Daemon(PROGRAM, *words)
         check(f"refused words {' '.join(words)!r}: status", 2, daemon.wait()[0])
 
 
@@ -387,7 +249,7 @@ def idle():
     before = daemon.cpu()
     time.sleep(5)
     spent = daemon.cpu() - before
-    check("64 idle clients cost at most a hundredth of a processor", True, spent <= 0.05 or spent)
+    within("64 idle clients cost at most a hundredth of a processor", spent <= 0.05, spent)
     waits = []
     for t in range(30):
         device.send(second(t))
@@ -398,17 +260,12 @@ def idle():
             if client is not clients[t]:
                 client.line()
             client.line()
-    check("a sentence is there within 20 ms, at the middle of thirty", True, sorted(waits)[15] < 0.02 or sorted(waits)[15])
+    within("a sentence is there within 20 ms, at the middle of thirty", sorted(waits)[15] < 0.02, sorted(waits)[15])
     device.end()
     for client in clients:
         client.lines()
     check("idle clients: status", 0, daemon.wait()[0])
 
 
-resource.setrlimit(resource.RLIMIT_NOFILE, (4096, 4096))
-for part in a_day, forms, bad_clients, crowd, stuck_client, devices, listening, idle:
-    try:
-        part()
-    except Exception as error:  # one part that breaks must not hide the others
-        check(f"{part.__name__} ran to its end", None, repr(error))
-sys.exit(exit_status())
+many_files()
+sys.exit(run_parts(a_day, forms, bad_clients, crowd, stuck_client, devices, listening, idle))

@@ -9,10 +9,13 @@ Fixes pair where their times are at most 5 ms apart; whole turns of 1,024 weeks 
 gives for one time the first one is compared. A sky pairs with the last SKY that gpsdecode gave for that time.
 """
 import json
-import subprocess
+import os
 import sys
 from collections import Counter
 from datetime import datetime, timezone
+
+sys.path.insert(0, os.path.join(os.path.dirname(os.path.dirname(os.path.abspath(__file__))), "tests"))
+from harness import run
 
 LOG, PROGRAM = sys.argv[1], sys.argv[2]
 TURN = 1024 * 7 * 86400 * 1000
@@ -24,9 +27,7 @@ SKY = "nSat", "uSat", "pdop", "hdop", "vdop"
 
 
 def reports(*call):
-    with open(LOG, "rb") as it:
-        done = subprocess.run(call, stdin=it, stdout=subprocess.PIPE, stderr=subprocess.DEVNULL, timeout=120)
-    return [json.loads(line) for line in done.stdout.splitlines() if line.startswith(b"{")]
+    return [json.loads(line) for line in run(*call, given=GIVEN, seconds=120)[1].splitlines() if line.startswith(b"{")]
 
 
 def stamp(report):
@@ -84,7 +85,8 @@ class Field:
 
 
 with open(LOG, "rb") as it:
-    NMEA = it.read(1) == b"$"
+    GIVEN = it.read()
+NMEA = GIVEN[:1] == b"$"
 ours, theirs = reports(PROGRAM, "decode"), reports("gpsdecode")
 
 # gpsd's fixes and skies by time. Of sentences a SKY stands before the TPV of its epoch; of frames it has the time itself.

@@ -3,16 +3,17 @@
 
 Use: replay_speed.py PROGRAM [ROUNDS]
 
-It makes four scripts in a folder of its own and plays them by turns, ROUNDS times (3 where it is left out): one of about
+It makes four scripts in a folder of its own and plays them by turns, ROUNDS times (3 by default): one of about
 100 MB of two receivers, three clients and a monitor (once more with small generations), the first half of it, and 2 MB of
 a receiver's bytes in lines of 512 and in lines of one. Each figure is the least processor time of the rounds, and the
-greatest memory, of which some 16 MB are this script's, from before the program begins.
+greatest memory, of which some 11 MB are this script's, from before the program begins.
 """
 
 import os
-import subprocess
 import sys
 import tempfile
+
+from bench import run
 
 sys.path.insert(0, os.path.join(os.path.dirname(os.path.dirname(os.path.abspath(__file__))), "tests"))
 from packets import BEGIN, clock_of, gga, rmc, sentence
@@ -74,12 +75,10 @@ def write_bytes(path, size, width):
 
 def played(program, path, words=()):
     """The processor time of a run in seconds, and its memory in MB."""
-    with open(path, "rb") as script:
-        child = subprocess.Popen([program, "replay", *words], stdin=script, stdout=subprocess.DEVNULL)
-        _, status, usage = os.wait4(child.pid, 0)
+    _, cpu, peak, status = run([program, "replay", *words], path, piped=False)
     if status != 0:
-        sys.exit(f"{path}: status {os.waitstatus_to_exitcode(status)}")
-    return usage.ru_utime + usage.ru_stime, usage.ru_maxrss / 1024
+        sys.exit(f"{path}: status {status}")
+    return cpu, peak / 1024
 
 
 def main():

@@ -1,4 +1,5 @@
-"""Checks that are counted: a script prints one line for each and ends with 1 if one failed."""
+"""Checks that are counted: a script prints one line for each and ends with 1 if one failed. And a port that is free."""
+import socket
 
 failures = []
 
@@ -14,6 +15,12 @@ def check(name, wanted, found):
 def within(name, good, found):
     """A check of a figure, or of what else has a bound: `found` is shown if it is not good."""
     check(name, "within its bound", "within its bound" if good else found)
+
+
+def free_port():
+    with socket.socket() as it:
+        it.bind(("127.0.0.1", 0))
+        return it.getsockname()[1]
 
 
 def exit_status():

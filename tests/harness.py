@@ -24,7 +24,7 @@ import subprocess
 import tempfile
 import time
 
-from checks import check, exit_status, run_parts, within
+from checks import check, exit_status, free_port, run_parts, within
 from packets import BEGIN, PLACE, clock_of, frame, gga, nav_eoe, nav_pvt, rmc, second, sentence
 
 __all__ = ["check", "exit_status", "run_parts", "within", "BEGIN", "PLACE", "clock_of", "frame", "gga", "nav_eoe", "nav_pvt", "rmc", "second",
@@ -43,12 +43,6 @@ def sample_path(name):
 def sample(name):
     with open(sample_path(name), "rb") as it:
         return it.read()
-
-
-def free_port():
-    with socket.socket() as it:
-        it.bind(("127.0.0.1", 0))
-        return it.getsockname()[1]
 
 
 def many_files():
@@ -244,11 +238,11 @@ class Client:
 class Daemon:
     """`gpsrelay serve` on a free port of the loopback; `words` are its options and devices."""
 
-    def __init__(self, program, *words, port=None, kilobytes=0, environment=None):
+    def __init__(self, program, *words, port=None, kilobytes=0, environment=None, folder=None):
         self.port = port or free_port()
         self.errors = tempfile.TemporaryFile()
         self.process = subprocess.Popen(self.call(program, words), stdout=subprocess.PIPE, stderr=self.errors,
-                                        preexec_fn=limited(kilobytes), env={**os.environ, **(environment or {})})
+                                        preexec_fn=limited(kilobytes), env={**os.environ, **(environment or {})}, cwd=folder)
         self.place, self.has_listened = f"/proc/{self.process.pid}", False
         atexit.register(self.stop)  # whatever breaks the script, no daemon is left
 

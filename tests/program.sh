@@ -50,7 +50,7 @@ for words in $'dec\xffode' $'decode --history \xff' $'decode \xff'; do
     check "words that are no text: the usage line" "$usage" "$(cat "$place/err")"
 done
 
-# bytes NUMBER..: these bytes; word WIDTH NUMBER: a number of so many bytes, the lowest first, as numbers
+# bytes NUMBER..: these bytes; word WIDTH NUMBER: the WIDTH bytes of a number, the lowest first, as numbers
 bytes() { local octal; printf -v octal '\\%03o' "$@"; printf "$octal"; }
 word() { local at; for ((at = 0; at < $1; at++)); do echo $((($2 >> (8 * at)) & 255)); done; }
 

@@ -46,7 +46,7 @@ refused 'a line of 4,096 bytes, and then one that is refused' 45
 
 version='s0 {"class":"VERSION","release":"gpsrelay-1","rev":"1","proto_major":3,"proto_minor":1}\x0d\x0a'
 
-# many N TEXT: so many times the text
+# many N TEXT: the text N times
 many() { local all; printf -v all '%*s' "$1" ''; printf '%s' "${all// /$2}"; }
 
 # Each of these lines, behind four good ones, of which the last takes an item, is refused.

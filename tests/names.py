@@ -1,0 +1,215 @@
+#!/usr/bin/env python3
+"""What a machine can see of the house: names, rows, files, what documents name, and phrases that are not plain English.
+
+Use: names.py [--comments | --rows], anywhere in a checkout. Prints one line for each finding, with its place and what to do, and ends
+with 1 if there is one. With --comments the phrases are looked for in the comments of crates/ too, which the gate does not ask for. With
+--rows it prints only what ROWS would be today.
+
+ types     Two crates declare a public type of one name, and docs/GLOSSARY.md has no line that names it in backticks and says why.
+ rows      A row of a contract (of an `ensures` or a `requires`) passes 160 columns. ROWS allows a crate the rows that it still has;
+           a number that is larger than what is there is a finding too, so that it only shrinks.
+ files     A source file passes 450 lines.
+ names     A document names a crate, a file, a type, a call or a clause that is not there.
+ phrases   A document or a message has a phrase of FOREIGN.
+"""
+import os
+import re
+import subprocess
+import sys
+from collections import defaultdict
+
+COLUMNS, LINES = 160, 450
+# Rows of contracts that are still too long. Only ever make a number smaller.
+ROWS = {"book_log": 3, "book_units": 1, "epoch_core": 8, "gps_hub": 5, "gps_lane": 1, "gps_serve": 17, "gpsrelay": 5, "packet_cut": 1,
+        "pseudo_nmea": 2, "replay_monitors": 5, "replay_player": 5, "report_book": 1, "serve_opening": 20, "serve_settling": 2,
+        "serve_threads": 3, "session_core": 2, "ubx_decode": 1}
+DOCUMENTS = ["README.md", "docs/ARCHITECTURE.md", "docs/GLOSSARY.md", "docs/PROOF.md", "docs/ASSUMPTIONS.md"]
+# Words in backticks that no source of this project has: programs and words of others.
+ELSEWHERE = {"cgps", "chrony", "chronyd", "chrt", "gpsbabel", "gpsctl", "gpsd", "gpsdecode", "gpsmon", "gpspipe", "gpxlogger", "jq", "mandoc",
+             "ntpd", "rt", "rustc", "socat", "stty", "systemctl", "systemd", "ubxtool", "xgps"}
+FOREIGN = {
+    r"want(?:s|ed|ing)? of memory|memory (?:was|is) (?:not )?wanting": "out of memory",
+    r"let(?:s|ting)? go of": "closes, drops or frees",
+    r"asks? for nothing that there is": "invalid command line",
+    r"so many": "n, or 'the given number of'",
+    r"tells? (?:its|their) content": "has modelled contents",
+    r"a part of what was due was written": "the output is a prefix of the expected output",
+    r"where (?:it is|they are) left out": "by default",
+}
+PHRASES = [(re.compile(rf"\b(?:{phrase})", re.I), plain) for phrase, plain in FOREIGN.items()]
+SOURCES = (".rt", ".antt", ".edit", ".py", ".sh", ".c")
+TYPE = re.compile(r"^\s*pub (?:struct|enum|union|trait) (\w+)")
+CLAUSE = re.compile(r"^\s*(?:ghost )?(?:ensures|requires)\b")
+PATH = re.compile(r"(?<![\w./-])(?:\.ci|bench|crates|docs|examples|samples|tests|tools)/[\w./-]*\w")
+IN_CRATE = re.compile(r"(?:src|specs|proofs|must-fail)/[\w./-]*")
+SOURCE = re.compile(r"crates/\w+/(?:src|specs|proofs)/")
+SHOWN = re.compile(r"README\.md|CHANGELOG\.md|(?:docs|samples)/.*\.md|.*\.8|(?:bench|examples|tools)/.*|tests/(?!names\.py).*|crates/.*\.(?:rt|antt|edit)")
+OTHER = re.compile(r"crates\.txt$|HANDLES$|(?:bench|examples|tools)/|tests/(?!names\.py)")
+
+
+def read(name):
+    with open(name, encoding="utf-8", errors="replace") as it:
+        return it.read()
+
+
+def rows_of(name):
+    return list(enumerate(read(name).split("\n"), 1))
+
+
+def crate_of(name):
+    return name.split("/")[1]
+
+
+def types(files):
+    """Public types of one name in two crates."""
+    declared = defaultdict(dict)
+    for name in files:
+        if re.fullmatch(r"crates/\w+/src/.*\.rt", name):
+            for number, row in rows_of(name):
+                if found := TYPE.match(row):
+                    declared[found[1]].setdefault(crate_of(name), f"{name}:{number}")
+    told = [row for _, row in rows_of("docs/GLOSSARY.md")] if os.path.exists("docs/GLOSSARY.md") else []
+    for word, places in sorted(declared.items()):
+        reasons = [row for row in told if f"`{word}`" in row and len(row.replace(f"`{word}`", "").split()) >= 5]
+        if len(places) > 1 and not reasons:
+            crate, place = list(places.items())[-1]
+            others = ", ".join(it for it in places if it != crate)
+            yield f"{place}: `{word}` is a public type of {others} too; rename one, or say in docs/GLOSSARY.md why both have it"
+
+
+def contract_rows(name):
+    """The numbered rows of a file that belong to an `ensures` or a `requires`."""
+    depth, inside = 0, False
+    for number, row in rows_of(name):
+        inside = inside or bool(CLAUSE.match(row))
+        if inside:
+            yield number, row
+            depth += row.count("{") - row.count("}")
+            inside = depth > 0
+            depth = max(depth, 0) if inside else 0
+
+
+def long_rows(files):
+    """Of each crate its rows of contracts that are too long."""
+    found = defaultdict(list)
+    for name in files:
+        if re.fullmatch(r"crates/\w+/.*\.rt", name):
+            found[crate_of(name)] += [f"{name}:{number}: {len(row)} columns" for number, row in contract_rows(name) if len(row) > COLUMNS]
+    return found
+
+
+def rows(files):
+    """Rows of contracts that are too long, and allowances that are too large."""
+    found = long_rows(files)
+    for crate in sorted({*found, *ROWS}):
+        allowed, there = ROWS.get(crate, 0), found[crate]
+        if len(there) > allowed:
+            for row in there:
+                yield f"{row} in a row of a contract, {COLUMNS} at the most; name its parts" + (f" ({len(there)} in {crate}, {allowed} allowed)" if allowed else "")
+        elif len(there) < allowed:
+            yield f"tests/names.py: ROWS allows {crate} {allowed} long rows, and it has {len(there)}; make the number {len(there)}"
+
+
+def long_files(files):
+    for name in files:
+        count = len(rows_of(name)) - 1
+        if name.endswith(SOURCES) and count > LINES:
+            yield f"{name}:{LINES + 1}: {count} lines, {LINES} at the most; cut it by subject"
+
+
+class Words:
+    """What the sources, the definitions and the table of crates have, to hold a document's words against."""
+
+    def __init__(self, files):
+        self.files, self.folders = set(files), {os.path.dirname(name) for name in files}
+        self.sources = [(set(re.findall(r"\w+", text)), text) for text in map(read, filter(SOURCE.match, files))]
+        self.words = {word for words, _ in self.sources for word in words}
+        self.words |= {os.path.splitext(os.path.basename(name))[0] for name in files}
+        for name in filter(OTHER.match, files):
+            self.words |= set(re.findall(r"\w+", read(name)))
+
+    def has_path(self, path):
+        path = path.rstrip("/.")
+        return path in self.files or any(it == path or it.startswith(path + "/") for it in self.folders) or "/out/" in path
+
+    def has_in_crate(self, path):
+        path = path.rstrip("/")
+        return any(name.split("/", 2)[-1] == path or name.split("/", 2)[-1].startswith(path + "/") for name in self.files if name.startswith("crates/"))
+
+    def has_call(self, kind, call):
+        """Whether a block of this type (its declaration, an `impl` or a trait) has a call, a constructor or a clause of that name."""
+        block = re.compile(rf"^([ \t]*)(?:pub(?:\(crate\))? )?(?:impl|trait|enum|struct)\b[^{{;]*\b{kind}\b[^{{;]*\{{.*?^\1\}}", re.M | re.S)
+        meant = re.compile(rf"\b(?:fn|ensures|requires) {call}\b|^\s*{call}\b", re.M)
+        return any({kind, call} <= words and any(meant.search(found[0]) for found in block.finditer(text)) for words, text in self.sources)
+
+    def has(self, word):
+        """Whether what stands in backticks is there. What is no name at all (a command, a line of output, a number) is."""
+        if found := re.fullmatch(r"([A-Z]\w*)::(\w+)(?:\(\))?", word):
+            return self.has_call(*found.groups())
+        if IN_CRATE.fullmatch(word):
+            return self.has_in_crate(word)
+        if re.fullmatch(r"[a-z]+(?:_[a-z0-9]+)*|[A-Z][a-z]\w*", word):
+            return word in self.words or word in ELSEWHERE
+        return True
+
+
+def prose_of(name):
+    """The numbered rows of a document without its fenced blocks."""
+    fenced = False
+    for number, row in rows_of(name):
+        if row.lstrip().startswith("```"):
+            fenced = not fenced
+        elif not fenced:
+            yield number, row
+
+
+def names(files):
+    """What a document names and is not there."""
+    there = Words(files)
+    for name in DOCUMENTS:
+        if name not in there.files:
+            continue
+        for number, row in rows_of(name):
+            for path in PATH.findall(row):
+                if not there.has_path(path):
+                    yield f"{name}:{number}: {path} is not there; name what is"
+        for number, row in prose_of(name):
+            for word in re.findall(r"`([^`\s]+)`", row):
+                if not there.has(word):
+                    yield f"{name}:{number}: `{word}` is nowhere in src/, specs/, proofs/ or crates.txt; name what is there"
+
+
+def messages_of(name):
+    """The numbered rows that a reader is shown: the whole of a document or a script, of a source its texts in quotes."""
+    whole = not name.startswith("crates/") or "--comments" in sys.argv
+    for number, row in rows_of(name):
+        yield number, row if whole else " ".join(re.findall(r'"((?:[^"\\]|\\.)*)"', row))
+
+
+def phrases(files):
+    """Phrases that are not plain English."""
+    for name in filter(SHOWN.fullmatch, files):
+        for number, row in messages_of(name):
+            for phrase, plain in PHRASES:
+                if found := phrase.search(row):
+                    yield f"{name}:{number}: '{found[0]}'; say: {plain}"
+
+
+def main():
+    os.chdir(subprocess.run(["git", "rev-parse", "--show-toplevel"], capture_output=True, text=True, check=True).stdout.strip())
+    listed = subprocess.run(["git", "ls-files", "--cached", "--others", "--exclude-standard"], capture_output=True, text=True, check=True).stdout.split("\n")
+    files = sorted(name for name in listed if os.path.isfile(name))
+    if "--rows" in sys.argv:
+        print({crate: len(found) for crate, found in sorted(long_rows(files).items()) if found})
+        return 0
+    count = 0
+    for look in types, rows, long_files, names, phrases:
+        for finding in look(files):
+            count += 1
+            print(f"FAILED  {finding}")
+    print(f"{'FAILED' if count else 'ok    '}  names, rows, files, documents and phrases: {count} findings")
+    return 1 if count else 0
+
+
+if __name__ == "__main__":
+    sys.exit(main())

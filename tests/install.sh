@@ -27,6 +27,8 @@ count() { find "$here" -type f -o -type l | wc -l; }
 
 check "it installs" env DESTDIR="$room" "$top/tools/install.sh" --prefix /usr/local
 check "the program decodes the installed sample" bash -c "'$here/bin/gpsrelay' decode <'$here/share/doc/gpsrelay/examples/drive.nmea' | tail -n 1 | grep -q '\"class\":\"SKY\"'"
+check "the installed tool draws the track" bash -c "'$here/bin/gpsrelay' decode <'$here/share/doc/gpsrelay/examples/drive.nmea' | '$here/bin/gpsrelay-track' -o '$room/drive.svg' && grep -q '</svg>' '$room/drive.svg'"
+check "the installed page has its file" bash -c "'$here/bin/gpsrelay-view' --help"
 check "the service starts the installed program" grep -q '^ExecStart=/usr/local/bin/gpsrelay serve' "$here/lib/systemd/system/gpsrelay.service"
 check "no mark is left in the service" refuses grep -q '@' <(grep -v '^SystemCallFilter' "$here/lib/systemd/system/gpsrelay.service")
 for it in "$here"/share/doc/gpsrelay/examples/*.env; do

@@ -3,7 +3,7 @@
 #
 # Use: tools/install.sh [--prefix DIR] [--remove]       DIR is /usr/local unless told otherwise
 #
-# Where nothing is built yet it builds first, which proves everything: half an hour on four processors, over an hour on two.
+# If nothing is built yet, it builds first, which proves everything: half an hour on four processors, over an hour on two.
 # A package sets DESTDIR: files go to $DESTDIR$DIR, and name $DIR. PROGRAM names another build than that of this checkout.
 set -eu
 
@@ -43,12 +43,17 @@ prefix=${prefix%/}
 root=${DESTDIR:-}$prefix
 program=${PROGRAM:-$top/crates/gpsrelay/out/gpsrelay}
 
-# MODE, the file in this folder, and where it goes below the prefix
+# MODE (or link), the file in this folder (or what the link says), and where it goes below the prefix
 files() {
     cat <<FILES
 755 $program bin/gpsrelay
-755 tools/track.py bin/gpsrelay-track
-755 tools/view.py bin/gpsrelay-view
+755 tools/track.py share/gpsrelay/track.py
+644 tools/track_picture.py share/gpsrelay/track_picture.py
+644 tools/track_marks.py share/gpsrelay/track_marks.py
+755 tools/view.py share/gpsrelay/view.py
+644 tools/view.html share/gpsrelay/view.html
+link ../share/gpsrelay/track.py bin/gpsrelay-track
+link ../share/gpsrelay/view.py bin/gpsrelay-view
 644 docs/gpsrelay.8 share/man/man8/gpsrelay.8
 644 tools/gpsrelay.bash share/bash-completion/completions/gpsrelay
 644 examples/gpsrelay.service lib/systemd/system/gpsrelay.service
@@ -73,12 +78,13 @@ install_all() {
     local number=0 mode from to
     while read -r mode from to; do
         mkdir -p "$root/$(dirname "$to")"
-        case $from in
-        /*) cp "$from" "$root/$to" ;;
+        case $mode:$from in
+        link:*) ln -sf "$from" "$root/$to" ;;
+        *:/*) cp "$from" "$root/$to" ;;
         *.service) sed "s#@PREFIX@#$prefix#g" "$top/$from" >"$root/$to" ;;
         *) cp "$top/$from" "$root/$to" ;;
         esac
-        chmod "$mode" "$root/$to"
+        [ "$mode" = link ] || chmod "$mode" "$root/$to"
         number=$((number + 1))
     done < <(files)
     echo "$number files installed below $root. Try: $prefix/bin/gpsrelay decode < $prefix/share/doc/gpsrelay/examples/drive.nmea"
@@ -89,7 +95,7 @@ install_all() {
 remove_all() {
     local number=0 mode from to folder
     while read -r mode from to; do
-        [ -e "$root/$to" ] || continue
+        [ -e "$root/$to" ] || [ -L "$root/$to" ] || continue
         rm -f "$root/$to"
         number=$((number + 1))
         folder=$(dirname "$to")

@@ -25,7 +25,7 @@ import time
 import urllib.parse
 from collections import deque
 
-PAGE = os.path.join(os.path.dirname(os.path.abspath(__file__)), "view.html")
+PAGE = os.path.join(os.path.dirname(os.path.realpath(__file__)), "view.html")
 ICON = (b'<svg xmlns="http://www.w3.org/2000/svg" viewBox="0 0 16 16"><circle cx="8" cy="8" r="7" fill="#0b62c4"/>'
         b'<path d="M8 3l3.4 9L8 10.4 4.6 12z" fill="#fff"/></svg>')
 

@@ -5,8 +5,6 @@
 mod batch;
 mod forms;
 mod row;
-#[cfg(test)]
-mod tests;
 
 pub use batch::Batch;
 pub use forms::Forms;

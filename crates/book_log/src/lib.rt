@@ -13,8 +13,6 @@ mod line;
 mod lines;
 mod log;
 mod stage;
-#[cfg(test)]
-mod tests;
 
 pub use addition::Addition;
 pub use device_log::DeviceLog;

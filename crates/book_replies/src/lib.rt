@@ -5,8 +5,6 @@
 mod answering;
 mod known;
 mod laws;
-#[cfg(test)]
-mod tests;
 
 pub use answering::{Answer, answers, opening_reply};
 pub use known::Known;

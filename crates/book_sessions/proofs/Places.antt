@@ -1,7 +1,7 @@
 -- Which places are behind all marks after a call, and what a new session holds.
 use Rattle.std.proofs.Common.{◌≡◌, ◌<◌, ◌≤◌, ℕ, Bool, List, [], ◌∷◌, ◌++◌, length, map, get_or, set, take, Option, Some, None, refl, sym, ap, subst, arith}
 use Rattle.std.specs.List.{AllZip}
-use Rattle.std.proofs.lemmas.List.Elements.{All-cons, All-head, All-map, All-push, All-set, All-tail, All-weaker}
+use Rattle.std.proofs.lemmas.List.Elements.{All-cons, All-head, All-map, All-push, All-set, All-tail}
 use Rattle.session_core.specs.declared.mark.Close.{Close}
 use Rattle.session_core.specs.declared.mark.Mark.{Mark}
 use Rattle.session_core.specs.Shown.{Shown, fresh, last_place, opening_policy, turned_marks}
@@ -19,10 +19,6 @@ use Rattle.book_sessions.specs.Answering.{Inputs, mark_at}
 use Rattle.book_sessions.specs.Roster.{Changes, Closes, IsAfterAll, Shuts, ShutsBy}
 use Rattle.book_sessions.specs.Spreading.{ReportsBy, Spreads}
 use Rattle.book_sessions.proofs.Zips.{zip_set, zip_weaker}
-
-pub after_later : (place later : ℕ) (roster : List Attendance) → place ≤ later → IsAfterAll place roster → IsAfterAll later roster
-after_later place later roster low after =
-    All-weaker (λ (a : Attendance). last_place 0 a.session.marks ≤ place) (λ (a : Attendance). last_place 0 a.session.marks ≤ later) (λ a h. omega arith) roster after
 
 pub after_zip : (place : ℕ) (xs ys : List Attendance) → AllZip (λ a b. b.session.marks ≡ a.session.marks) xs ys → IsAfterAll place xs → IsAfterAll place ys
 after_zip place [] [] zip after = after

@@ -6,8 +6,6 @@ mod laws;
 mod member;
 mod roster;
 mod spreading;
-#[cfg(test)]
-mod tests;
 mod walk;
 
 pub use laws::marks_stand_within_the_history;

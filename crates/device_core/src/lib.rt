@@ -5,8 +5,6 @@ mod device;
 mod draft;
 mod laws;
 mod packets;
-#[cfg(test)]
-mod tests;
 
 pub use device::Device;
 pub use laws::{later_reports_are_decided, reports_are_a_beginning, reports_go_on};

@@ -18,8 +18,6 @@ mod point;
 mod running;
 mod said;
 mod seen;
-#[cfg(test)]
-mod tests;
 mod whole;
 
 pub use epochs::Epochs;

@@ -18,8 +18,6 @@ mod poll;
 mod pulse;
 mod reading;
 mod sky;
-#[cfg(test)]
-mod tests;
 mod texts;
 mod watch;
 

@@ -8,8 +8,6 @@ mod cutter;
 mod json_text;
 mod laws;
 mod request;
-#[cfg(test)]
-mod tests;
 mod whole_input;
 
 pub use command::{Command, ReadFault, command_of};

@@ -14,8 +14,6 @@ mod numeral;
 mod ratio;
 mod scaled;
 mod stamp;
-#[cfg(test)]
-mod tests;
 mod text;
 mod utc;
 

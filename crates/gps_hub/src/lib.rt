@@ -12,8 +12,6 @@ mod parted;
 mod pumped;
 mod session;
 mod settling;
-#[cfg(test)]
-mod tests;
 mod watching;
 
 pub use hub::Hub;

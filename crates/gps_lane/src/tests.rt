@@ -1,6 +1,4 @@
 use crate::{Bell, Pushed, Rx, Tx, lane, settle};
-use gps_fixed::Bytes;
-use session_core::{Item, Push, TwoEnded};
 use std::sync::Wait;
 use std::test::Fail;
 use std::thread;
@@ -110,25 +108,5 @@ fn items_come_in_order_between_threads(rt: HostRuntime) -> Result<(), Fail> {
         (bells.items.is_closed(), bells.room.is_closed()),
         (true, false)
     );
-    Ok(())
-}
-
-/// Puts an item and gets it at the far end.
-fn there_and_back<O: TwoEnded>(outlet: &mut O, far: &mut O::Far, item: Item) -> Option<Item>
-    requires { O.belongs (O.far_name far.old) (O.name outlet.old) }
-{
-    match outlet.push(item) {
-        Push::Done => outlet.settle(far),
-        Push::Full => None,
-    }
-}
-
-#[test]
-fn a_lane_of_items_is_an_outlet(rt: HostRuntime) -> Result<(), Fail> {
-    let (mut tx, mut rx) = lane(rt, rt.alloc(), 1)?;
-    let mut bytes = Bytes::new(rt.alloc());
-    bytes.push(7)?;
-    let got = there_and_back(&mut tx, &mut rx, Item::of(rt.alloc(), bytes)?);
-    assert!(rt; got.is_some_and(|item| item.bytes() == b"\x07".as_slice()));
     Ok(())
 }

@@ -19,8 +19,6 @@ mod real_sink;
 mod real_source;
 mod sink;
 mod source;
-#[cfg(test)]
-mod tests;
 mod whole;
 
 pub use clock::Clock;

@@ -11,6 +11,3 @@ pub use generating::generate;
 pub use line_play::Outcome;
 pub use replay_workload::workload;
 pub use replaying::{replay, replay_core};
-
-#[cfg(test)]
-mod tests;

@@ -14,8 +14,6 @@ mod options;
 mod pseudo;
 mod replay;
 mod serve;
-#[cfg(test)]
-mod tests;
 
 pub use choice::asked;
 pub use command::{Command, WordsFault};

@@ -7,8 +7,6 @@ mod asked;
 mod memory_world;
 mod place;
 mod real_world;
-#[cfg(test)]
-mod tests;
 mod world;
 
 pub use asked::Asked;

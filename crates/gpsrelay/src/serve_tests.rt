@@ -32,9 +32,6 @@ const JSON: &[u8] =
 const NMEA: &[u8] =
     b"{\"class\":\"WATCH\",\"enable\":true,\"json\":false,\"nmea\":true,\"raw\":0,\"pps\":false}\r\n";
 
-const PPS: &[u8] =
-    b"{\"class\":\"WATCH\",\"enable\":true,\"json\":false,\"nmea\":false,\"raw\":0,\"pps\":true}\r\n";
-
 const ACTIVE: &[u8] =
     b"{\"class\":\"DEVICE\",\"path\":\"g\",\"activated\":\"1970-01-01T00:00:05.000Z\"}\r\n";
 
@@ -426,25 +423,6 @@ fn a_client_is_sent_what_came_until_the_end_or_a_fault(rt: HostRuntime) -> Resul
 }
 
 #[test]
-fn a_monitor_takes_what_was_published(rt: HostRuntime) -> Result<(), Fail> {
-    let alloc = rt.alloc();
-    let words = &["serve", "--wait", "1", "--monitor", "100", "g=file:x"];
-    let places = place_x(alloc, &[])?;
-    let door = one_client(alloc, false, &[])?;
-    let daemon = serve(rt, alloc, words, places, door, FIVE)?;
-    let closing: Parts<'_> = &[
-        b"s0 drained daemonend 5\n",
-        UNIT,
-        b"m0 taken 1 764426119.000000000 5.000000000 -1\n",
-    ];
-    let took = ended_so(alloc, &daemon, 0, closing, &[WHOLE])?;
-    // All its readings may have been made before the sample came.
-    let took_none = ended_so(alloc, &daemon, 0, &closing[..2], &[WHOLE])?;
-    assert!(rt; took || took_none);
-    Ok(())
-}
-
-#[test]
 fn a_client_that_takes_nothing_holds_up_no_other(rt: HostRuntime) -> Result<(), Fail> {
     let alloc = rt.alloc();
     let words = &["serve", "--wait", "2", "g=file:x"];
@@ -506,39 +484,6 @@ fn a_client_is_heard_and_written_to_while_the_device_goes_on(rt: HostRuntime) ->
     let daemon = serve(rt, alloc, &["serve", "g=file:x"], places, door, FIVE)?;
     let closing: Parts<'_> = &[b"s0 drained daemonend 6\n", UNIT];
     let sent: Parts<'_> = &[VERSION, DEVICES, JSON, ACTIVE, VERSION, FIX, ENDED];
-    assert!(rt; ended_so(alloc, &daemon, 0, closing, &[sent])?);
-    Ok(())
-}
-
-#[test]
-fn the_edges_of_a_device_give_its_pulses(rt: HostRuntime) -> Result<(), Fail> {
-    let alloc = rt.alloc();
-    let lines = no_lines(alloc)?;
-    let asks: &'static [Cue] = &[Cue::Give(0, b"?WATCH={\"pps\":true};\n")];
-    let gives: &'static [Cue] = &[Cue::Give(0, RMC), Cue::End(0)];
-    // The second edge comes once the client was sent the time of the sentence.
-    let edges: &'static [Cue] = &[
-        Cue::Give(0, b"assert 99.000000000#4294967295\n"),
-        Cue::Give(4, b"assert 100.000000000#0\n"),
-        Cue::End(4),
-    ];
-    let places = cued_places(alloc, gives, edges, &lines)?;
-    let door = cued_client(alloc, asks, &lines)?;
-    let words = &["serve", "--wait", "1", "g=file:x", "g=edges:y"];
-    let stamp = Stamp { sec: 99, nsec: 1 };
-    let daemon = serve(rt, alloc, words, places, door, stamp)?;
-    let closing: Parts<'_> = &[
-        b"s0 drained daemonend 4\n",
-        UNIT,
-        b"u1 published 1 count 2 left 0\n",
-    ];
-    let sent: Parts<'_> = &[
-        VERSION,
-        DEVICES,
-        PPS,
-        b"{\"class\":\"TOFF\",\"device\":\"g\",\"real_sec\":764426119,\"real_nsec\":0,\"clock_sec\":99,\"clock_nsec\":1}\r\n",
-        b"{\"class\":\"PPS\",\"device\":\"g\",\"real_sec\":764426120,\"real_nsec\":0,\"clock_sec\":100,\"clock_nsec\":0,\"precision\":-20}\r\n",
-    ];
     assert!(rt; ended_so(alloc, &daemon, 0, closing, &[sent])?);
     Ok(())
 }

@@ -1,4 +1,4 @@
-//! `decode` and `pseudo` over a source, a sink and a clock in memory.
+//! `decode` over a source and a sink in memory that fail, or bring nothing, at exact places.
 
 use crate::run::run;
 use gps_fixed::{NoMemory, Stamp};
@@ -8,14 +8,6 @@ use std::test::Fail;
 
 pub(crate) const RMC: &[u8] =
     b"$GPRMC,123519,A,4807.038,N,01131.000,E,022.4,084.4,230394,003.1,W*6A\r\n";
-
-pub(crate) const GGA: &[u8] =
-    b"$GPGGA,123519,4807.038,N,01131.000,E,1,08,0.9,545.4,M,46.9,M,,*47\r\n";
-
-pub(crate) const ZDA: &[u8] = b"$GPZDA,235959,31,12,2024,00,00*4C\r\n";
-
-const BEFORE_MIDNIGHT: &[u8] =
-    b"$GPGGA,235959,4807.038,N,01131.000,E,1,08,0.9,545.4,M,46.9,M,,*4B\r\n";
 
 pub(crate) const MIDNIGHT: &[u8] =
     b"$GPGGA,000000,4807.038,N,01131.000,E,1,08,0.9,545.4,M,46.9,M,,*4A\r\n";
@@ -83,148 +75,6 @@ pub(crate) fn gives(
     let (ended, written) = ran(alloc, words, outside)?;
     let wanted = joined(alloc, lines)?;
     Ok(ended == status && written.as_slice() == wanted.as_slice())
-}
-
-/// Whether `decode` writes these lines for this input, and all goes well.
-fn writes(alloc: Global, input: Parts<'_>, lines: Parts<'_>) -> Result<bool, NoMemory> {
-    let outside = Outside {
-        input,
-        reads: &[],
-        at_end: AtEnd::End,
-        writes: &[],
-    };
-    gives(alloc, &["decode"], &outside, 0, lines)
-}
-
-#[test]
-fn an_epoch_closes_at_the_next_and_at_the_end(rt: HostRuntime) -> Result<(), Fail> {
-    let rows: &[(Parts<'_>, Parts<'_>)] = &[
-        (&[], &[]),
-        (&[RMC], &[RMC_LINE]),
-        (
-            &[
-                b"$GPRMC,123518,A,4807.038,N,01131.000,E,022.4,084.4,230394,003.1,W*6B\r\n",
-                RMC,
-            ],
-            &[
-                b"{\"class\":\"TPV\",\"device\":\"stdin\",\"mode\":2,\"time\":\"1994-03-23T12:35:18.000Z\",\"lat\":48.117300000,\"lon\":11.516666667,\"track\":84.4000,\"speed\":11.524}\r\n",
-                RMC_LINE,
-            ],
-        ),
-        (
-            &[RMC, GGA],
-            &[
-                b"{\"class\":\"TPV\",\"device\":\"stdin\",\"mode\":3,\"time\":\"1994-03-23T12:35:19.000Z\",\"lat\":48.117300000,\"lon\":11.516666667,\"altMSL\":545.400,\"geoidSep\":46.900,\"track\":84.4000,\"speed\":11.524}\r\n",
-            ],
-        ),
-        (
-            &[b"$GPRMC,123519,A,4860.000,N,,E,022.4,084.4,230394,003.1,W*4C\r\n"],
-            &[
-                b"{\"class\":\"TPV\",\"device\":\"stdin\",\"mode\":1,\"time\":\"1994-03-23T12:35:19.000Z\"}\r\n",
-            ],
-        ),
-    ];
-    for (input, lines) in rows {
-        assert!(rt; writes(rt.alloc(), *input, *lines)?);
-    }
-    Ok(())
-}
-
-#[test]
-fn a_bad_sentence_gives_nothing(rt: HostRuntime) -> Result<(), Fail> {
-    let rows: &[(Parts<'_>, Parts<'_>)] = &[
-        (
-            &[b"$GPRMC,123519,A,4807.038,N,01131.000,E,022.4,084.4,230394,003.1,W*6B\r\n"],
-            &[],
-        ),
-        (
-            &[b"$GPRMC,123519,A,4807.038,N,01131.000,E,022.4,084.4,230394,003.1,W*6A\r"],
-            &[],
-        ),
-        (&[b"$", [b'A'; 200].as_slice(), RMC], &[RMC_LINE]),
-    ];
-    for (input, lines) in rows {
-        assert!(rt; writes(rt.alloc(), *input, *lines)?);
-    }
-    Ok(())
-}
-
-#[test]
-fn the_date_goes_on_at_midnight(rt: HostRuntime) -> Result<(), Fail> {
-    let rows: &[(Parts<'_>, Parts<'_>)] = &[
-        (
-            &[ZDA, BEFORE_MIDNIGHT, MIDNIGHT],
-            &[
-                b"{\"class\":\"TPV\",\"device\":\"stdin\",\"mode\":3,\"time\":\"2024-12-31T23:59:59.000Z\",\"lat\":48.117300000,\"lon\":11.516666667,\"altMSL\":545.400,\"geoidSep\":46.900}\r\n",
-                b"{\"class\":\"TPV\",\"device\":\"stdin\",\"mode\":3,\"time\":\"2025-01-01T00:00:00.000Z\",\"lat\":48.117300000,\"lon\":11.516666667,\"altMSL\":545.400,\"geoidSep\":46.900}\r\n",
-            ],
-        ),
-        (
-            &[
-                b"$GPZDA,235959,31,12,2099,00,00*4A\r\n",
-                MIDNIGHT,
-                BEFORE_MIDNIGHT,
-                MIDNIGHT,
-            ],
-            &[
-                b"{\"class\":\"TPV\",\"device\":\"stdin\",\"mode\":1,\"time\":\"2099-12-31T23:59:59.000Z\"}\r\n",
-                b"{\"class\":\"TPV\",\"device\":\"stdin\",\"mode\":3,\"time\":\"2100-01-01T00:00:00.000Z\",\"lat\":48.117300000,\"lon\":11.516666667,\"altMSL\":545.400,\"geoidSep\":46.900}\r\n",
-                b"{\"class\":\"TPV\",\"device\":\"stdin\",\"mode\":3,\"time\":\"2100-01-01T23:59:59.000Z\",\"lat\":48.117300000,\"lon\":11.516666667,\"altMSL\":545.400,\"geoidSep\":46.900}\r\n",
-                b"{\"class\":\"TPV\",\"device\":\"stdin\",\"mode\":3,\"lat\":48.117300000,\"lon\":11.516666667,\"altMSL\":545.400,\"geoidSep\":46.900}\r\n",
-            ],
-        ),
-    ];
-    for (input, lines) in rows {
-        assert!(rt; writes(rt.alloc(), *input, *lines)?);
-    }
-    Ok(())
-}
-
-#[test]
-fn satellites_give_a_sky(rt: HostRuntime) -> Result<(), Fail> {
-    let rows: &[(Parts<'_>, Parts<'_>)] = &[
-        (
-            &[
-                b"$GPGSA,A,3,04,05,,09,12,,,24,,,,,2.5,1.3,2.1*39\r\n",
-                b"$GPGSV,2,1,08,01,40,083,46,02,17,308,41,12,07,344,39,14,22,228,45*75\r\n",
-                b"$GPGSV,2,1,08,01,40,083,46,02,17,308,41,12,07,344,39,14,22,228,45*75\r\n",
-            ],
-            &[
-                b"{\"class\":\"SKY\",\"device\":\"stdin\",\"pdop\":2.50,\"hdop\":1.30,\"vdop\":2.10,\"nSat\":4,\"uSat\":1,\"satellites\":[{\"PRN\":1,\"el\":40,\"az\":83,\"ss\":46,\"used\":false,\"gnssid\":0,\"svid\":1},{\"PRN\":2,\"el\":17,\"az\":308,\"ss\":41,\"used\":false,\"gnssid\":0,\"svid\":2},{\"PRN\":12,\"el\":7,\"az\":344,\"ss\":39,\"used\":true,\"gnssid\":0,\"svid\":12},{\"PRN\":14,\"el\":22,\"az\":228,\"ss\":45,\"used\":false,\"gnssid\":0,\"svid\":14}]}\r\n",
-            ],
-        ),
-        (
-            &[
-                b"$GNGSA,A,3,65,,,,,,,,,,,,2.5,1.3,2.1,2*37\r\n",
-                b"$GLGSV,1,1,02,65,40,083,46,66,17,308,41,1*7C\r\n",
-                b"$GPGSV,1,1,01,65,10,010,30,1*55\r\n",
-            ],
-            &[
-                b"{\"class\":\"SKY\",\"device\":\"stdin\",\"pdop\":2.50,\"hdop\":1.30,\"vdop\":2.10,\"nSat\":3,\"uSat\":1,\"satellites\":[{\"PRN\":65,\"el\":40,\"az\":83,\"ss\":46,\"used\":true,\"gnssid\":6,\"svid\":65,\"sigid\":1},{\"PRN\":66,\"el\":17,\"az\":308,\"ss\":41,\"used\":false,\"gnssid\":6,\"svid\":66,\"sigid\":1},{\"PRN\":65,\"el\":10,\"az\":10,\"ss\":30,\"used\":false,\"gnssid\":0,\"svid\":65,\"sigid\":1}]}\r\n",
-            ],
-        ),
-    ];
-    for (input, lines) in rows {
-        assert!(rt; writes(rt.alloc(), *input, *lines)?);
-    }
-    Ok(())
-}
-
-#[test]
-fn a_frame_may_stand_among_sentences(rt: HostRuntime) -> Result<(), Fail> {
-    let rows: &[(Parts<'_>, Parts<'_>)] = &[
-        (&[PVT], &[PVT_LINE]),
-        (
-            &[b"\xB5\x62\x01\x07\x5C\x00", RMC, [b'.'; 24].as_slice()],
-            &[RMC_LINE],
-        ),
-        (&[b"\xB5\x62\x01\x07\xFF\xFF", RMC], &[RMC_LINE]),
-        (&[b"\xB5\x62\x01\x07\x00\x08", RMC], &[]),
-    ];
-    for (input, lines) in rows {
-        assert!(rt; writes(rt.alloc(), *input, *lines)?);
-    }
-    Ok(())
 }
 
 #[test]
@@ -355,55 +205,6 @@ fn the_thousandth_quiet_ends_the_run(rt: HostRuntime) -> Result<(), Fail> {
             writes: &[],
         };
         assert!(rt; gives(rt.alloc(), &["decode"], &outside, *status, *lines)?);
-    }
-    Ok(())
-}
-
-#[test]
-fn a_fix_is_written_as_two_sentences(rt: HostRuntime) -> Result<(), Fail> {
-    let rows: &[(Parts<'_>, &[u8])] = &[
-        (
-            &[PVT],
-            b"$GPRMC,120000.000000000,A,4800.0000000,N,01000.0000000,E,2.916,90.0000,010624,,,A*64\r\n$GPGGA,120000.000000000,4800.0000000,N,01000.0000000,E,1,,,453.000,M,47.000,M,,*7D\r\n",
-        ),
-        (
-            &[b"$GPRMC,123519,A,4860.000,N,,E,022.4,084.4,230394,003.1,W*4C\r\n"],
-            b"$GPRMC,123519.000000000,V,,,,,,,230394,,,N*4F\r\n$GPGGA,123519.000000000,,,,,0,,,,M,,M,,*75\r\n",
-        ),
-    ];
-    for (input, sentences) in rows {
-        let outside = Outside {
-            input: *input,
-            reads: &[],
-            at_end: AtEnd::End,
-            writes: &[],
-        };
-        let (ended, written) = ran(rt.alloc(), &["pseudo"], &outside)?;
-        assert_eq!(rt; (ended, written.as_slice()), (0, *sentences));
-    }
-    Ok(())
-}
-
-#[test]
-fn words_choose_the_history_or_are_refused(rt: HostRuntime) -> Result<(), Fail> {
-    let rows: &[(&[&str], u8, &[u8])] = &[
-        (&["decode", "--history", "69"], 5, b""),
-        (&["decode", "--history", "70"], 0, RMC_LINE),
-        (&["decode", "--history", "0"], 2, b""),
-        (&["pseudo", "--history", "69"], 5, b""),
-        (&["lines"], 6, b"bad line 1\n"),
-        (&["frob"], 2, b""),
-        (&[], 2, b""),
-    ];
-    for (words, status, lines) in rows {
-        let outside = Outside {
-            input: &[RMC],
-            reads: &[],
-            at_end: AtEnd::End,
-            writes: &[],
-        };
-        let (ended, written) = ran(rt.alloc(), *words, &outside)?;
-        assert_eq!(rt; (ended, written.as_slice()), (*status, *lines));
     }
     Ok(())
 }

@@ -21,6 +21,3 @@ pub use line::{line_of, push_line};
 pub use names::{Class, Key, head, label};
 pub use poll::poll_line;
 pub use watch::watch_line;
-
-#[cfg(test)]
-mod tests;

@@ -6,8 +6,6 @@ mod outcome;
 mod reading;
 mod running;
 mod tally;
-#[cfg(test)]
-mod tests;
 mod writing;
 
 pub use outcome::Outcome;

@@ -9,6 +9,3 @@ mod plays;
 pub use outcome::Outcome;
 pub use playing::play;
 pub use plays::{Plays, Turn};
-
-#[cfg(test)]
-mod tests;

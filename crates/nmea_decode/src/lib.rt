@@ -14,6 +14,3 @@ mod satellites;
 
 pub use laws::bodies_are_split_at_commas;
 pub use notes::note_of;
-
-#[cfg(test)]
-mod tests;

@@ -7,8 +7,6 @@
 mod body_length;
 mod laws;
 mod sentence;
-#[cfg(test)]
-mod tests;
 
 pub use laws::{body_is_read, shapes_are_stable};
 pub use sentence::{Shape, sentence_at};

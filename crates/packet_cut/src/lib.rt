@@ -12,8 +12,6 @@ mod found;
 mod head;
 mod laws;
 mod next;
-#[cfg(test)]
-mod tests;
 
 pub use change::Change;
 pub use cut::Cut;

@@ -9,6 +9,3 @@ mod pulses;
 
 pub use line::edge_of_line;
 pub use pulses::Pulses;
-
-#[cfg(test)]
-mod tests;

@@ -15,6 +15,3 @@ pub use laws::{
     fields_are_read_back, fixes_of_frames_fit, sentences_give_the_fix_back, texts_are_sentences,
 };
 pub use pseudo::{push_sentences, sentences_of};
-
-#[cfg(test)]
-mod tests;

@@ -145,10 +145,6 @@ still_of w old new is keeps = record {
   part = λ free. keeps.each w.unit free is.unit ∙ is.part free;
 }
 
--- its unit takes a step, or another one does
-pub still_published : (w : Watched) (u : ℕ) (step : UnitStep) (old new : BookView) → IsOf w old → PublishesAt u step old new → IsOf w new
-still_published w u step old new is publishes = still_of w old new is (keeps_publishes u step old new publishes)
-
 -- the words that a monitor loads
 pub loads_as : (w : Watched) (b : BookView) (first stores : ℕ) (samples : List Sample) → IsStoredAt w.unit first samples stores b → (free : UnitView) → words_beside w b free ≡ words_of first samples stores
 loads_as w b first stores samples is free = stored.words_are first stores samples (get_or b.units w.unit free) (is free)

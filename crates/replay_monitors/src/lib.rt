@@ -10,8 +10,6 @@
 
 mod exact;
 mod laws;
-#[cfg(test)]
-mod tests;
 mod watcher;
 
 pub use laws::stores_have_a_closed_form;

@@ -9,8 +9,6 @@ mod event;
 mod laws;
 mod line;
 mod payload;
-#[cfg(test)]
-mod tests;
 mod words;
 
 pub use event::Event;

@@ -8,8 +8,6 @@
 mod book;
 mod fault;
 mod knowing;
-#[cfg(test)]
-mod tests;
 
 pub use book::Book;
 pub use book_batch::Batch;

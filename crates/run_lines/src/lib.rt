@@ -7,8 +7,6 @@
 mod closing;
 mod item;
 mod reading;
-#[cfg(test)]
-mod tests;
 mod word;
 
 pub use closing::{SessionEnd, push_closing_line, push_unit_line};

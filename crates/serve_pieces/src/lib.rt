@@ -5,8 +5,6 @@
 mod chunk;
 mod piece;
 mod short_line;
-#[cfg(test)]
-mod tests;
 
 pub use chunk::Chunk;
 pub use piece::{Ending, Piece};

@@ -12,8 +12,6 @@ mod pauses;
 mod puts;
 mod readers;
 mod shared_clock;
-#[cfg(test)]
-mod tests;
 mod writer;
 
 pub use edges::read_edges;

@@ -9,8 +9,6 @@ mod marks;
 mod outlet;
 mod plain_outlet;
 mod session;
-#[cfg(test)]
-mod tests;
 
 pub use item::Item;
 pub use laws::{

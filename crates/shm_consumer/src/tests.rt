@@ -1,13 +1,8 @@
-ghost use Rattle.std.specs.Prelude.{◌≡◌, ◌≤◌};
+ghost use Rattle.std.specs.Prelude.{◌≡◌};
 
 use super::*;
 use gps_fixed::Stamp;
-use std::sync::atomic::{AtomicBool, Ordering};
 use std::test::Fail;
-use std::thread;
-use std::thread::Threads;
-
-const SAMPLES: u32 = 100_000;
 
 // A sample whose words all depend on its number.
 fn numbered(number: u32) -> Sample {
@@ -143,67 +138,5 @@ fn a_clear_may_wipe_a_newer_sample(rt: HostRuntime) -> Result<(), Fail> {
     ];
     let consumptions = [Consumption::NotReady { count: 4, valid: 0 }];
     assert!(rt; in_order(&hand, &mut giver, &mut taker, &turns, &consumptions));
-    Ok(())
-}
-
-// Gives the samples 1 to SAMPLES, and says so at the end.
-fn give_all(hand: &HandOff, mut giver: Giver, done: &AtomicBool) -> Giver
-    requires { giver.segment ≡ hand.now }
-    ensures { result.segment ≡ hand.now }
-{
-    for number in 1..=SAMPLES {
-        giver.begin(numbered(number));
-        stores(hand, &mut giver, 13);
-    }
-    done.store(true, Ordering::SeqCst);
-    giver
-}
-
-// Consumes until the giver is done, and says whether the numbers rose and each sample was that of its number.
-fn consume_all(hand: &HandOff, mut taker: Taker, done: &AtomicBool) -> (Taker, bool)
-    requires { taker.segment ≡ hand.now }
-    ensures { result.0.segment ≡ hand.now }
-{
-    let mut good = true;
-    let mut before = 0u32;
-    for _ in 0..10_000_000u32 {
-        let last = done.load(Ordering::SeqCst);
-        if let Consumption::Consumed { number, sample } = taker.consume(hand) {
-            good &= before < number && sample == numbered(number);
-            before = number;
-        }
-        if last {
-            break;
-        }
-    }
-    (taker, good)
-}
-
-// The giver and the taker in threads of their own, and then the consumed pairs are compared with what was published.
-fn in_threads<R: Threads + Sync>(rt: &R, hand: &HandOff, giver: Giver, taker: Taker) -> bool
-    requires giver { giver.segment ≡ hand.now }
-    requires taker { taker.segment ≡ hand.now }
-{
-    let done = AtomicBool::new(false);
-    let done = &done;
-    let (mut giver, (mut taker, good)) = thread::join(
-        rt,
-        move || -> Giver
-            requires { giver.segment ≡ hand.now }
-            ensures { result.segment ≡ hand.entry.now }
-        { give_all(hand, giver, done) },
-        move || -> (Taker, bool)
-            requires { taker.segment ≡ hand.now }
-            ensures { result.0.segment ≡ hand.entry.now }
-        { consume_all(hand, taker, done) },
-    );
-    taker.meet(hand, giver.notice(hand));
-    good
-}
-
-#[test]
-fn what_is_consumed_in_threads_rises(rt: HostRuntime) -> Result<(), Fail> {
-    let (hand, giver, taker) = HandOff::new(rt.alloc(), 0)?;
-    assert!(rt; in_threads(&rt, &hand, giver, taker));
     Ok(())
 }

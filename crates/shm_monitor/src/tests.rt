@@ -167,34 +167,6 @@ fn the_greatest_number_is_taken(rt: HostRuntime) -> Result<(), Fail> {
     Ok(())
 }
 
-#[test]
-fn one_sample_is_taken_twice(rt: HostRuntime) -> Result<(), Fail> {
-    let (segment, mut publisher) = Segment::new(rt.alloc(), 0)?;
-    let mut monitor = Monitor::of(publisher.monitor_seat(&segment));
-    let turns = [
-        Turn {
-            begins: None,
-            stores: 0,
-            loads: 2,
-            ended: Some(Reading::NotReady { count: 0, valid: 0 }),
-        },
-        Turn {
-            begins: Some((764_426_119, 1)),
-            stores: 13,
-            loads: 12,
-            ended: taken(1, at(764_426_119, 1)),
-        },
-        Turn {
-            begins: None,
-            stores: 0,
-            loads: 12,
-            ended: taken(1, at(764_426_119, 1)),
-        },
-    ];
-    assert!(rt; in_order(&segment, &mut publisher, &mut monitor, &turns));
-    Ok(())
-}
-
 // Publishes the samples 1 to SAMPLES, and says so at the end.
 fn publish_all(segment: &Segment, mut publisher: Publisher, done: &AtomicBool) -> Publisher
     requires { publisher.segment ≡ segment.now }

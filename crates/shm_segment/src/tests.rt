@@ -74,14 +74,3 @@ fn a_sample_takes_thirteen_stores(rt: HostRuntime) -> Result<(), Fail> {
     assert_eq!(rt; publisher.count(), 4);
     Ok(())
 }
-
-#[test]
-fn the_greatest_number_is_the_last(rt: HostRuntime) -> Result<(), Fail> {
-    let (segment, mut publisher) = Segment::new(rt.alloc(), 1_073_741_822)?;
-    assert!(rt; publishes(&segment, &mut publisher));
-    assert_eq!(rt; publisher.count(), 2_147_483_646);
-    assert_eq!(rt; publisher.begin(sample()), Begin::CountSpent);
-    assert_eq!(rt; publisher.step(&segment), PubStep::Idle);
-    assert_eq!(rt; publisher.count(), 2_147_483_646);
-    Ok(())
-}

@@ -6,8 +6,6 @@ mod cutter;
 mod laws;
 mod limit;
 mod next;
-#[cfg(test)]
-mod tests;
 
 pub use cutter::LineCutter;
 pub use laws::{lines_are_the_split, lines_go_on, too_long_stays};

@@ -13,6 +13,3 @@ mod time;
 
 pub use message::note_of_frame;
 pub use time::times_are_sums;
-
-#[cfg(test)]
-mod tests;

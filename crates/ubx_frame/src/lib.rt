@@ -10,6 +10,3 @@ mod laws;
 
 pub use frame::{Shape, frame_at};
 pub use laws::{parts_are_read, shapes_are_stable};
-
-#[cfg(test)]
-mod tests;

@@ -1,5 +1,0 @@
-use Rattle.hub_laws.proofs.Beginning.{unused}
-use Rattle.gps_hub.proofs.tests.book.Goals as goal
-
-pub returns-clause-unused : goal.returns-clause-unused
-returns-clause-unused g c = unused _ _ _ _ c.in_ok-new.ensures.new

@@ -197,9 +197,9 @@ def say_what_was_read(run, device):
 
 def command_line():
     parser = argparse.ArgumentParser(prog="track.py", description=__doc__.split("\n", 1)[0])
-    parser.add_argument("file", nargs="?", metavar="FILE", help="lines of decode or of a session (standard input where it is left out)")
-    parser.add_argument("-o", "--output", metavar="OUT.svg", help="where the picture goes (standard output where it is left out)")
-    parser.add_argument("--device", metavar="NAME", help="the device to draw (the first one where it is left out)")
+    parser.add_argument("file", nargs="?", metavar="FILE", help="lines of decode or of a session (standard input by default)")
+    parser.add_argument("-o", "--output", metavar="OUT.svg", help="where the picture goes (standard output by default)")
+    parser.add_argument("--device", metavar="NAME", help="the device to draw (the first one by default)")
     return parser.parse_args()
 
 

@@ -20,7 +20,7 @@ use Rattle.serve_threads.specs.Reading.{Reads, counts}
 use Rattle.serve_threads.specs.Sessions.{SessionRuns, Wrote}
 use Rattle.serve_settling.proofs.Emptying.{wrote_item, wrote_less, wrote_none, wrote_part}
 use Rattle.serve_settling.proofs.Endings.{sessions_tell_last}
-use Rattle.gps_serve.specs.declared.door.Seated.{Seated}
+use Rattle.gps_serve.specs.declared.seated.Seated.{Seated}
 use Rattle.gps_serve.specs.Doors.{AreSeated, EachLink, HaveLanes, IsUnused, lanes_of, link_at, links_at}
 use Rattle.gps_serve.specs.Released.{AreEndsOf, WritesItem, WritesOn}
 

@@ -6,7 +6,7 @@ use Rattle.gps_outside.specs.Links.{IsUnread, IsUnwritten, PassLinks}
 use Rattle.gps_outside.specs.Told.{Goes, Stream}
 use Rattle.hub_door.specs.Admissions.{Admissions, Link as Lanes, link_of}
 use Rattle.serve_threads.specs.declared.session.Link.{Link}
-use Rattle.gps_serve.specs.declared.door.Seated.{Seated}
+use Rattle.gps_serve.specs.declared.seated.Seated.{Seated}
 
 -- the link on which a session's threads work
 abbrev pub link_at : {S K R : Type 0} → Seated S K R → Link S K R

@@ -17,7 +17,7 @@ use session_core::Item;
 use std::sync::{Arc, Wait};
 
 /// How many pieces of a device one burst takes at most.
-const PIECES: u32 = 32;
+const PIECES_A_BURST: u32 = 32;
 
 /// More sessions than may have news at once.
 const LOOKS: u32 = 200_000;
@@ -71,7 +71,7 @@ impl<J: HubNaming, R: Wait + Copy> Floor<J, R> {
 
     fn feed_all(&mut self) -> bool {
         let mut fed = false;
-        for _ in 0..PIECES {
+        for _ in 0..PIECES_A_BURST {
             if !self.feed_each() {
                 break;
             }

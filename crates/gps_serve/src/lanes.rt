@@ -6,7 +6,7 @@ ghost use Rattle.serve_opening.specs.Opening.{AreUnread, sources_in};
 ghost use Rattle.serve_settling.specs.Runs.{source_facts};
 ghost use Rattle.gps_serve.specs.Starts.{IsFreshDevice, IsFreshEdge, IsUnreadBy, edge_source_of, edges_at, sources_at};
 
-use crate::door::PIECES;
+use crate::places::PIECES;
 use gps_fixed::NoMemory;
 use gps_hub::Inlets;
 use gps_lane::{Rx, Tx, lane};

@@ -7,13 +7,16 @@
 
 mod attended;
 mod door;
+mod door_thread;
 mod floor;
 mod ground;
 mod lanes;
+mod places;
 mod pump;
 mod readers;
 mod release;
 mod scope;
+mod seated;
 mod served;
 mod settling;
 mod status;

@@ -7,7 +7,8 @@ ghost use Rattle.gps_serve.specs.Runs.{RanOn};
 ghost use Rattle.gps_serve.specs.Scopes.{CausesIf, CountsIf, FailsIf, RanIf, TendedIf, WatchedIf};
 ghost use Rattle.gps_serve.specs.Works.{JoinsDevice, JoinsWatcher, ReadersAre, WatchedBy, WatchesFor};
 
-use crate::door::{DoorBegin, DoorDone, start_door};
+use crate::door::{DoorBegin, DoorDone};
+use crate::door_thread::start_door;
 use crate::floor::Floor;
 use crate::lanes::DeviceStart;
 use crate::pump::{publish, pump};

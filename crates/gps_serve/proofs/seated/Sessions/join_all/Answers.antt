@@ -1,7 +1,7 @@
 use Rattle.std.proofs.Common.{◌∙◌, length, sym, ap, arith}
 use Rattle.gps_serve.specs.Doors.{link_at, links_at}
 use Rattle.gps_serve.proofs.Zips.{ran_begin, ran_each, ran_next}
-use Rattle.gps_serve.proofs.door.Sessions.join_all.Goals as goal
+use Rattle.gps_serve.proofs.seated.Sessions.join_all.Goals as goal
 
 pub sessions-init : goal.sessions-init
 sessions-init g c =

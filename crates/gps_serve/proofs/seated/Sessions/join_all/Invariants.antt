@@ -3,7 +3,7 @@ use Rattle.std.specs.Vec.{vec_len, vec_capacity}
 use Rattle.std.specs.Vec.Iter.{into_iter_items}
 use Rattle.gps_serve.specs.Doors.{RanSoFar, links_at}
 use Rattle.serve_threads.specs.Sessions.{SessionRuns}
-use Rattle.gps_serve.proofs.door.Sessions.join_all.Given as goal
+use Rattle.gps_serve.proofs.seated.Sessions.join_all.Given as goal
 
 abbrev pub invariant-sessions : goal.invariant-sessions
 invariant-sessions g l = record {

@@ -1,6 +1,6 @@
 use Rattle.std.proofs.Common.{rules, ◌≡◌, ◌<◌, length, arith}
 use Rattle.gps_serve.proofs.Released.{ends_at, unused_at}
-use Rattle.gps_serve.proofs.door.release_at.Goals as goal
+use Rattle.gps_serve.proofs.seated.release_at.Goals as goal
 
 pub release-requires-clause-ends : goal.release-requires-clause-ends
 release-requires-clause-ends g c =

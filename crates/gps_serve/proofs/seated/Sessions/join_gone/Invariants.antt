@@ -1,7 +1,7 @@
 use Rattle.std.proofs.Common.{◌≡◌}
 use Rattle.std.specs.Vec.{vec_len}
 use Rattle.gps_serve.specs.Doors.{links_at}
-use Rattle.gps_serve.proofs.door.Sessions.join_gone.Given as goal
+use Rattle.gps_serve.proofs.seated.Sessions.join_gone.Given as goal
 
 abbrev pub invariant-live : goal.invariant-live
 invariant-live g l = record {

@@ -8,7 +8,7 @@ ghost use Rattle.gps_serve.specs.Doors.{AreSeated, Deals, FailsBy, HaveLanes, Is
 
 use crate::attended::Attended;
 use crate::floor::Floor;
-use crate::places::make_places;
+use crate::places::{Places, SharedBells, make_places};
 use crate::seated::{Seated, Sessions};
 use gps_fixed::NoMemory;
 use gps_hub::{DoorSeat, HubNaming};

@@ -1,7 +1,7 @@
 #!/usr/bin/env python3
 """Rows over the built program: what it is given, and the exact bytes and the status that it is to answer with.
 
-Use: rows.py PROGRAM, from anywhere. Prints a line for each table and for each row of the daemon, and ends with 1 if a row fails. Each
+Use: rows.py PROGRAM, from anywhere. Prints a line for each table and for each row of faults and of the daemon, and ends with 1 if a row fails. Each
 expected text was worked out by hand from the rules, or is of a receiver or of a standard's example. None was taken from the program.
 """
 import os
@@ -10,6 +10,7 @@ import sys
 
 sys.dont_write_bytecode = True
 import rows_decode
+import rows_faults
 import rows_lines
 import rows_packets
 import rows_requests
@@ -33,7 +34,7 @@ def main():
             found = [why for why in (fails(program, *row) for row in rows) if why]
             bad += len(found)
             print(f"{'FAILED ' if found else 'ok     '} {name}: {len(rows)} rows" + "".join("\n" + why for why in found[:5]))
-    for name, wanted, found in rows_serve.rows(program):
+    for name, wanted, found in (*rows_faults.rows(program), *rows_serve.rows(program)):
         bad += wanted != found
         print(f"ok      {name}" if wanted == found else f"FAILED  {name}:\n  wanted {wanted!r}\n  found  {found!r}")
     sys.exit(1 if bad else 0)

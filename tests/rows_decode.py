@@ -188,6 +188,7 @@ RANGES = [
     pvt(60, number(-1), whole(speed="")),
     pvt(60, number(0), whole(speed=',"speed":0.000')),
     pvt(60, number(2**31 - 1), whole(speed=',"speed":2147483.647')),
+    pvt(56, number(1_000), whole(climb=',"climb":-1.000')),
     pvt(56, number(-(2**31)), whole(climb=',"climb":2147483.648')),
     pvt(36, number(-(2**31)), whole(heights=',"altHAE":500.000,"altMSL":-2147483.648,"geoidSep":2147983.648')),
 ]
@@ -247,6 +248,10 @@ WORDS = [
     (["decode", "--history", "69"], RMC, 5, b""),
     (["decode", "--history", "70"], RMC, 0, rmc_fix()),
     (["decode", "--history", "0"], RMC, 2, b""),
+    (["decode", "--history", "70", "--history", "70"], RMC, 2, b""),
+    (["pseudo", "--history=5"], RMC, 5, b""),
+    (["replay", "--queue=2"], b"", 0, b""),
+    (["generate", "--seed", "1"], b"", 2, b""),
     (["pseudo", "--history", "69"], RMC, 5, b""),
     (["lines"], RMC, 6, b"bad line 1\n"),
     (["frob"], RMC, 2, b""),

@@ -4,8 +4,6 @@
 
 mod decode;
 mod outcome;
-#[cfg(test)]
-mod replay_tests;
 mod run;
 mod serve;
 #[cfg(test)]

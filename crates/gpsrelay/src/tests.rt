@@ -1,4 +1,4 @@
-//! `decode` over a source and a sink in memory that fail, or bring nothing, at exact places.
+//! `decode` over a source in memory that brings nothing for a while.
 
 use crate::run::run;
 use gps_fixed::{NoMemory, Stamp};
@@ -9,22 +9,13 @@ use std::test::Fail;
 pub(crate) const RMC: &[u8] =
     b"$GPRMC,123519,A,4807.038,N,01131.000,E,022.4,084.4,230394,003.1,W*6A\r\n";
 
-pub(crate) const MIDNIGHT: &[u8] =
-    b"$GPGGA,000000,4807.038,N,01131.000,E,1,08,0.9,545.4,M,46.9,M,,*4A\r\n";
-
-const PVT: &[u8] =
-    b"\xB5\x62\x01\x07\x5C\x00\x00\x00\x00\x00\xE8\x07\x06\x01\x0C\x00\x00\x07\x00\x00\x00\x00\x00\x00\x00\x00\x03\x01\x00\x08\x00\xE1\xF5\x05\x00\x38\x9C\x1C\x20\xA1\x07\x00\x88\xE9\x06\x00\x00\x00\x00\x00\x00\x00\x00\x00\x00\x00\x00\x00\x00\x00\x00\x00\x18\xFC\xFF\xFF\xDC\x05\x00\x00\x40\x54\x89\x00\x00\x00\x00\x00\x00\x00\x00\x00\x96\x00\x00\x00\x00\x00\x00\x00\x00\x00\x00\x00\x00\x00\x00\x00\x29\x4D";
-
-const EOE: &[u8] = b"\xB5\x62\x01\x61\x04\x00\x00\x00\x00\x00\x66\xC7";
+const MIDNIGHT: &[u8] = b"$GPGGA,000000,4807.038,N,01131.000,E,1,08,0.9,545.4,M,46.9,M,,*4A\r\n";
 
 const RMC_LINE: &[u8] =
     b"{\"class\":\"TPV\",\"device\":\"stdin\",\"mode\":2,\"time\":\"1994-03-23T12:35:19.000Z\",\"lat\":48.117300000,\"lon\":11.516666667,\"track\":84.4000,\"speed\":11.524}\r\n";
 
 const MIDNIGHT_LINE: &[u8] =
     b"{\"class\":\"TPV\",\"device\":\"stdin\",\"mode\":3,\"time\":\"1994-03-24T00:00:00.000Z\",\"lat\":48.117300000,\"lon\":11.516666667,\"altMSL\":545.400,\"geoidSep\":46.900}\r\n";
-
-const PVT_LINE: &[u8] =
-    b"{\"class\":\"TPV\",\"device\":\"stdin\",\"mode\":3,\"time\":\"2024-06-01T12:00:00.000Z\",\"lat\":48.000000000,\"lon\":10.000000000,\"altHAE\":500.000,\"altMSL\":453.000,\"geoidSep\":47.000,\"track\":90.0000,\"speed\":1.500,\"climb\":1.000}\r\n";
 
 pub(crate) type Parts<'a> = &'a [&'a [u8]];
 
@@ -46,11 +37,11 @@ pub(crate) fn words_of(alloc: Global, texts: &[&str]) -> Result<Vec<String>, NoM
 
 /// What stands outside: the source's bytes and how it gives them, and how the sink takes them.
 #[derive(Drop)]
-pub(crate) struct Outside<'a> {
-    pub(crate) input: Parts<'a>,
-    pub(crate) reads: &'a [ReadPlan],
-    pub(crate) at_end: AtEnd,
-    pub(crate) writes: &'a [WritePlan],
+struct Outside<'a> {
+    input: Parts<'a>,
+    reads: &'a [ReadPlan],
+    at_end: AtEnd,
+    writes: &'a [WritePlan],
 }
 
 /// The status of these words, and the bytes that were written.
@@ -65,7 +56,7 @@ fn ran(alloc: Global, words: &[&str], outside: &Outside<'_>) -> Result<(u8, Vec<
 }
 
 /// Whether these words give this status and write these lines.
-pub(crate) fn gives(
+fn gives(
     alloc: Global,
     words: &[&str],
     outside: &Outside<'_>,
@@ -75,116 +66,6 @@ pub(crate) fn gives(
     let (ended, written) = ran(alloc, words, outside)?;
     let wanted = joined(alloc, lines)?;
     Ok(ended == status && written.as_slice() == wanted.as_slice())
-}
-
-#[test]
-fn a_failed_read_closes_no_epoch(rt: HostRuntime) -> Result<(), Fail> {
-    let rows: &[(Outside<'_>, u8, Parts<'_>)] = &[
-        (
-            Outside {
-                input: &[RMC],
-                reads: &[ReadPlan::Give(512), ReadPlan::Fail],
-                at_end: AtEnd::End,
-                writes: &[],
-            },
-            3,
-            &[],
-        ),
-        (
-            Outside {
-                input: &[RMC, MIDNIGHT],
-                reads: &[ReadPlan::Give(512), ReadPlan::Fail],
-                at_end: AtEnd::End,
-                writes: &[],
-            },
-            3,
-            &[RMC_LINE],
-        ),
-        (
-            Outside {
-                input: &[PVT, EOE],
-                reads: &[ReadPlan::Give(512), ReadPlan::Fail],
-                at_end: AtEnd::End,
-                writes: &[],
-            },
-            3,
-            &[PVT_LINE],
-        ),
-        (
-            Outside {
-                input: &[PVT],
-                reads: &[ReadPlan::Give(512), ReadPlan::Fail],
-                at_end: AtEnd::End,
-                writes: &[],
-            },
-            3,
-            &[],
-        ),
-    ];
-    for (outside, status, lines) in rows {
-        assert!(rt; gives(rt.alloc(), &["decode"], outside, *status, *lines)?);
-    }
-    Ok(())
-}
-
-#[test]
-fn a_failed_write_ends_the_run(rt: HostRuntime) -> Result<(), Fail> {
-    let rows: &[(Outside<'_>, u8, Parts<'_>)] = &[
-        (
-            Outside {
-                input: &[RMC],
-                reads: &[],
-                at_end: AtEnd::End,
-                writes: &[WritePlan::Fail],
-            },
-            4,
-            &[],
-        ),
-        (
-            Outside {
-                input: &[RMC],
-                reads: &[],
-                at_end: AtEnd::End,
-                writes: &[WritePlan::Take(10), WritePlan::Fail],
-            },
-            4,
-            &[b"{\"class\":\""],
-        ),
-    ];
-    for (outside, status, lines) in rows {
-        assert!(rt; gives(rt.alloc(), &["decode"], outside, *status, *lines)?);
-    }
-    Ok(())
-}
-
-#[test]
-fn reads_may_be_small_or_bring_nothing(rt: HostRuntime) -> Result<(), Fail> {
-    let rows: &[(Outside<'_>, u8, Parts<'_>)] = &[
-        (
-            Outside {
-                input: &[RMC],
-                reads: &[ReadPlan::Give(1); 70],
-                at_end: AtEnd::End,
-                writes: &[],
-            },
-            0,
-            &[RMC_LINE],
-        ),
-        (
-            Outside {
-                input: &[RMC, MIDNIGHT],
-                reads: &[],
-                at_end: AtEnd::Quiet,
-                writes: &[],
-            },
-            3,
-            &[RMC_LINE],
-        ),
-    ];
-    for (outside, status, lines) in rows {
-        assert!(rt; gives(rt.alloc(), &["decode"], outside, *status, *lines)?);
-    }
-    Ok(())
 }
 
 #[test]

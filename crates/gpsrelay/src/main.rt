@@ -2,6 +2,8 @@
 //! receiver or a recorded script sends on standard input.
 #![tactic(auto)]
 
+#[cfg(test)]
+mod cues;
 mod decode;
 mod outcome;
 mod run;

@@ -1,0 +1,13 @@
+pub mod Beginnings
+pub mod Taking
+pub mod Walking
+pub mod HeadTheorem
+pub mod Alone
+pub mod Cutting
+pub mod Restamped
+pub mod Streams
+pub mod Neat
+pub mod Carrying
+pub mod Crossing
+pub mod Asked
+pub mod Watched

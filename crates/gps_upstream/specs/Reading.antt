@@ -1,0 +1,59 @@
+-- What the reading of a head, and of what stands behind it, says of the bytes that it takes from its source. This project's own.
+use Rattle.std.specs.Prelude.{◌≡◌, ◌≢◌, ℕ, ◌<◌, ◌≤◌, List, [], take, Option}
+use Rattle.gps_outside.specs.Told.{Stream, Goes, Passes}
+use Rattle.gps_outside.specs.Turns.{TakesAll, TakesSome}
+use Rattle.upstream_laws.specs.declared.stage.Stage.{Stage}
+use Rattle.upstream_laws.specs.declared.stage.Stage.TheVariants.{Behind, Nowhere}
+use Rattle.upstream_laws.specs.Head.{Stand, taken, behind, most}
+use Rattle.gps_upstream.specs.declared.reading.HeadStep.{HeadStep}
+use Rattle.gps_upstream.specs.declared.reading.HeadStep.TheVariants.{Got, Bad, End, Quiet, Failed}
+
+-- bytes that were got are some, and no more than the buffer has room for
+abbrev pub FitsBuffer : HeadStep → ℕ → Type 0
+FitsBuffer (Got n) room = (1 ≤ n) × (n ≤ room)
+FitsBuffer Bad room = Unit {0}
+FitsBuffer End room = Unit {0}
+FitsBuffer Quiet room = Unit {0}
+FitsBuffer Failed room = Unit {0}
+
+-- what is handed on
+abbrev pub handed_on : HeadStep → List ℕ → List ℕ
+handed_on (Got n) buffer = take n buffer
+handed_on Bad buffer = []
+handed_on End buffer = []
+handed_on Quiet buffer = []
+handed_on Failed buffer = []
+
+-- where the head stands then
+abbrev pub StandsAt : HeadStep → Stage → Type 0
+StandsAt (Got n) stage = stage ≡ Behind
+StandsAt Bad stage = stage ≡ Nowhere
+StandsAt End stage = stage ≢ Nowhere
+StandsAt Quiet stage = stage ≢ Nowhere
+StandsAt Failed stage = stage ≢ Nowhere
+
+-- what happens to the source's content, where these bytes are taken from it
+abbrev pub Moves : HeadStep → List ℕ → Stream → Stream → Type 0
+Moves (Got n) raw before after = Passes raw before after
+Moves Bad raw before after = Passes raw before after
+Moves End raw before after = TakesAll raw before after
+Moves Quiet raw before after = Passes raw before after
+Moves Failed raw before after = TakesSome raw before after
+
+-- Some bytes are taken from the source. Those of them that stand behind the head are handed on.
+pub record Gives (step : HeadStep) (buffer : List ℕ) (old new : Stand) (before after : Option Stream) : Type 0 where
+  pub raw : List ℕ
+  pub moved : Goes (Moves step raw) before after
+  pub stand : new ≡ taken old raw
+  pub handed : behind old raw ≡ handed_on step buffer
+  pub stage : StandsAt step new.stage
+
+-- some bytes are taken from the source, and all of them belong to the head
+pub record GoesOn (old new : Stand) (before after : Option Stream) : Type 0 where
+  pub raw : List ℕ
+  pub moved : Goes (Passes raw) before after
+  pub stand : new ≡ taken old raw
+  pub none : behind old raw ≡ []
+  pub stage : new.stage ≢ Nowhere
+  pub more : old.count < new.count
+  pub few : new.count ≤ most

@@ -1,0 +1,14 @@
+/// How far the head of what another daemon sends was taken.
+#[derive(Clone, Copy, Debug, PartialEq, Eq)]
+pub enum Head {
+    /// The daemon was not asked yet.
+    Start,
+    /// The daemon was asked, and its head has not ended.
+    Reading,
+    /// The head has ended: all that follows is handed on.
+    Done,
+    /// What the daemon sent has no head.
+    Bad,
+    /// The request could not be written.
+    Unsent,
+}

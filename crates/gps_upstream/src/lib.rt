@@ -1,0 +1,17 @@
+//! Another daemon as a source: it is asked for its packets, the head of lines before them is taken off, and the packets are handed on.
+//!
+//! `Upstream` stands over one connection, its source and its sink. The lines are those of this project's own daemon, after
+//! gpsd_json(5).
+#![tactic(auto)]
+
+mod asking;
+mod begin;
+mod cutter;
+mod head;
+mod reading;
+#[cfg(test)]
+mod tests;
+mod upstream;
+
+pub use head::Head;
+pub use upstream::Upstream;

@@ -77,7 +77,7 @@ fn is_port(text: &[u8]) -> bool
 
 /// Whether a text is `HOST:PORT`, split at its last `:`.
 #[tactic(auto, unfolding(crate::specs::Devices::is_address))]
-pub(crate) fn is_address(text: &[u8]) -> bool
+pub fn is_address(text: &[u8]) -> bool
     ensures { result ≡ is_address text.now }
 {
     match last_colon(text) {

@@ -17,5 +17,6 @@ mod serve;
 
 pub use choice::asked;
 pub use command::{Command, WordsFault};
-pub use device::Input;
+pub use device::{Input, is_address};
+pub use numbers::number_within;
 pub use serve::{ServeNumbers, ServeOptions, serve_asked};

@@ -1,0 +1,22 @@
+//! Why the words of the command line are refused, in words for a person, and the help. [`refused`] gives a reason exactly where no command
+//! and no daemon is asked for. This project's own.
+#![tactic(auto)]
+
+mod cause;
+mod command_name;
+mod device;
+mod help;
+mod near;
+mod option_name;
+mod refusal;
+#[cfg(test)]
+mod tests;
+mod told;
+mod word;
+
+pub use cause::{Cause, DeviceCause};
+pub use command_name::CommandName;
+pub use help::{HELP, RELEASE, USAGE};
+pub use option_name::OptionName;
+pub use refusal::{Refusal, refused};
+pub use told::Told;

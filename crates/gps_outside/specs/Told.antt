@@ -1,5 +1,5 @@
 -- What an object of the outside tells of its content, and what happens to a content. This project's own.
-use Rattle.std.specs.Prelude.{◌≡◌, ℕ, List, [], ◌++◌, Option, Some, None, ◌⊎◌}
+use Rattle.std.specs.Prelude.{◌≡◌, ℕ, ◌<◌, List, [], ◌++◌, length, Option, Some, None, ◌⊎◌}
 
 -- the bytes that were taken from a source so far, and those that are left in it
 pub record Stream : Type 0 where
@@ -14,6 +14,10 @@ Goes P (Some x) (Some y) = P x y
 
 abbrev pub Stays : {X : Type 0} → X → X → Type 0
 Stays before after = before ≡ after
+
+-- bytes are left
+abbrev pub HasMore : Stream → Type 0
+HasMore stream = 0 < length stream.left
 
 -- the piece is the next of what was left, and passes to what was taken
 pub record Passes (piece : List ℕ) (before after : Stream) : Type 0 where

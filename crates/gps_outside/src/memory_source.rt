@@ -126,6 +126,11 @@ impl Source for MemorySource {
         }
         step
     }
+
+    /// Behind its plan, while bytes are left.
+    fn is_ready(&self) -> bool {
+        self.plan.len() == 0 && !self.left().is_empty()
+    }
 }
 
 /// What an entry of the plan answers to a buffer with this room.

@@ -22,6 +22,17 @@ enum Inlet {
     Broken,
 }
 
+impl Inlet {
+    /// Whether bytes that came ahead are still to be handed on.
+    fn is_ready(&self) -> bool {
+        match self {
+            Inlet::File(file) => !file.buffer().is_empty(),
+            Inlet::Input(input) => !input.buffer().is_empty(),
+            Inlet::Stream(_) | Inlet::Ended | Inlet::Broken => false,
+        }
+    }
+}
+
 impl Read for Inlet {
     fn read(&mut self, buf: &mut [u8]) -> io::Result<usize> {
         let result = match self {
@@ -106,5 +117,14 @@ impl Source for RealSource {
 
     fn read(&mut self, buf: &mut [u8]) -> ReadStep {
         self.reader.read(buf)
+    }
+
+    fn is_ready(&self) -> bool {
+        self.reader.reader().is_ready()
+    }
+
+    /// Closes the file or the stream; what came ahead is dropped.
+    fn finish(&mut self) {
+        self.reader.replace(Inlet::Ended);
     }
 }

@@ -13,10 +13,10 @@ pub enum ReadStep {
 
 /// Where bytes come from: a file, a pipe, a stream.
 pub trait Source: Drop {
-    ghost use Rattle.std.specs.Prelude.{◌≡◌, ℕ, ◌<◌, ◌≤◌, length, Option};
+    ghost use Rattle.std.specs.Prelude.{◌≡◌, ℕ, ◌<◌, ◌≤◌, length, Option, IfSome, true};
     ghost use Rattle.gps_outside.specs.declared.source.ReadStep.{ReadStep};
     ghost use Rattle.gps_outside.specs.Counts.{Rose};
-    ghost use Rattle.gps_outside.specs.Told.{Stream};
+    ghost use Rattle.gps_outside.specs.Told.{Stream, HasMore};
     ghost use Rattle.gps_outside.specs.Reads.{FitsBuffer, Reads};
 
     /// How often a read failed.
@@ -37,4 +37,18 @@ pub trait Source: Drop {
         ensures quiets_stay { quiets self.old ≤ quiets self.new }
         ensures failed { result ≡ ReadStep.Failed → Rose (faults self.old) (faults self.new) }
         ensures quiet { result ≡ ReadStep.Quiet → Rose (quiets self.old) (quiets self.new) };
+
+    /// Whether bytes stand ready, so that the next read gives some without waiting. False says nothing.
+    fn is_ready(&self) -> bool
+        ensures more { result ≡ true → IfSome (content self.now) HasMore }
+    {
+        false
+    }
+
+    /// Says that nothing more will be read, so that what stands behind the source may be closed.
+    fn finish(&mut self)
+        ensures content { content self.new ≡ content self.old }
+        ensures faults { faults self.new ≡ faults self.old }
+        ensures quiets { quiets self.new ≡ quiets self.old }
+    {}
 }

@@ -95,7 +95,7 @@ def served(name, given):
     for kilobytes in MANY:
         status, out, errors, had = serve(given, kilobytes)
         seen.add(status)
-        causes = {0: True, 7: True, 127: not out and not had, 3: "cannot be opened" in errors, 8: "cannot listen" in errors}
+        causes = {0: True, 7: True, 127: not out and not had, 3: "cannot be opened" in errors or "failed" in errors, 8: "cannot listen" in errors}
         if not causes.get(status) or not whole.startswith(had) or not re.fullmatch(CLOSING, out):
             wrong.append((kilobytes, status, out, errors[-200:], len(had)))
     report(name, {7}, seen, wrong)

@@ -1,4 +1,4 @@
-use crate::{Sink, Source};
+use crate::{Closer, Sink, Source};
 
 /// What one call of a door answers.
 #[derive(Drop)]
@@ -43,4 +43,9 @@ pub trait Door: Drop {
         ensures quiets_stay { quiets self.old ≤ quiets self.new }
         ensures failed { result ≡ DoorStep.Failed → Rose (faults self.old) (faults self.new) }
         ensures quiet { result ≡ DoorStep.Quiet → Rose (quiets self.old) (quiets self.new) };
+
+    /// What closes it from another thread; none where no call of it waits for long.
+    fn closer(&self) -> Option<Closer> {
+        None
+    }
 }

@@ -5,7 +5,11 @@
 #![tactic(auto)]
 
 mod clock;
+mod closer;
+mod connecting;
 mod door;
+mod idle_timer;
+mod inlet;
 mod intake;
 mod memory_clock;
 mod memory_door;
@@ -22,7 +26,10 @@ mod source;
 mod whole;
 
 pub use clock::Clock;
+pub use closer::Closer;
+pub use connecting::connect;
 pub use door::{Door, DoorStep};
+pub use inlet::Awaited;
 pub use intake::{Intake, IntakeStep};
 pub use memory_clock::MemoryClock;
 pub use memory_door::MemoryDoor;
@@ -31,7 +38,7 @@ pub use memory_source::MemorySource;
 pub use plan::{AtEnd, DoorPlan, ReadPlan, WritePlan};
 pub use reader_source::ReaderSource;
 pub use real_clock::RealClock;
-pub use real_door::{RealDoor, directions_of};
+pub use real_door::RealDoor;
 pub use real_sink::RealSink;
 pub use real_source::RealSource;
 pub use sink::{Sink, WriteStep, write_all};

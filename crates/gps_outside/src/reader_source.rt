@@ -32,21 +32,6 @@ impl<R: Read> ReaderSource<R> {
             quiets: 0,
         }
     }
-
-    pub(crate) fn reader(&self) -> &R
-        ensures { R.remaining result.now ≡ self.now.to_come }
-    {
-        &self.reader
-    }
-
-    /// Reads from another reader from now on.
-    pub(crate) fn replace(&mut self, reader: R)
-    where
-        R: Drop,
-        ensures { self.new ≡ record self.old { to_come = R.remaining reader } }
-    {
-        self.reader = reader;
-    }
 }
 
 impl<R: Read + Drop> Source for ReaderSource<R> {

@@ -1,21 +1,30 @@
 ghost use Rattle.std.specs.Prelude.{◌≡◌, IfOk};
 
 use crate::reader_source::is_quiet;
-use crate::{Door, DoorStep, RealSink, RealSource};
+use crate::{Closer, Door, DoorStep, RealSink, RealSource};
+use std::fs::File;
 use std::io::{self, ErrorKind};
 use std::marker::Model;
-use std::net::{TcpListener, TcpStream};
+use std::net::{Net, SocketAddr, TcpListener, TcpStream};
 use std::os::fd::OwnedFd;
-use std::time::Duration;
+use std::rt::Files;
+use std::time::{self, Duration};
 
-/// How many milliseconds one call of a door waits for a link.
-const ACCEPT_WAIT: u64 = 100;
+/// How many milliseconds one call of a door waits for a link. Nothing is lost by waiting, as a link is taken at once; what
+/// ended meanwhile is joined after a call.
+const ACCEPT_WAIT: u64 = 5_000;
 
-/// How many milliseconds one read of a link waits for bytes.
+/// How many milliseconds a door rests where no file or room is left for a link.
+const REST: u64 = 100;
+
+/// How many milliseconds the first read of a link waits for bytes. It may be made by the door's own thread.
 const READ_WAIT: u64 = 500;
 
 /// How many milliseconds one write to a link waits for room.
 const WRITE_WAIT: u64 = 1_000;
+
+/// What accept(2) of Linux answers where the socket was shut down (EINVAL).
+const SHUT: i32 = 22;
 
 /// What accept(2) of Linux answers where the system or this process has no file or no room left (ENOMEM, ENFILE, EMFILE, ENOBUFS), where a
 /// firewall refuses the link (EPERM), or where the link's network failed before it was handed on.
@@ -27,33 +36,44 @@ fn is_passing(error: &io::Error) -> bool {
         Some(code) => PASSING.contains(&code),
         None => false,
     };
-    passes || is_quiet(error) || error.kind() == ErrorKind::ConnectionAborted
+    passes || error.kind() == ErrorKind::ConnectionAborted
 }
 
-/// Both directions of a TCP stream. Small pieces are sent at once; a read that waits for half a second is quiet, and a
-/// write that waits for a second is a fault, so no peer holds the thread that serves it.
-pub fn directions_of(stream: TcpStream) -> io::Result<(RealSource, RealSink)>
+/// Whether the door was closed.
+fn is_shut(error: &io::Error) -> bool {
+    error.raw_os_error() == Some(SHUT)
+}
+
+/// Both directions of a client's link. Small pieces are sent at once, and a write that waits for a second is a fault, so no
+/// client holds the thread that serves it.
+fn link_of<R: time::Clock + Drop>(
+    machine: R,
+    stream: TcpStream,
+) -> io::Result<(RealSource<R>, RealSink)>
     ensures { IfOk result (λ link. (link.0 ≡ record { faults = 0; quiets = 0 }) × (link.1 ≡ 0)) }
 {
+    let wait = Duration::from_millis(READ_WAIT);
     stream.set_nodelay(true)?;
-    stream.set_read_timeout(Some(Duration::from_millis(READ_WAIT)))?;
+    stream.set_read_timeout(Some(wait))?;
     stream.set_write_timeout(Some(Duration::from_millis(WRITE_WAIT)))?;
     let other = stream.try_clone()?;
-    Ok((RealSource::of_stream(stream), RealSink::of_stream(other)))
+    let source = RealSource::of_link(machine, stream, wait)?;
+    Ok((source, RealSink::of_stream(other)))
 }
 
 /// A TCP listener as a door. It counts its faults and quiets, and tells no links.
 ///
-/// Where no link waits for a tenth of a second it is quiet; so it is where a link breaks off before it is handed on, and where no file or room
-/// is left for it: the door stays open for those that come later.
+/// Where no link waits for five seconds it is quiet; so it is where a link breaks off before it is handed on, and where no file or room is
+/// left for it: the door stays open for those that come later. Its closer closes it.
 #[derive(Drop)]
-pub struct RealDoor {
+pub struct RealDoor<R> {
+    machine: R,
     listener: TcpListener,
     faults: u64,
     quiets: u64,
 }
 
-impl Model for RealDoor {
+impl<R> Model for RealDoor<R> {
     ghost use Rattle.gps_outside.specs.Counts.{Tally};
 
     ghost Value = { Tally };
@@ -61,35 +81,48 @@ impl Model for RealDoor {
     ghost view = { λ s. record { faults = s.faults; quiets = s.quiets } };
 }
 
-impl RealDoor {
-    pub fn of_listener(listener: TcpListener) -> io::Result<RealDoor>
+/// The socket of a listener as a stream, for the calls that a listener has not.
+fn socket_of(listener: &TcpListener) -> io::Result<TcpStream> {
+    Ok(TcpStream::from(OwnedFd::from(listener.try_clone()?)))
+}
+
+impl<R: time::Clock + Copy> RealDoor<R> {
+    pub fn of_listener(machine: R, listener: TcpListener) -> io::Result<RealDoor<R>>
         ensures { IfOk result (λ door. door ≡ record { faults = 0; quiets = 0 }) }
     {
-        // A listener has no call for its own time-out, but shares its options with a stream over the same socket.
-        let options = TcpStream::from(OwnedFd::from(listener.try_clone()?));
-        options.set_read_timeout(Some(Duration::from_millis(ACCEPT_WAIT)))?;
+        let socket = socket_of(&listener)?;
+        socket.set_read_timeout(Some(Duration::from_millis(ACCEPT_WAIT)))?;
         Ok(RealDoor {
+            machine,
             listener,
             faults: 0,
             quiets: 0,
         })
     }
 
-    fn next_link(&self) -> io::Result<(RealSource, RealSink)>
+    /// Where it listens.
+    pub fn address(&self) -> io::Result<SocketAddr> {
+        self.listener.local_addr()
+    }
+
+    fn next_link(&self) -> io::Result<(RealSource<R>, RealSink)>
         ensures { IfOk result (λ link. (link.0 ≡ record { faults = 0; quiets = 0 }) × (link.1 ≡ 0)) }
     {
         let (stream, _) = self.listener.accept()?;
-        match directions_of(stream) {
+        match link_of(self.machine, stream) {
             Ok(link) => Ok(link),
             Err(_) => Err(io::Error::from(ErrorKind::ConnectionAborted)),
         }
     }
 }
 
-impl Door for RealDoor {
+impl<R> Door for RealDoor<R>
+where
+    R: Files<File = File> + Net<Stream = TcpStream> + time::Clock + Copy,
+{
     ghost use Rattle.std.specs.Prelude.{None};
 
-    type In = RealSource;
+    type In = RealSource<R>;
 
     type Out = RealSink;
 
@@ -99,18 +132,30 @@ impl Door for RealDoor {
 
     ghost links = { λ _. None };
 
-    fn accept(&mut self) -> DoorStep<RealSource, RealSink> {
+    fn accept(&mut self) -> DoorStep<RealSource<R>, RealSink> {
         match self.next_link() {
             Ok((source, sink)) => DoorStep::Link(source, sink),
-            Err(error) => {
-                if is_passing(&error) {
-                    self.quiets = self.quiets.saturating_add(1);
-                    DoorStep::Quiet
-                } else {
-                    self.faults = self.faults.saturating_add(1);
-                    DoorStep::Failed
-                }
+            Err(error) if is_shut(&error) => DoorStep::Closed,
+            Err(error) if is_quiet(&error) => {
+                self.quiets = self.quiets.saturating_add(1);
+                DoorStep::Quiet
             }
+            Err(error) if is_passing(&error) => {
+                self.machine.sleep(Duration::from_millis(REST));
+                self.quiets = self.quiets.saturating_add(1);
+                DoorStep::Quiet
+            }
+            Err(_) => {
+                self.faults = self.faults.saturating_add(1);
+                DoorStep::Failed
+            }
+        }
+    }
+
+    fn closer(&self) -> Option<Closer> {
+        match socket_of(&self.listener) {
+            Ok(socket) => Some(Closer::of_socket(socket)),
+            Err(_) => None,
         }
     }
 }

@@ -5,6 +5,9 @@ use std::io::{self, ErrorKind, Stdout, Write};
 use std::marker::Model;
 use std::net::{Shutdown, TcpStream};
 
+/// How often a write is tried that signals interrupt.
+const TRIES: u32 = 10_000;
+
 /// Where a real sink writes.
 #[derive(Drop)]
 enum Outlet {
@@ -15,8 +18,8 @@ enum Outlet {
 
 /// Standard output or a TCP stream as a sink, with no buffer between: each write is one call of the system.
 ///
-/// It is seen as the number of its faults, and tells no content. A write that fails for any reason is a fault, as one
-/// that timed out or took no byte.
+/// It is seen as the number of its faults, and tells no content. A write that fails is a fault, as one that timed out or
+/// took no byte; one that a signal interrupts is tried again.
 #[derive(Drop)]
 pub struct RealSink {
     outlet: Outlet,
@@ -51,7 +54,7 @@ impl RealSink {
         }
     }
 
-    fn write_out(&mut self, piece: &[u8]) -> io::Result<usize>
+    fn write_once(&mut self, piece: &[u8]) -> io::Result<usize>
         ensures faults { self.new ≡ self.old }
         ensures most { IfOk result (λ n. n ≤ length piece.now) }
     {
@@ -60,6 +63,20 @@ impl RealSink {
             Outlet::Stream(stream) => stream.write(piece),
             Outlet::Finished => Err(io::Error::from(ErrorKind::NotConnected)),
         }
+    }
+
+    /// Writes, and once more where a signal came before a byte was written.
+    fn write_out(&mut self, piece: &[u8]) -> io::Result<usize>
+        ensures faults { self.new ≡ self.old }
+        ensures most { IfOk result (λ n. n ≤ length piece.now) }
+    {
+        'tries: for _ in 0..TRIES {
+            match self.write_once(piece) {
+                Err(error) if error.kind() == ErrorKind::Interrupted => {}
+                other => return other,
+            }
+        }
+        Err(io::Error::from(ErrorKind::Interrupted))
     }
 }
 

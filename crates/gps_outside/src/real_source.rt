@@ -1,112 +1,125 @@
 ghost use Rattle.std.specs.Prelude.{◌≡◌, IfOk};
 
+use crate::inlet::{AHEAD, Awaited, Inlet, Link};
 use crate::reader_source::is_quiet;
-use crate::{ReadStep, ReaderSource, Source};
-use gps_fixed::NoMemory;
+use crate::{ReadStep, Source};
+use gps_fixed::{Bytes, NoMemory};
 use std::alloc::Global;
 use std::fs::File;
-use std::io::{self, BufReader, ErrorKind, Read, Stdin};
+use std::io::{self, BufReader, Stdin};
 use std::marker::Model;
-use std::net::TcpStream;
+use std::net::{Net, TcpStream};
+use std::rt::Files;
+use std::time::{Clock, Duration};
 
-/// So many bytes are asked of a file or of standard input at once.
-const AHEAD: usize = 32_768;
-
-/// What a real source reads. At its end, and after a fault, it lets go of what it read.
-#[derive(Drop)]
-enum Inlet {
-    File(BufReader<File>),
-    Input(BufReader<Stdin>),
-    Stream(TcpStream),
-    Ended,
-    Broken,
-}
-
-impl Inlet {
-    /// Whether bytes that came ahead are still to be handed on.
-    fn is_ready(&self) -> bool {
-        match self {
-            Inlet::File(file) => !file.buffer().is_empty(),
-            Inlet::Input(input) => !input.buffer().is_empty(),
-            Inlet::Stream(_) | Inlet::Ended | Inlet::Broken => false,
-        }
-    }
-}
-
-impl Read for Inlet {
-    fn read(&mut self, buf: &mut [u8]) -> io::Result<usize> {
-        let result = match self {
-            Inlet::File(file) => file.read(buf),
-            Inlet::Input(input) => input.read(buf),
-            Inlet::Stream(stream) => stream.read(buf),
-            Inlet::Ended => Ok(0),
-            Inlet::Broken => Err(io::Error::from(ErrorKind::NotConnected)),
-        };
-        match &result {
-            Ok(0) => *self = Inlet::Ended,
-            Err(error) if !is_quiet(error) => *self = Inlet::Broken,
-            _ => {}
-        }
-        result
-    }
-}
-
-/// A file, standard input or a TCP stream as a source. It counts its faults and quiets, and tells no content.
+/// A file, a pipe with a name, standard input, a host or the link of a client as a source. It counts its faults and
+/// quiets, and tells no content.
 ///
 /// Of a file and of standard input it asks the system for more than a read may take, and hands what came ahead on to the
-/// next reads; it never waits for more than came at once. A stream is read as it is asked. A read that times out is
-/// quiet. After its end it stays ended, and after a fault each read is a fault.
+/// next reads; it never waits for more than came at once. A stream is read as it is asked. What may wait long to be
+/// opened, a pipe with a name and a host, is opened by the first read. A read that times out is quiet; a host that does
+/// not answer within five seconds, or refuses, is a fault. After its end it stays ended, and after a fault each read is
+/// a fault.
 #[derive(Drop)]
-pub struct RealSource {
-    reader: ReaderSource<Inlet>,
+pub struct RealSource<R> {
+    machine: R,
+    inlet: Inlet,
+    faults: u64,
+    quiets: u64,
 }
 
-impl Model for RealSource {
+impl<R> Model for RealSource<R> {
     ghost use Rattle.gps_outside.specs.Counts.{Tally};
 
     ghost Value = { Tally };
 
-    ghost view = { λ s. record { faults = s.reader.faults; quiets = s.reader.quiets } };
+    ghost view = { λ s. record { faults = s.faults; quiets = s.quiets } };
 }
 
-impl RealSource {
-    fn new(inlet: Inlet) -> RealSource
+impl<R> RealSource<R> {
+    fn new(machine: R, inlet: Inlet) -> RealSource<R>
         ensures { result ≡ record { faults = 0; quiets = 0 } }
     {
         RealSource {
-            reader: ReaderSource::new(inlet),
+            machine,
+            inlet,
+            faults: 0,
+            quiets: 0,
         }
     }
 
     /// Reads a file, from where it stands.
-    pub fn of_file(alloc: Global, file: File) -> Result<RealSource, NoMemory>
+    pub fn of_file(machine: R, alloc: Global, file: File) -> Result<RealSource<R>, NoMemory>
+    where
+        R: Drop,
         ensures { IfOk result (λ s. s ≡ record { faults = 0; quiets = 0 }) }
     {
         match BufReader::with_capacity(alloc, AHEAD, file) {
-            Ok(reader) => Ok(RealSource::new(Inlet::File(reader))),
+            Ok(reader) => Ok(RealSource::new(machine, Inlet::File(reader))),
             Err(_) => Err(NoMemory),
         }
     }
 
     /// Reads standard input.
-    pub fn of_input(alloc: Global, input: Stdin) -> Result<RealSource, NoMemory>
+    pub fn of_input(machine: R, alloc: Global, input: Stdin) -> Result<RealSource<R>, NoMemory>
+    where
+        R: Drop,
         ensures { IfOk result (λ s. s ≡ record { faults = 0; quiets = 0 }) }
     {
         match BufReader::with_capacity(alloc, AHEAD, input) {
-            Ok(reader) => Ok(RealSource::new(Inlet::Input(reader))),
+            Ok(reader) => Ok(RealSource::new(machine, Inlet::Input(reader))),
             Err(_) => Err(NoMemory),
         }
     }
 
-    /// Reads a TCP stream, with the time-out that it has.
-    pub fn of_stream(stream: TcpStream) -> RealSource
+    /// Reads the pipe of this path, which its first read opens. That waits for a writer.
+    pub fn of_pipe(machine: R, alloc: Global, path: Bytes) -> RealSource<R>
         ensures { result ≡ record { faults = 0; quiets = 0 } }
     {
-        RealSource::new(Inlet::Stream(stream))
+        RealSource::new(machine, Inlet::Pipe(alloc, path))
+    }
+
+    /// Reads what a host sends at this HOST:PORT. Its first read connects.
+    pub fn of_host(machine: R, address: Bytes) -> RealSource<R>
+        ensures { result ≡ record { faults = 0; quiets = 0 } }
+    {
+        RealSource::new(machine, Inlet::Host(address))
+    }
+
+    /// Reads a TCP stream, with the time-out that it has.
+    pub fn of_stream(machine: R, stream: TcpStream) -> RealSource<R>
+        ensures { result ≡ record { faults = 0; quiets = 0 } }
+    {
+        RealSource::new(machine, Inlet::Stream(stream))
+    }
+
+    /// Reads the link of a client, a TCP stream that has this time-out. It ends where the client is idle for too long: no whole
+    /// request came within 60 s, or it watches nothing and asked nothing for 15 minutes.
+    pub(crate) fn of_link(
+        machine: R,
+        stream: TcpStream,
+        wait: Duration,
+    ) -> io::Result<RealSource<R>>
+    where
+        R: Clock + Drop,
+        ensures { IfOk result (λ s. s ≡ record { faults = 0; quiets = 0 }) }
+    {
+        let now = machine.monotonic()?;
+        Ok(RealSource::new(machine, Inlet::Link(Link::new(stream, wait, now))))
+    }
+
+    /// What its next read waits for, before it can give bytes. None once it is open.
+    pub fn awaited(&self) -> Option<Awaited> {
+        self.inlet.awaited()
+    }
+
+    /// Why it failed, after a fault.
+    pub fn fault(&self) -> Option<io::Error> {
+        self.inlet.fault()
     }
 }
 
-impl Source for RealSource {
+impl<R: Files<File = File> + Net<Stream = TcpStream> + Clock + Drop> Source for RealSource<R> {
     ghost use Rattle.std.specs.Prelude.{None};
 
     ghost faults = { λ s. s.faults };
@@ -116,15 +129,27 @@ impl Source for RealSource {
     ghost content = { λ _. None };
 
     fn read(&mut self, buf: &mut [u8]) -> ReadStep {
-        self.reader.read(buf)
+        match self.inlet.read(&self.machine, buf) {
+            Ok(0) => ReadStep::End,
+            Ok(n) => ReadStep::Got(n),
+            Err(error) => {
+                if is_quiet(&error) {
+                    self.quiets = self.quiets.saturating_add(1);
+                    ReadStep::Quiet
+                } else {
+                    self.faults = self.faults.saturating_add(1);
+                    ReadStep::Failed
+                }
+            }
+        }
     }
 
     fn is_ready(&self) -> bool {
-        self.reader.reader().is_ready()
+        self.inlet.is_ready()
     }
 
     /// Closes the file or the stream; what came ahead is dropped.
     fn finish(&mut self) {
-        self.reader.replace(Inlet::Ended);
+        self.inlet = Inlet::Ended;
     }
 }

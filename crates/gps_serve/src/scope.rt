@@ -255,6 +255,7 @@ fn work<
     let Ok(publisher) = scope.spawn(move || publish(&rt, floor, &bells.publisher)) else {
         return None;
     };
+    let closer = door.gate.closer();
     let Some(door) = start_door(rt, alloc, scope, floor, bells, door) else {
         bells.close();
         publisher.join(&rt);
@@ -263,6 +264,10 @@ fn work<
     let watching = start_watchers(rt, alloc, scope, watchers, tries, bells, watching);
     let works = start_devices(rt, alloc, scope, starts, clock, bells, works);
     pump(&rt, floor, bells);
+    // The door worker finds its bell closed, once its call returns.
+    if let Some(closer) = closer {
+        closer.close();
+    }
     let runs = join_devices(&rt, works, runs);
     let watched = join_watchers(&rt, watching, watched);
     publisher.join(&rt);

@@ -9,12 +9,15 @@ use std::fs::{self, File};
 use std::io::{self, ErrorKind};
 use std::marker::Model;
 use std::net::{Net, TcpListener, TcpStream};
+use std::os::unix::fs::FileTypeExt;
 use std::rt::Files;
 use std::{str, time};
 
 /// The real world: files, TCP connections, a TCP listener and the machine's clock. It tells no content.
 ///
-/// What cannot be opened is a fault, for whatever reason; so is want of memory for the buffer of a file.
+/// A file that cannot be opened is a fault, for whatever reason; so is no memory for its buffer. What may wait long to be
+/// opened, a pipe with a name and a host, is opened by the first read of its source; where that fails, it is a fault of the
+/// source.
 #[derive(Drop)]
 pub struct RealWorld<R> {
     machine: R,
@@ -22,6 +25,7 @@ pub struct RealWorld<R> {
     asked: Asked,
     input_faults: u64,
     listen_faults: u64,
+    fault: Option<io::Error>,
 }
 
 impl<R> Model for RealWorld<R> {
@@ -50,35 +54,55 @@ impl<R> RealWorld<R> {
             asked: Asked::nothing(alloc),
             input_faults: 0,
             listen_faults: 0,
+            fault: None,
         }
     }
 }
 
-impl<R: Files<File = File>> RealWorld<R> {
-    fn open_file(&self, path: &Bytes) -> io::Result<RealSource>
+/// The bytes once more, where there is memory for them.
+fn copy_of(bytes: &Bytes) -> io::Result<Bytes> {
+    match bytes.copy() {
+        Ok(copy) => Ok(copy),
+        Err(_) => Err(io::Error::from(ErrorKind::OutOfMemory)),
+    }
+}
+
+impl<R: Files<File = File> + Copy> RealWorld<R> {
+    fn open_file(&self, path: &Bytes) -> io::Result<RealSource<R>>
         ensures { IfOk result (λ source. source ≡ record { faults = 0; quiets = 0 }) }
     {
-        let file = fs::open(&self.machine, text_of(path)?)?;
-        match RealSource::of_file(self.alloc, file) {
+        let text = text_of(path)?;
+        if fs::metadata(&self.machine, text)?.file_type().is_fifo() {
+            let path = copy_of(path)?;
+            return Ok(RealSource::of_pipe(self.machine, self.alloc, path));
+        }
+        let file = fs::open(&self.machine, text)?;
+        match RealSource::of_file(self.machine, self.alloc, file) {
             Ok(source) => Ok(source),
             Err(_) => Err(io::Error::from(ErrorKind::OutOfMemory)),
         }
     }
 }
 
-impl<R: Net<Listener = TcpListener, Stream = TcpStream>> RealWorld<R> {
-    fn connect(&self, address: &Bytes) -> io::Result<RealSource>
+impl<R: Net<Listener = TcpListener, Stream = TcpStream> + time::Clock + Copy> RealWorld<R> {
+    fn host(&self, address: &Bytes) -> io::Result<RealSource<R>>
         ensures { IfOk result (λ source. source ≡ record { faults = 0; quiets = 0 }) }
     {
-        let stream = TcpStream::connect(&self.machine, text_of(address)?)?;
-        Ok(RealSource::of_stream(stream))
+        Ok(RealSource::of_host(self.machine, copy_of(address)?))
     }
 
-    fn bind(&self, address: &Bytes) -> io::Result<RealDoor>
+    fn bind(&self, address: &Bytes) -> io::Result<RealDoor<R>>
         ensures { IfOk result (λ door. door ≡ record { faults = 0; quiets = 0 }) }
     {
         let listener = TcpListener::bind(&self.machine, text_of(address)?)?;
-        RealDoor::of_listener(listener)
+        RealDoor::of_listener(self.machine, listener)
+    }
+}
+
+impl<R> RealWorld<R> {
+    /// Why the last input that could not be opened failed, or else the listening.
+    pub fn fault(&self) -> Option<io::Error> {
+        self.fault
     }
 }
 
@@ -92,13 +116,13 @@ where
 {
     ghost use Rattle.std.specs.Prelude.{None};
 
-    type In = RealSource;
+    type In = RealSource<R>;
 
     type Out = RealSink;
 
     type Now = RealClock<R>;
 
-    type Gate = RealDoor;
+    type Gate = RealDoor<R>;
 
     ghost input_faults = { λ s. s.input_faults };
 
@@ -112,29 +136,31 @@ where
 
     ghost stamps = { λ _. None };
 
-    fn input(&mut self, place: Place) -> Opened<RealSource> {
+    fn input(&mut self, place: Place) -> Opened<RealSource<R>> {
         let source = match &place {
             Place::File(path) => self.open_file(path),
-            Place::Tcp(address) => self.connect(address),
+            Place::Tcp(address) => self.host(address),
             // Another daemon cannot be asked yet.
             Place::Gpsd(_) => Err(io::Error::from(ErrorKind::Unsupported)),
         };
         self.asked.add(place);
         match source {
             Ok(source) => Opened::Ready(source),
-            Err(_) => {
+            Err(error) => {
+                self.fault = Some(error);
                 self.input_faults = self.input_faults.saturating_add(1);
                 Opened::Failed
             }
         }
     }
 
-    fn listen(&mut self, address: Bytes) -> Opened<RealDoor> {
+    fn listen(&mut self, address: Bytes) -> Opened<RealDoor<R>> {
         let door = self.bind(&address);
         self.asked.set_address(address);
         match door {
             Ok(door) => Opened::Ready(door),
-            Err(_) => {
+            Err(error) => {
+                self.fault = Some(error);
                 self.listen_faults = self.listen_faults.saturating_add(1);
                 Opened::Failed
             }

@@ -10,6 +10,7 @@ mod run;
 mod serve;
 #[cfg(test)]
 mod serve_tests;
+mod standard_streams;
 mod telling;
 #[cfg(test)]
 mod tests;
@@ -19,6 +20,7 @@ use gps_fixed::NoMemory;
 use gps_outside::{RealClock, RealSink, RealSource, write_all};
 use gps_words::WordsFault;
 use outcome::Outcome;
+use standard_streams::StandardStreams;
 use std::alloc::Global;
 use std::fs::File;
 use std::io::{Eprint, ErrorKind};
@@ -56,7 +58,7 @@ fn words_of_call(rt: &HostRuntime) -> Result<Vec<String>, WordsFault> {
 
 /// Does what the words ask for, over the real streams and the machine's clock.
 fn run_outside(rt: HostRuntime, words: &[String]) -> Result<u8, NoMemory> {
-    let mut source = RealSource::of_input(rt.alloc(), rt.stdin())?;
+    let mut source = RealSource::of_input(rt, rt.alloc(), rt.stdin())?;
     let mut sink = RealSink::of_output(rt.stdout());
     let mut clock = RealClock::new(rt);
     Ok(run::run(rt.alloc(), words, &mut source, &mut sink, &mut clock))
@@ -104,6 +106,8 @@ fn status_of_words(words: WordsFault) -> u8 {
 }
 
 fn main(rt: HostRuntime) -> ExitCode {
+    // Held to the end, so that nothing else takes the number of a standard stream.
+    let _taken = StandardStreams::take(&rt);
     let status = match words_of_call(&rt) {
         Ok(words) => {
             if are_for_daemon(words.as_slice()) {

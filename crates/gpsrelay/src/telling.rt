@@ -5,7 +5,9 @@ ghost use Rattle.std.specs.Prelude.{◌≡◌};
 ghost use Rattle.gps_world.specs.Asking.{asked_nothing};
 
 use gps_fixed::Bytes;
-use gps_outside::{Door, DoorStep, ReadStep, RealClock, RealDoor, RealSink, RealSource, Source};
+use gps_outside::{
+    Awaited, Closer, Door, DoorStep, ReadStep, RealClock, RealDoor, RealSink, RealSource, Source,
+};
 use gps_world::{Opened, Place, RealWorld, World};
 use std::alloc::Global;
 use std::fs::File;
@@ -49,11 +51,24 @@ fn tell<R: Eprint>(rt: &R, place: &Place, what: &str) {
     };
 }
 
+/// Says what a place waits for.
+fn tell_awaited<R: Eprint>(rt: &R, place: &Place, awaited: Awaited) {
+    let what = match awaited {
+        Awaited::Writer => "waiting for a writer of",
+        Awaited::Host => "connecting to",
+    };
+    let _ = match place {
+        Place::File(path) => eprintln!(rt; "gpsrelay: {} file:{}", what, text_of(path)),
+        Place::Tcp(address) => eprintln!(rt; "gpsrelay: {} tcp:{}", what, text_of(address)),
+        Place::Gpsd(address) => eprintln!(rt; "gpsrelay: {} gpsd:{}", what, text_of(address)),
+    };
+}
+
 /// A source that says when it ends or fails, once; one without a place says nothing.
 #[derive(Drop)]
 pub struct TellingSource<R> {
     rt: R,
-    source: RealSource,
+    source: RealSource<R>,
     place: Option<Place>,
 }
 
@@ -65,9 +80,19 @@ impl<R: Eprint> TellingSource<R> {
             tell(&self.rt, &place, what);
         }
     }
+
+    /// Says what the next read waits for.
+    fn tell_awaited(&self) {
+        if let (Some(place), Some(awaited)) = (&self.place, self.source.awaited()) {
+            tell_awaited(&self.rt, place, awaited);
+        }
+    }
 }
 
-impl<R: Eprint + Drop> Source for TellingSource<R> {
+impl<R> Source for TellingSource<R>
+where
+    R: Eprint + Files<File = File> + Net<Stream = TcpStream> + time::Clock + Drop,
+{
     ghost use Rattle.std.specs.Prelude.{None};
 
     ghost faults = { λ s. s.source.faults };
@@ -77,6 +102,7 @@ impl<R: Eprint + Drop> Source for TellingSource<R> {
     ghost content = { λ _. None };
 
     fn read(&mut self, buf: &mut [u8]) -> ReadStep {
+        self.tell_awaited();
         let step = self.source.read(buf);
         match step {
             ReadStep::End => self.tell("has ended"),
@@ -85,16 +111,27 @@ impl<R: Eprint + Drop> Source for TellingSource<R> {
         }
         step
     }
+
+    fn is_ready(&self) -> bool {
+        self.source.is_ready()
+    }
+
+    fn finish(&mut self) {
+        self.source.finish();
+    }
 }
 
 /// The door of a telling world. What its links do is not said.
 #[derive(Drop)]
 pub struct TellingDoor<R> {
     rt: R,
-    door: RealDoor,
+    door: RealDoor<R>,
 }
 
-impl<R: Eprint + Copy + Drop> Door for TellingDoor<R> {
+impl<R> Door for TellingDoor<R>
+where
+    R: Eprint + Files<File = File> + Net<Stream = TcpStream> + time::Clock + Copy + Drop,
+{
     ghost use Rattle.std.specs.Prelude.{None};
 
     type In = TellingSource<R>;
@@ -121,6 +158,10 @@ impl<R: Eprint + Copy + Drop> Door for TellingDoor<R> {
             DoorStep::Closed => DoorStep::Closed,
             DoorStep::Failed => DoorStep::Failed,
         }
+    }
+
+    fn closer(&self) -> Option<Closer> {
+        self.door.closer()
     }
 }
 

@@ -208,10 +208,8 @@ fn cut_all<S: Source, R: Wait + Copy>(
     }
 }
 
-/// Reads the lines of an edges file to its end, and puts each that has at most 64 bytes without its line end, LF or CR
-/// LF; the last may lack it. The last piece tells how the source ended. None: it was told to end before that was put, as
-/// [`read_device`](crate::read_device).
-pub fn read_edges<S: Source, R: Wait + Copy>(
+/// Reads a source to its end, puts its lines, and behind them how the source ended.
+fn put_edges<S: Source, R: Wait + Copy>(
     rt: &R,
     alloc: Global,
     source: &mut S,
@@ -228,4 +226,27 @@ pub fn read_edges<S: Source, R: Wait + Copy>(
 {
     let ending = cut_all(rt, alloc, source, pieces, own, pump, span)?;
     put_ending(rt, pieces, ending, own, pump)
+}
+
+/// Reads the lines of an edges file to its end, and puts each that has at most 64 bytes without its line end, LF or CR
+/// LF; the last may lack it. The last piece tells how the source ended. None: it was told to end before that was put, as
+/// [`read_device`](crate::read_device). In whatever way it ends, the source is closed.
+pub fn read_edges<S: Source, R: Wait + Copy>(
+    rt: &R,
+    alloc: Global,
+    source: &mut S,
+    pieces: &mut Tx<Piece, R>,
+    own: &Bell,
+    pump: &Bell,
+    span: Span,
+) -> Option<Ending>
+    ensures hands { HandsLines result pieces.old.put pieces.new.put (S.content source.old) (S.content source.new) }
+    ensures lane { pieces.new ≡ record pieces.old { put = pieces.new.put } }
+    ensures faults_stay { S.faults source.old ≤ S.faults source.new }
+    ensures quiets_stay { S.quiets source.old ≤ S.quiets source.new }
+    ensures failed { result ≡ Some Ending.Failed → Rose (S.faults source.old) (S.faults source.new) }
+{
+    let ending = put_edges(rt, alloc, source, pieces, own, pump, span);
+    source.finish();
+    ending
 }

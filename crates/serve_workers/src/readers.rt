@@ -112,7 +112,8 @@ fn read_on<M: Maker, S: Source, R: Wait + Copy>(
     unreachable!()
 }
 
-/// Reads a source to its end, puts what each read gave, and behind it how the source ended.
+/// Reads a source to its end, puts what each read gave, and behind it how the source ended. In whatever way it ends, the source is
+/// closed.
 fn read_all<M: Maker, S: Source, R: Wait + Copy>(
     rt: &R,
     alloc: Global,
@@ -130,8 +131,9 @@ fn read_all<M: Maker, S: Source, R: Wait + Copy>(
     ensures quiets_stay { S.quiets source.old ≤ S.quiets source.new }
     ensures failed { result ≡ Some Ending.Failed → Rose (S.faults source.old) (S.faults source.new) }
 {
-    let ending = read_on(rt, alloc, maker, source, pieces, own, pump, span)?;
-    put_ending(rt, pieces, ending, own, pump)
+    let ending = read_on(rt, alloc, maker, source, pieces, own, pump, span);
+    source.finish();
+    put_ending(rt, pieces, ending?, own, pump)
 }
 
 /// Reads a device to its end. Each read that gives bytes makes a piece of them, with the clock's stamp; the last piece

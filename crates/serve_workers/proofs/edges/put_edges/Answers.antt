@@ -1,5 +1,5 @@
 use Rattle.serve_workers.proofs.LineTurning.{handed_lines}
-use Rattle.serve_workers.proofs.edges.read_edges.Goals as goal
+use Rattle.serve_workers.proofs.edges.put_edges.Goals as goal
 
 pub returns-clause-hands : goal.returns-clause-hands
 returns-clause-hands g c =

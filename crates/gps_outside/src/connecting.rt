@@ -1,0 +1,27 @@
+use std::io::{self, ErrorKind};
+use std::net::{Net, TcpStream, ToSocketAddrs};
+use std::time::{Clock, Duration};
+
+/// How many seconds the hosts of one address may take to answer, all together.
+const CONNECT_WAIT: u64 = 5;
+
+/// Connects to HOST:PORT, within five seconds. An address of the host that refuses is followed by its next one.
+pub fn connect<R: Net<Stream = TcpStream> + Clock>(
+    machine: &R,
+    address: &str,
+) -> io::Result<TcpStream> {
+    let start = machine.monotonic()?;
+    let mut last = io::Error::from(ErrorKind::InvalidInput);
+    for at in address.to_socket_addrs(machine)? {
+        let waited = machine.monotonic()?.saturating_sub(start);
+        let left = Duration::from_secs(CONNECT_WAIT).saturating_sub(waited);
+        if left.is_zero() {
+            break;
+        }
+        match TcpStream::connect_timeout(machine, &at, left) {
+            Ok(stream) => return Ok(stream),
+            Err(error) => last = error,
+        }
+    }
+    Err(last)
+}

@@ -2,6 +2,7 @@ pub mod Counts
 pub mod Told
 pub mod Reads
 pub mod Writes
+pub mod Waiting
 pub mod Ticks
 pub mod Plans
 pub mod ReadPlans

@@ -1,6 +1,7 @@
 ghost use Rattle.std.specs.Prelude.{◌≡◌, ◌≤◌, ◌<◌, length};
 ghost use Rattle.gps_outside.specs.declared.intake.IntakeStep.{IntakeStep};
 ghost use Rattle.gps_outside.specs.Counts.{Rose};
+ghost use Rattle.gps_outside.specs.Told.{Goes, Stays};
 ghost use Rattle.gps_outside.specs.Turns.{FitsRoom, GoesOn, Hands, Spends};
 
 use crate::{ReadStep, Source};
@@ -68,6 +69,7 @@ impl Intake {
         ensures faults_stay { S.faults source.old ≤ S.faults source.new }
         ensures quiets_stay { S.quiets source.old ≤ S.quiets source.new }
         ensures failed { result ≡ IntakeStep.Failed → Rose (S.faults source.old) (S.faults source.new) }
+        ensures kept { S.keeps_at_fault source.old → result ≡ IntakeStep.Failed → Goes Stays (S.content source.old) (S.content source.new) }
         ensures quiet { result ≡ IntakeStep.Quiet → Rose (S.quiets source.old) (S.quiets source.new) }
         ensures too_quiet { result ≡ IntakeStep.TooQuiet → Rose (S.quiets source.old) (S.quiets source.new) }
     {

@@ -98,6 +98,8 @@ impl Source for MemorySource {
 
     ghost content = { λ s. Some s.stream };
 
+    ghost keeps_at_fault = { λ _. Unit {0} };
+
     fn read(&mut self, buf: &mut [u8]) -> ReadStep
         requires { 0 < length buf.old }
         ensures fits { FitsBuffer result (length buf.old) }
@@ -106,6 +108,7 @@ impl Source for MemorySource {
         ensures quiets_stay { self.old.quiets ≤ self.new.quiets }
         ensures failed { result ≡ ReadStep.Failed → Rose self.old.faults self.new.faults }
         ensures quiet { result ≡ ReadStep.Quiet → Rose self.old.quiets self.new.quiets }
+        ensures kept { result ≡ ReadStep.Failed → self.new.stream ≡ self.old.stream }
         ensures answer { result ≡ answer_of self.old (length buf.old) }
         ensures after { self.new ≡ held_after result self.old }
     {

@@ -128,6 +128,8 @@ impl<R: Files<File = File> + Net<Stream = TcpStream> + Clock + Drop> Source for 
 
     ghost content = { λ _. None };
 
+    ghost keeps_at_fault = { λ _. Unit {0} };
+
     fn read(&mut self, buf: &mut [u8]) -> ReadStep {
         match self.inlet.read(&self.machine, buf) {
             Ok(0) => ReadStep::End,

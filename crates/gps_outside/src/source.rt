@@ -16,7 +16,7 @@ pub trait Source: Drop {
     ghost use Rattle.std.specs.Prelude.{◌≡◌, ℕ, ◌<◌, ◌≤◌, length, Option, IfSome, true};
     ghost use Rattle.gps_outside.specs.declared.source.ReadStep.{ReadStep};
     ghost use Rattle.gps_outside.specs.Counts.{Rose};
-    ghost use Rattle.gps_outside.specs.Told.{Stream, HasMore};
+    ghost use Rattle.gps_outside.specs.Told.{Stream, Goes, HasMore, Stays};
     ghost use Rattle.gps_outside.specs.Reads.{FitsBuffer, Reads};
 
     /// How often a read failed.
@@ -28,6 +28,9 @@ pub trait Source: Drop {
     /// The bytes taken so far and those left, where the source tells them.
     ghost content: { Self → Option Stream };
 
+    /// That a read which fails now loses nothing of what is left.
+    ghost keeps_at_fault: { Self → Type 0 } = { λ _. ⊥ };
+
     /// Takes the next bytes, as many as come at once and fit into the buffer.
     fn read(&mut self, buf: &mut [u8]) -> ReadStep
         requires { 0 < length buf.old }
@@ -36,10 +39,12 @@ pub trait Source: Drop {
         ensures faults_stay { faults self.old ≤ faults self.new }
         ensures quiets_stay { quiets self.old ≤ quiets self.new }
         ensures failed { result ≡ ReadStep.Failed → Rose (faults self.old) (faults self.new) }
-        ensures quiet { result ≡ ReadStep.Quiet → Rose (quiets self.old) (quiets self.new) };
+        ensures quiet { result ≡ ReadStep.Quiet → Rose (quiets self.old) (quiets self.new) }
+        ensures kept { keeps_at_fault self.old → result ≡ ReadStep.Failed → Goes Stays (content self.old) (content self.new) };
 
     /// Whether bytes stand ready, so that the next read gives some without waiting. False says nothing.
     fn is_ready(&self) -> bool
+        ensures kept { result ≡ true → keeps_at_fault self.now }
         ensures more { result ≡ true → IfSome (content self.now) HasMore }
     {
         false

@@ -6,27 +6,28 @@ use Rattle.std.proofs.lemmas.Grind.{common_steps}
 use Rattle.gps_fixed.specs.Moment.{Moment}
 use Rattle.gps_report.specs.declared.edge.Symbol.{Symbol}
 use Rattle.gps_report.specs.declared.report.Body.{Body}
-use Rattle.gps_outside.specs.Told.{Stream, Goes, Passes, Appends, AppendsPart}
+use Rattle.gps_outside.specs.Told.{Stream, Goes, Stays, Passes, Appends, AppendsPart}
+use Rattle.gps_outside.specs.Waiting.{Waits}
 use Rattle.gps_outside.specs.Ticks.{Dial, Gives, GivesAll}
 use Rattle.gps_outside.specs.Counts.{Rose}
 use Rattle.gps_outside.specs.Turns.{Budget, FitsRoom, Spends, Hands, HasTaken, TakesAll, TakesSome, PassesMore}
 use Rattle.gps_outside.specs.declared.intake.IntakeStep.TheVariants.{Piece, Quiet, Last, End, Failed, TooQuiet}
 use Rattle.gps_outside.proofs.Going.{goes_on}
 use Rattle.gps_outside.proofs.Dials.{gives_more}
-use Rattle.gps_outside.proofs.Writing.{appends_on, part_on, part_of, appends_none}
+use Rattle.gps_outside.proofs.Writing.{begun as nothing_waits, appends_on, part_of, part_longer, waits_more, waits_on, waits_part, waits_all, waits_none, none_waits, appends_none}
 use Rattle.gps_outside.proofs.Turns.{taken_none, taken_piece, taken_quiet, ends_at_end, ends_full, ends_failed, ends_too_quiet}
 use Rattle.device_core.specs.Stream.{piece}
 use Rattle.device_core.specs.Reports.{reports_from, device_reports, device_close, Gains}
 use Rattle.device_core.specs.Standing.{Kept, StandsFor}
 use Rattle.device_core.proofs.Streams.{reports-append}
 use Rattle.gpsrelay.specs.declared.outcome.Outcome.{Outcome}
-use Rattle.gpsrelay.specs.declared.outcome.Outcome.TheVariants.{Done, ReadFault, TooQuiet as QuietOutcome, Full, NoMemory}
+use Rattle.gpsrelay.specs.declared.outcome.Outcome.TheVariants.{Done, ReadFault, TooQuiet as QuietOutcome, WriteFault, Full, NoMemory}
 use Rattle.gpsrelay.specs.declared.outcome.Fault.{Fault}
 use Rattle.gpsrelay.specs.declared.outcome.Fault.TheVariants.{Sink, NoMemory as NoMemoryFault}
 use Rattle.gpsrelay.specs.Outcomes.{outcome_of}
 use Rattle.gpsrelay.specs.Readings.{ArePieces, IsPiece, PassHistory, Reading, bytes_of, stamps_of, stream_of}
 use Rattle.gpsrelay.specs.Texts.{Texts, texts_of, texts_so_far}
-use Rattle.gpsrelay.specs.Decode.{BrokeOff, Decoded, HandsOn, HasReadSoFar, Written}
+use Rattle.gpsrelay.specs.Decode.{BrokeOff, Decoded, GaveUp, HandsOn, HasReadSoFar, Written}
 
 -- one reading more
 abbrev pub with_next : List Reading → Moment → List ℕ → List Reading
@@ -88,14 +89,14 @@ module _ (says : Texts) where
   texts_next : (stream more : List Symbol) (out : List Body) → Gains stream more out → texts_so_far says (stream ++ more) ≡ texts_so_far says stream ++ texts_of says out
   texts_next stream more out gains = ap (texts_of says) gains ∙ texts_join (device_reports stream) out
 
-  -- So far these readings were handed on, the device stands for their stream, and its lines were written.
-  pub record UnderWay (history : ℕ) (budget : Budget) (kept : Kept) (source source' : Option Stream) (quiets quiets' : ℕ) (clock clock' : Option Dial) (sink sink' : Option (List ℕ)) : Type 0 where
+  -- So far these readings were handed on, the device stands for their stream, and its lines were written but for those that wait.
+  pub record UnderWay (history : ℕ) (budget : Budget) (kept : Kept) (source source' : Option Stream) (quiets quiets' : ℕ) (clock clock' : Option Dial) (waits : List ℕ) (sink sink' : Option (List ℕ)) : Type 0 where
     pub readings : List Reading
     pub pieces : ArePieces readings
     pub taken : HasTaken history (bytes_of readings) budget source source' quiets quiets'
     pub stamps : Goes (GivesAll (stamps_of readings)) clock clock'
     pub stands : StandsFor kept (stream_of readings)
-    pub wrote : Goes (Appends (texts_so_far says (stream_of readings))) sink sink'
+    pub wrote : Waits (texts_so_far says (stream_of readings)) waits sink sink'
 
   no_texts : texts_so_far says [] ≡ []
   unfolding reports_from
@@ -103,26 +104,26 @@ module _ (says : Texts) where
 
   pub begun : (history : ℕ) (budget : Budget) (kept : Kept) (source : Option Stream) (quiets : ℕ) (clock : Option Dial) (sink : Option (List ℕ))
       → budget ≡ record { room = history; quiets = 0 } → StandsFor kept []
-      → UnderWay history budget kept source source quiets quiets clock clock sink sink
+      → UnderWay history budget kept source source quiets quiets clock clock [] sink sink
   begun history budget kept source quiets clock sink new stands = record {
     readings = [];
     pieces = tt;
     taken = taken_none history budget source quiets new;
     stamps = no_stamps clock;
     stands = stands;
-    wrote = subst (λ l. Goes (Appends l) sink sink) (sym no_texts) (appends_none sink);
+    wrote = subst (λ l. Waits l [] sink sink) (sym no_texts) (nothing_waits [] sink);
   }
 
-  pub after_piece : (n history : ℕ) (buf : List ℕ) (budget budget' : Budget) (kept kept' : Kept) (at : Moment) (text : List ℕ)
-      (source now after : Option Stream) (quiets quiets' quiets'' : ℕ) (clock clock' clock'' : Option Dial) (sink sink' sink'' : Option (List ℕ))
-      → UnderWay history budget kept source now quiets quiets' clock clock' sink sink'
+  pub after_piece : (n history : ℕ) (buf : List ℕ) (budget budget' : Budget) (kept kept' : Kept) (at : Moment)
+      (source now after : Option Stream) (quiets quiets' quiets'' : ℕ) (clock clock' clock'' : Option Dial) (waits waits' : List ℕ) (sink sink' sink'' : Option (List ℕ))
+      → UnderWay history budget kept source now quiets quiets' clock clock' waits sink sink'
       → length buf ≡ 512 → FitsRoom (Piece n) (length buf) → Spends (Piece n) budget budget' → Hands (Piece n) buf now after → quiets' ≤ quiets''
       → Goes (Gives at) clock' clock''
-      → ((stream : List Symbol) → StandsFor kept stream → HandsOn {X = List ℕ} says (Ok text) stream (piece at (take n buf)) kept' sink' sink'')
-      → UnderWay history budget' kept' source after quiets quiets'' clock clock'' sink sink''
-  after_piece n history buf budget budget' kept kept' at text source now after quiets quiets' quiets'' clock clock' clock'' sink sink' sink'' u long fits spent handed more given lines =
+      → ((stream : List Symbol) → StandsFor kept stream → HandsOn {X = Unit {0}} says (Ok tt) stream (piece at (take n buf)) kept' waits waits' sink' sink'')
+      → UnderWay history budget' kept' source after quiets quiets'' clock clock'' waits' sink sink''
+  after_piece n history buf budget budget' kept kept' at source now after quiets quiets' quiets'' clock clock' clock'' waits waits' sink sink' sink'' u long fits spent handed more given lines =
       let s : List Symbol = stream_of u.readings in
-      let h : HandsOn {X = List ℕ} says (Ok text) s (piece at (take n buf)) kept' sink' sink'' = lines s u.stands in
+      let h : HandsOn {X = Unit {0}} says (Ok tt) s (piece at (take n buf)) kept' waits waits' sink' sink'' = lines s u.stands in
       record {
         readings = with_next u.readings at (take n buf);
         pieces = pieces_next u.readings (record { at = at; bytes = take n buf }) u.pieces (is_piece n buf at fits long);
@@ -130,17 +131,18 @@ module _ (says : Texts) where
             (taken_piece n history (bytes_of u.readings) buf budget budget' source now after quiets quiets' quiets'' u.taken fits spent handed more);
         stamps = stamps_on u.readings at (take n buf) clock clock' clock'' u.stamps given;
         stands = subst (λ t. StandsFor kept' t) (sym (stream_next u.readings at (take n buf))) h.0;
-        wrote = subst (λ t. Goes (Appends (texts_so_far says t)) sink sink'') (sym (stream_next u.readings at (take n buf)))
-            (subst (λ l. Goes (Appends l) sink sink'') (sym (texts_next s (piece at (take n buf)) h.1.0 h.1.1.0))
-            (appends_on (texts_so_far says s) (texts_of says h.1.0) sink sink' sink'' u.wrote h.1.1.1));
+        wrote = subst (λ t. Waits (texts_so_far says t) waits' sink sink'') (sym (stream_next u.readings at (take n buf)))
+            (subst (λ l. Waits l waits' sink sink'') (sym (texts_next s (piece at (take n buf)) h.1.0 h.1.1.0))
+            (waits_on (texts_so_far says s ++ texts_of says h.1.0) (waits ++ texts_of says h.1.0) waits' sink sink' sink''
+            (waits_more (texts_so_far says s) waits (texts_of says h.1.0) sink sink' u.wrote) h.1.1.1));
       }
 
   pub after_quiet : (history : ℕ) (buf : List ℕ) (budget budget' : Budget) (kept : Kept)
-      (source now after : Option Stream) (quiets quiets' quiets'' : ℕ) (clock clock' : Option Dial) (sink sink' : Option (List ℕ))
-      → UnderWay history budget kept source now quiets quiets' clock clock' sink sink'
+      (source now after : Option Stream) (quiets quiets' quiets'' : ℕ) (clock clock' : Option Dial) (waits : List ℕ) (sink sink' : Option (List ℕ))
+      → UnderWay history budget kept source now quiets quiets' clock clock' waits sink sink'
       → Spends Quiet budget budget' → Hands Quiet buf now after → Rose quiets' quiets''
-      → UnderWay history budget' kept source after quiets quiets'' clock clock' sink sink'
-  after_quiet history buf budget budget' kept source now after quiets quiets' quiets'' clock clock' sink sink' u spent handed rose = record {
+      → UnderWay history budget' kept source after quiets quiets'' clock clock' waits sink sink'
+  after_quiet history buf budget budget' kept source now after quiets quiets' quiets'' clock clock' waits sink sink' u spent handed rose = record {
     readings = u.readings;
     pieces = u.pieces;
     taken = taken_quiet history (bytes_of u.readings) buf budget budget' source now after quiets quiets' quiets'' u.taken spent handed rose;
@@ -150,93 +152,94 @@ module _ (says : Texts) where
   }
 
   -- where a fault ends the writing: the lines that were due have the written part at their beginning
-  broken_texts : (fault : Fault) (s more : List Symbol) (kept : Kept) (sink sink' sink'' : Option (List ℕ))
-      → Goes (Appends (texts_so_far says s)) sink sink' → HandsOn {X = List ℕ} says (Err fault) s more kept sink' sink''
+  broken_texts : (fault : Fault) (s more : List Symbol) (kept : Kept) (waits waits' : List ℕ) (sink sink' sink'' : Option (List ℕ))
+      → Waits (texts_so_far says s) waits sink sink' → HandsOn {X = Unit {0}} says (Err fault) s more kept waits waits' sink' sink''
       → Goes (AppendsPart (texts_so_far says (s ++ more))) sink sink''
-  broken_texts Sink s more kept sink sink' sink'' wrote h =
+  broken_texts Sink s more kept waits waits' sink sink' sink'' wrote h =
       subst (λ l. Goes (AppendsPart l) sink sink'') (sym (texts_next s more h.0 h.1.0))
-      (part_on (texts_so_far says s) (texts_of says h.0) sink sink' sink'' wrote h.1.1)
-  broken_texts NoMemoryFault s more kept sink sink' sink'' wrote h =
+      (waits_part (texts_so_far says s ++ texts_of says h.0) (waits ++ texts_of says h.0) sink sink' sink''
+      (waits_more (texts_so_far says s) waits (texts_of says h.0) sink sink' wrote) h.1.1)
+  broken_texts NoMemoryFault s more kept waits waits' sink sink' sink'' wrote h =
       subst (λ l. Goes (AppendsPart l) sink sink'') (sym (texts_next s more (reports_from s more) (reports-append [] s more)))
-      (part_of (texts_so_far says s) (texts_of says (reports_from s more)) sink sink'' (subst (λ k. Goes (Appends (texts_so_far says s)) sink k) h wrote))
+      (part_of (texts_so_far says s) (texts_of says (reports_from s more)) sink sink'' (waits_all (texts_so_far says s) waits sink sink' sink'' wrote h))
 
   broken_so_far : (fault : Fault) (history : ℕ) (readings : List Reading) (at : Moment) (bytes : List ℕ) (kept : Kept)
-      (source after : Option Stream) (sink sink' sink'' : Option (List ℕ))
+      (source after : Option Stream) (waits waits' : List ℕ) (sink sink' sink'' : Option (List ℕ))
       → HasReadSoFar history (bytes_of readings ++ bytes) source after
-      → Goes (Appends (texts_so_far says (stream_of readings))) sink sink'
-      → HandsOn {X = List ℕ} says (Err fault) (stream_of readings) (piece at bytes) kept sink' sink''
+      → Waits (texts_so_far says (stream_of readings)) waits sink sink'
+      → HandsOn {X = Unit {0}} says (Err fault) (stream_of readings) (piece at bytes) kept waits waits' sink' sink''
       → BrokeOff says history (with_next readings at bytes) source after sink sink''
-  broken_so_far fault history readings at bytes kept source after sink sink' sink'' read wrote h =
+  broken_so_far fault history readings at bytes kept source after waits waits' sink sink' sink'' read wrote h =
       inl (
         subst (λ b. HasReadSoFar history b source after) (sym (bytes_next readings at bytes)) read,
         subst (λ t. Goes (AppendsPart (texts_so_far says t)) sink sink'') (sym (stream_next readings at bytes))
-            (broken_texts fault (stream_of readings) (piece at bytes) kept sink sink' sink'' wrote h),
+            (broken_texts fault (stream_of readings) (piece at bytes) kept waits waits' sink sink' sink'' wrote h),
       )
 
   -- a command that was broken off by a fault, with the readings up to it
   broken_off : (fault : Fault) (history : ℕ) (readings : List Reading) (at : Moment) (bytes : List ℕ) (kept : Kept)
-      (source after : Option Stream) (clock clock' clock'' : Option Dial) (sink sink' sink'' : Option (List ℕ))
+      (source after : Option Stream) (clock clock' clock'' : Option Dial) (waits waits' : List ℕ) (sink sink' sink'' : Option (List ℕ))
       → ArePieces (with_next readings at bytes) ⊎ PassHistory (with_next readings at bytes)
       → HasReadSoFar history (bytes_of readings ++ bytes) source after
       → Goes (GivesAll (stamps_of readings)) clock clock' → Goes (Gives at) clock' clock''
-      → Goes (Appends (texts_so_far says (stream_of readings))) sink sink'
-      → HandsOn {X = List ℕ} says (Err fault) (stream_of readings) (piece at bytes) kept sink' sink''
+      → Waits (texts_so_far says (stream_of readings)) waits sink sink'
+      → HandsOn {X = Unit {0}} says (Err fault) (stream_of readings) (piece at bytes) kept waits waits' sink' sink''
       → Decoded says (outcome_of fault) history source after clock clock'' sink sink''
-  broken_off Sink history readings at bytes kept source after clock clock' clock'' sink sink' sink'' reads read all given wrote h = record {
+  broken_off Sink history readings at bytes kept source after clock clock' clock'' waits waits' sink sink' sink'' reads read all given wrote h = record {
     readings = with_next readings at bytes;
     reads = reads;
     stamps = stamps_on readings at bytes clock clock' clock'' all given;
-    ends = broken_so_far Sink history readings at bytes kept source after sink sink' sink'' read wrote h;
+    ends = broken_so_far Sink history readings at bytes kept source after waits waits' sink sink' sink'' read wrote h;
   }
-  broken_off NoMemoryFault history readings at bytes kept source after clock clock' clock'' sink sink' sink'' reads read all given wrote h = record {
+  broken_off NoMemoryFault history readings at bytes kept source after clock clock' clock'' waits waits' sink sink' sink'' reads read all given wrote h = record {
     readings = with_next readings at bytes;
     reads = reads;
     stamps = stamps_on readings at bytes clock clock' clock'' all given;
-    ends = broken_so_far NoMemoryFault history readings at bytes kept source after sink sink' sink'' read wrote h;
+    ends = broken_so_far NoMemoryFault history readings at bytes kept source after waits waits' sink sink' sink'' read wrote h;
   }
 
   pub broken_in_piece : (n history : ℕ) (buf : List ℕ) (budget budget' : Budget) (kept kept' : Kept) (at : Moment) (fault : Fault)
-      (source now after : Option Stream) (quiets quiets' quiets'' : ℕ) (clock clock' clock'' : Option Dial) (sink sink' sink'' : Option (List ℕ))
-      → UnderWay history budget kept source now quiets quiets' clock clock' sink sink'
+      (source now after : Option Stream) (quiets quiets' quiets'' : ℕ) (clock clock' clock'' : Option Dial) (waits waits' : List ℕ) (sink sink' sink'' : Option (List ℕ))
+      → UnderWay history budget kept source now quiets quiets' clock clock' waits sink sink'
       → length buf ≡ 512 → FitsRoom (Piece n) (length buf) → Spends (Piece n) budget budget' → Hands (Piece n) buf now after → quiets' ≤ quiets''
       → Goes (Gives at) clock' clock''
-      → ((stream : List Symbol) → StandsFor kept stream → HandsOn {X = List ℕ} says (Err fault) stream (piece at (take n buf)) kept' sink' sink'')
+      → ((stream : List Symbol) → StandsFor kept stream → HandsOn {X = Unit {0}} says (Err fault) stream (piece at (take n buf)) kept' waits waits' sink' sink'')
       → (outcome : Outcome) → outcome ≡ outcome_of fault
       → Decoded says outcome history source after clock clock'' sink sink''
-  broken_in_piece n history buf budget budget' kept kept' at fault source now after quiets quiets' quiets'' clock clock' clock'' sink sink' sink'' u long fits spent handed more given lines outcome is =
+  broken_in_piece n history buf budget budget' kept kept' at fault source now after quiets quiets' quiets'' clock clock' clock'' waits waits' sink sink' sink'' u long fits spent handed more given lines outcome is =
       let all : HasTaken history (bytes_of u.readings ++ take n buf) budget' source after quiets quiets'' =
       taken_piece n history (bytes_of u.readings) buf budget budget' source now after quiets quiets' quiets'' u.taken fits spent handed more in
-      subst (λ o. Decoded says o history source after clock clock'' sink sink'') (sym is) (broken_off fault history u.readings at (take n buf) kept' source after clock clock' clock'' sink sink' sink''
+      subst (λ o. Decoded says o history source after clock clock'' sink sink'') (sym is) (broken_off fault history u.readings at (take n buf) kept' source after clock clock' clock'' waits waits' sink sink' sink''
       (inl (pieces_next u.readings (record { at = at; bytes = take n buf }) u.pieces (is_piece n buf at fits long)))
       (inl (let r = all.room in omega arith, all.passed))
       u.stamps given u.wrote (lines (stream_of u.readings) u.stands))
 
   pub broken_in_last : (n history : ℕ) (buf : List ℕ) (budget budget' : Budget) (kept kept' : Kept) (at : Moment) (fault : Fault)
-      (source now after : Option Stream) (quiets quiets' : ℕ) (clock clock' clock'' : Option Dial) (sink sink' sink'' : Option (List ℕ))
-      → UnderWay history budget kept source now quiets quiets' clock clock' sink sink'
+      (source now after : Option Stream) (quiets quiets' : ℕ) (clock clock' clock'' : Option Dial) (waits waits' : List ℕ) (sink sink' sink'' : Option (List ℕ))
+      → UnderWay history budget kept source now quiets quiets' clock clock' waits sink sink'
       → length buf ≡ 512 → FitsRoom (Last n) (length buf) → Spends (Last n) budget budget' → Hands (Last n) buf now after
       → Goes (Gives at) clock' clock''
-      → ((stream : List Symbol) → StandsFor kept stream → HandsOn {X = List ℕ} says (Err fault) stream (piece at (take n buf)) kept' sink' sink'')
+      → ((stream : List Symbol) → StandsFor kept stream → HandsOn {X = Unit {0}} says (Err fault) stream (piece at (take n buf)) kept' waits waits' sink' sink'')
       → (outcome : Outcome) → outcome ≡ outcome_of fault
       → Decoded says outcome history source after clock clock'' sink sink''
-  broken_in_last n history buf budget budget' kept kept' at fault source now after quiets quiets' clock clock' clock'' sink sink' sink'' u long fits spent handed given lines outcome is =
+  broken_in_last n history buf budget budget' kept kept' at fault source now after quiets quiets' clock clock' clock'' waits waits' sink sink' sink'' u long fits spent handed given lines outcome is =
       let all : (length (bytes_of u.readings ++ take n buf) ≡ history) × Goes (PassesMore (bytes_of u.readings ++ take n buf)) source after =
       ends_full n history (bytes_of u.readings) buf budget budget' source now after quiets quiets' u.taken fits spent handed in
-      subst (λ o. Decoded says o history source after clock clock'' sink sink'') (sym is) (broken_off fault history u.readings at (take n buf) kept' source after clock clock' clock'' sink sink' sink''
+      subst (λ o. Decoded says o history source after clock clock'' sink sink'') (sym is) (broken_off fault history u.readings at (take n buf) kept' source after clock clock' clock'' waits waits' sink sink' sink''
       (inr (passes_history n u.readings at buf u.pieces fits long))
       (inr all)
       u.stamps given u.wrote (lines (stream_of u.readings) u.stands))
 
-  pub filled : (n history : ℕ) (buf : List ℕ) (budget budget' : Budget) (kept kept' : Kept) (at : Moment) (text : List ℕ)
-      (source now after : Option Stream) (quiets quiets' : ℕ) (clock clock' clock'' : Option Dial) (sink sink' sink'' : Option (List ℕ))
-      → UnderWay history budget kept source now quiets quiets' clock clock' sink sink'
+  pub filled : (n history : ℕ) (buf : List ℕ) (budget budget' : Budget) (kept kept' : Kept) (at : Moment)
+      (source now after : Option Stream) (quiets quiets' : ℕ) (clock clock' clock'' : Option Dial) (waits : List ℕ) (sink sink' sink'' : Option (List ℕ))
+      → UnderWay history budget kept source now quiets quiets' clock clock' waits sink sink'
       → length buf ≡ 512 → FitsRoom (Last n) (length buf) → Spends (Last n) budget budget' → Hands (Last n) buf now after
       → Goes (Gives at) clock' clock''
-      → ((stream : List Symbol) → StandsFor kept stream → HandsOn {X = List ℕ} says (Ok text) stream (piece at (take n buf)) kept' sink' sink'')
+      → ((stream : List Symbol) → StandsFor kept stream → HandsOn {X = Unit {0}} says (Ok tt) stream (piece at (take n buf)) kept' waits [] sink' sink'')
       → Decoded says Full history source after clock clock'' sink sink''
-  filled n history buf budget budget' kept kept' at text source now after quiets quiets' clock clock' clock'' sink sink' sink'' u long fits spent handed given lines =
+  filled n history buf budget budget' kept kept' at source now after quiets quiets' clock clock' clock'' waits sink sink' sink'' u long fits spent handed given lines =
       let s : List Symbol = stream_of u.readings in
-      let h : HandsOn {X = List ℕ} says (Ok text) s (piece at (take n buf)) kept' sink' sink'' = lines s u.stands in
+      let h : HandsOn {X = Unit {0}} says (Ok tt) s (piece at (take n buf)) kept' waits [] sink' sink'' = lines s u.stands in
       let next : List Reading = with_next u.readings at (take n buf) in
       let read : (length (bytes_of next) ≡ history) × Goes (PassesMore (bytes_of next)) source after =
       subst (λ b. (length b ≡ history) × Goes (PassesMore b) source after) (sym (bytes_next u.readings at (take n buf)))
@@ -250,17 +253,19 @@ module _ (says : Texts) where
           read.1,
           subst (λ t. Goes (Appends (texts_so_far says t)) sink sink'') (sym (stream_next u.readings at (take n buf)))
               (subst (λ l. Goes (Appends l) sink sink'') (sym (texts_next s (piece at (take n buf)) h.1.0 h.1.1.0))
-              (appends_on (texts_so_far says s) (texts_of says h.1.0) sink sink' sink'' u.wrote h.1.1.1)),
+              (none_waits (texts_so_far says s ++ texts_of says h.1.0) [] sink sink'' refl
+              (waits_on (texts_so_far says s ++ texts_of says h.1.0) (waits ++ texts_of says h.1.0) [] sink sink' sink''
+              (waits_more (texts_so_far says s) waits (texts_of says h.1.0) sink sink' u.wrote) h.1.1.1))),
         );
       }
 
-  pub ended : (history : ℕ) (buf : List ℕ) (budget : Budget) (kept : Kept) (text : List ℕ)
-      (source now after : Option Stream) (quiets quiets' : ℕ) (clock clock' : Option Dial) (sink sink' sink'' : Option (List ℕ))
-      → UnderWay history budget kept source now quiets quiets' clock clock' sink sink'
+  pub ended : (history : ℕ) (buf : List ℕ) (budget : Budget) (kept : Kept)
+      (source now after : Option Stream) (quiets quiets' : ℕ) (clock clock' : Option Dial) (waits : List ℕ) (sink sink' sink'' : Option (List ℕ))
+      → UnderWay history budget kept source now quiets quiets' clock clock' waits sink sink'
       → Hands End buf now after
-      → ((stream : List Symbol) → StandsFor kept stream → Written {X = List ℕ} (Ok text) (texts_of says (device_close stream)) sink' sink'')
+      → ((stream : List Symbol) → StandsFor kept stream → Written {X = Unit {0}} (Ok tt) (texts_of says (device_close stream)) waits [] sink' sink'')
       → Decoded says Done history source after clock clock' sink sink''
-  ended history buf budget kept text source now after quiets quiets' clock clock' sink sink' sink'' u handed lines =
+  ended history buf budget kept source now after quiets quiets' clock clock' waits sink sink' sink'' u handed lines =
       let read : (length (bytes_of u.readings) ≤ history) × Goes (TakesAll (bytes_of u.readings)) source after =
       ends_at_end history (bytes_of u.readings) buf budget source now after quiets quiets' u.taken handed in
       record {
@@ -270,18 +275,19 @@ module _ (says : Texts) where
         ends = (
           read.0,
           read.1,
-          appends_on (texts_so_far says (stream_of u.readings)) (texts_of says (device_close (stream_of u.readings))) sink sink' sink'' u.wrote
-              (lines (stream_of u.readings) u.stands),
+          none_waits (texts_so_far says (stream_of u.readings) ++ texts_of says (device_close (stream_of u.readings))) [] sink sink'' refl
+              (waits_on (texts_so_far says (stream_of u.readings) ++ texts_of says (device_close (stream_of u.readings))) (waits ++ texts_of says (device_close (stream_of u.readings))) [] sink sink' sink''
+              (waits_more (texts_so_far says (stream_of u.readings)) waits (texts_of says (device_close (stream_of u.readings))) sink sink' u.wrote) (lines (stream_of u.readings) u.stands)),
         );
       }
 
   at_end_broken : (history : ℕ) (buf : List ℕ) (budget : Budget) (kept : Kept) (fault : Fault)
-      (source now after : Option Stream) (quiets quiets' : ℕ) (clock clock' : Option Dial) (sink sink' sink'' : Option (List ℕ))
-      → UnderWay history budget kept source now quiets quiets' clock clock' sink sink'
+      (source now after : Option Stream) (quiets quiets' : ℕ) (clock clock' : Option Dial) (waits : List ℕ) (sink sink' sink'' : Option (List ℕ))
+      → UnderWay history budget kept source now quiets quiets' clock clock' waits sink sink'
       → Hands End buf now after
-      → ((stream : List Symbol) → StandsFor kept stream → Written {X = List ℕ} (Err fault) (texts_of says (device_close stream)) sink' sink'')
+      → ((stream : List Symbol) → StandsFor kept stream → Written {X = Unit {0}} (Err fault) (texts_of says (device_close stream)) waits [] sink' sink'')
       → Decoded says (outcome_of fault) history source after clock clock' sink sink''
-  at_end_broken history buf budget kept Sink source now after quiets quiets' clock clock' sink sink' sink'' u handed lines =
+  at_end_broken history buf budget kept Sink source now after quiets quiets' clock clock' waits sink sink' sink'' u handed lines =
       let read : (length (bytes_of u.readings) ≤ history) × Goes (TakesAll (bytes_of u.readings)) source after =
       ends_at_end history (bytes_of u.readings) buf budget source now after quiets quiets' u.taken handed in
       record {
@@ -291,11 +297,11 @@ module _ (says : Texts) where
         ends = inr (
           read.0,
           read.1,
-          part_on (texts_so_far says (stream_of u.readings)) (texts_of says (device_close (stream_of u.readings))) sink sink' sink'' u.wrote
-              (lines (stream_of u.readings) u.stands),
+          waits_part (texts_so_far says (stream_of u.readings) ++ texts_of says (device_close (stream_of u.readings))) (waits ++ texts_of says (device_close (stream_of u.readings))) sink sink' sink''
+              (waits_more (texts_so_far says (stream_of u.readings)) waits (texts_of says (device_close (stream_of u.readings))) sink sink' u.wrote) (lines (stream_of u.readings) u.stands),
         );
       }
-  at_end_broken history buf budget kept NoMemoryFault source now after quiets quiets' clock clock' sink sink' sink'' u handed lines =
+  at_end_broken history buf budget kept NoMemoryFault source now after quiets quiets' clock clock' waits sink sink' sink'' u handed lines =
       let read : (length (bytes_of u.readings) ≤ history) × Goes (TakesAll (bytes_of u.readings)) source after =
       ends_at_end history (bytes_of u.readings) buf budget source now after quiets quiets' u.taken handed in
       record {
@@ -306,40 +312,85 @@ module _ (says : Texts) where
           read.0,
           read.1,
           part_of (texts_so_far says (stream_of u.readings)) (texts_of says (device_close (stream_of u.readings))) sink sink''
-              (subst (λ k. Goes (Appends (texts_so_far says (stream_of u.readings))) sink k) (lines (stream_of u.readings) u.stands) u.wrote),
+              (waits_all (texts_so_far says (stream_of u.readings)) waits sink sink' sink'' u.wrote (lines (stream_of u.readings) u.stands)),
         );
       }
 
   pub broken_at_end : (history : ℕ) (buf : List ℕ) (budget : Budget) (kept : Kept) (fault : Fault)
-      (source now after : Option Stream) (quiets quiets' : ℕ) (clock clock' : Option Dial) (sink sink' sink'' : Option (List ℕ))
-      → UnderWay history budget kept source now quiets quiets' clock clock' sink sink'
+      (source now after : Option Stream) (quiets quiets' : ℕ) (clock clock' : Option Dial) (waits : List ℕ) (sink sink' sink'' : Option (List ℕ))
+      → UnderWay history budget kept source now quiets quiets' clock clock' waits sink sink'
       → Hands End buf now after
-      → ((stream : List Symbol) → StandsFor kept stream → Written {X = List ℕ} (Err fault) (texts_of says (device_close stream)) sink' sink'')
+      → ((stream : List Symbol) → StandsFor kept stream → Written {X = Unit {0}} (Err fault) (texts_of says (device_close stream)) waits [] sink' sink'')
       → (outcome : Outcome) → outcome ≡ outcome_of fault
       → Decoded says outcome history source after clock clock' sink sink''
-  broken_at_end history buf budget kept fault source now after quiets quiets' clock clock' sink sink' sink'' u handed lines outcome is =
+  broken_at_end history buf budget kept fault source now after quiets quiets' clock clock' waits sink sink' sink'' u handed lines outcome is =
       subst (λ o. Decoded says o history source after clock clock' sink sink'') (sym is)
-      (at_end_broken history buf budget kept fault source now after quiets quiets' clock clock' sink sink' sink'' u handed lines)
+      (at_end_broken history buf budget kept fault source now after quiets quiets' clock clock' waits sink sink' sink'' u handed lines)
 
   pub failed : (history : ℕ) (buf : List ℕ) (budget : Budget) (kept : Kept)
-      (source now after : Option Stream) (quiets quiets' : ℕ) (clock clock' : Option Dial) (sink sink' : Option (List ℕ))
-      → UnderWay history budget kept source now quiets quiets' clock clock' sink sink'
+      (source now after : Option Stream) (quiets quiets' : ℕ) (clock clock' : Option Dial) (waits : List ℕ) (sink sink' sink'' : Option (List ℕ))
+      → UnderWay history budget kept source now quiets quiets' clock clock' waits sink sink'
       → Hands Failed buf now after
-      → Decoded says ReadFault history source after clock clock' sink sink'
-  failed history buf budget kept source now after quiets quiets' clock clock' sink sink' u handed =
+      → Goes (Appends waits) sink' sink''
+      → Decoded says ReadFault history source after clock clock' sink sink''
+  failed history buf budget kept source now after quiets quiets' clock clock' waits sink sink' sink'' u handed flushed =
       let read : (length (bytes_of u.readings) ≤ history) × Goes (TakesSome (bytes_of u.readings)) source after =
       ends_failed history (bytes_of u.readings) buf budget source now after quiets quiets' u.taken handed in
-      record { readings = u.readings; reads = u.pieces; stamps = u.stamps; ends = (read.0, read.1, u.wrote) }
+      record { readings = u.readings; reads = u.pieces; stamps = u.stamps; ends = (read.0, read.1, waits_all (texts_so_far says (stream_of u.readings)) waits sink sink' sink'' u.wrote flushed) }
 
   pub too_quiet : (history : ℕ) (buf : List ℕ) (budget : Budget) (kept : Kept)
-      (source now after : Option Stream) (quiets quiets' : ℕ) (clock clock' : Option Dial) (sink sink' : Option (List ℕ))
-      → UnderWay history budget kept source now quiets quiets' clock clock' sink sink'
+      (source now after : Option Stream) (quiets quiets' : ℕ) (clock clock' : Option Dial) (waits : List ℕ) (sink sink' sink'' : Option (List ℕ))
+      → UnderWay history budget kept source now quiets quiets' clock clock' waits sink sink'
       → Hands TooQuiet buf now after
-      → Decoded says QuietOutcome history source after clock clock' sink sink'
-  too_quiet history buf budget kept source now after quiets quiets' clock clock' sink sink' u handed =
+      → Goes (Appends waits) sink' sink''
+      → Decoded says QuietOutcome history source after clock clock' sink sink''
+  too_quiet history buf budget kept source now after quiets quiets' clock clock' waits sink sink' sink'' u handed flushed =
       let all : (length (bytes_of u.readings) ≤ history) × Goes (Passes (bytes_of u.readings)) source after =
       ends_too_quiet history (bytes_of u.readings) buf budget source now after quiets quiets' u.taken handed in
-      record { readings = u.readings; reads = u.pieces; stamps = u.stamps; ends = (all.0, all.1, u.wrote) }
+      record { readings = u.readings; reads = u.pieces; stamps = u.stamps; ends = (all.0, all.1, waits_all (texts_so_far says (stream_of u.readings)) waits sink sink' sink'' u.wrote flushed) }
+
+  -- the sink failed before the next read
+  pub unsettled : (history : ℕ) (budget : Budget) (kept : Kept)
+      (source now : Option Stream) (quiets quiets' : ℕ) (clock clock' : Option Dial) (waits : List ℕ) (sink sink' sink'' : Option (List ℕ))
+      → UnderWay history budget kept source now quiets quiets' clock clock' waits sink sink'
+      → Goes (AppendsPart waits) sink' sink''
+      → Decoded says WriteFault history source now clock clock' sink sink''
+  unsettled history budget kept source now quiets quiets' clock clock' waits sink sink' sink'' u part = record {
+    readings = u.readings;
+    reads = inl u.pieces;
+    stamps = u.stamps;
+    ends = inl (
+      inl (let r = u.taken.room in omega arith, u.taken.passed),
+      waits_part (texts_so_far says (stream_of u.readings)) waits sink sink' sink'' u.wrote part,
+    );
+  }
+
+  -- what waited was written before the next read, or goes on waiting
+  pub settled : (history : ℕ) (budget : Budget) (kept : Kept)
+      (source now : Option Stream) (quiets quiets' : ℕ) (clock clock' : Option Dial) (waits waits' : List ℕ) (sink sink' sink'' : Option (List ℕ))
+      → UnderWay history budget kept source now quiets quiets' clock clock' waits sink sink'
+      → Waits waits waits' sink' sink''
+      → UnderWay history budget kept source now quiets quiets' clock clock' waits' sink sink''
+  settled history budget kept source now quiets quiets' clock clock' waits waits' sink sink' sink'' u wrote = record u {
+    wrote = waits_on (texts_so_far says (stream_of u.readings)) waits waits' sink sink' sink'' u.wrote wrote
+  }
+
+  -- the sink failed after a read that brought nothing and lost nothing
+  pub unwritten : (history : ℕ) (buf : List ℕ) (budget : Budget) (kept : Kept)
+      (source now after : Option Stream) (quiets quiets' : ℕ) (clock clock' : Option Dial) (waits : List ℕ) (sink sink' sink'' : Option (List ℕ))
+      → UnderWay history budget kept source now quiets quiets' clock clock' waits sink sink'
+      → Goes Stays now after
+      → Goes (AppendsPart waits) sink' sink''
+      → Decoded says WriteFault history source after clock clock' sink sink''
+  unwritten history buf budget kept source now after quiets quiets' clock clock' waits sink sink' sink'' u same part =
+      let all : (length (bytes_of u.readings) ≤ history) × Goes (Passes (bytes_of u.readings)) source after =
+      ends_too_quiet history (bytes_of u.readings) buf budget source now after quiets quiets' u.taken same in
+      record {
+        readings = u.readings;
+        reads = inl u.pieces;
+        stamps = u.stamps;
+        ends = inl (inl (all.0, all.1), waits_part (texts_so_far says (stream_of u.readings)) waits sink sink' sink'' u.wrote part);
+      }
 
   -- want of memory before the first read
   pub nothing_done : (history : ℕ) (source : Option Stream) (clock : Option Dial) (sink : Option (List ℕ))
@@ -355,10 +406,45 @@ module _ (says : Texts) where
     );
   }
 
-  -- what the device gained was written
-  pub handed_on : (result : Result (List ℕ) Fault) (gained : List Body) (stream more : List Symbol) (kept : Kept) (before after : Option (List ℕ))
-      → StandsFor kept (stream ++ more) → Gains stream more gained → Written result (texts_of says gained) before after
-      → HandsOn says result stream more kept before after
-  handed_on (Ok text) gained stream more kept before after stands gains wrote = (stands, (gained, (gains, wrote)))
-  handed_on (Err Sink) gained stream more kept before after stands gains wrote = (gained, (gains, wrote))
-  handed_on (Err NoMemoryFault) gained stream more kept before after stands gains wrote = wrote
+  -- what the device gained was written or waits
+  pub handed_on : (result : Result (Unit {0}) Fault) (gained : List Body) (stream more : List Symbol) (kept : Kept) (waited waits : List ℕ) (before after : Option (List ℕ))
+      → StandsFor kept (stream ++ more) → Gains stream more gained → Written result (texts_of says gained) waited waits before after
+      → HandsOn says result stream more kept waited waits before after
+  handed_on (Ok _) gained stream more kept waited waits before after stands gains wrote = (stands, (gained, (gains, wrote)))
+  handed_on (Err Sink) gained stream more kept waited waits before after stands gains wrote = (gained, (gains, wrote))
+  handed_on (Err NoMemoryFault) gained stream more kept waited waits before after stands gains wrote = wrote
+
+  -- there was no memory for what the device gained
+  pub fed_none : (fault : Fault) (stream more : List Symbol) (kept : Kept) (waited waits : List ℕ) (before after : Option (List ℕ))
+      → GaveUp fault waited before after → HandsOn {X = Unit {0}} says (Err fault) stream more kept waited waits before after
+  fed_none Sink stream more kept waited waits before after gave =
+      (reports_from stream more, (reports-append [] stream more, part_longer waited (texts_of says (reports_from stream more)) before after gave))
+  fed_none NoMemoryFault stream more kept waited waits before after gave = gave
+
+  -- and at the last nothing waits
+  pub flushed : (stream more : List Symbol) (kept : Kept) (waited waits : List ℕ) (before now after : Option (List ℕ))
+      → HandsOn {X = Unit {0}} says (Ok tt) stream more kept waited waits before now → Goes (Appends waits) now after
+      → HandsOn {X = Unit {0}} says (Ok tt) stream more kept waited [] before after
+  flushed stream more kept waited waits before now after h wrote =
+      (h.0, (h.1.0, (h.1.1.0, waits_none (waited ++ texts_of says h.1.0) before after (waits_all (waited ++ texts_of says h.1.0) waits before now after h.1.1.1 wrote))))
+
+  pub flushed_part : (stream more : List Symbol) (kept : Kept) (waited waits : List ℕ) (before now after : Option (List ℕ))
+      → HandsOn {X = Unit {0}} says (Ok tt) stream more kept waited waits before now → Goes (AppendsPart waits) now after
+      → HandsOn {X = Unit {0}} says (Err Sink) stream more kept waited [] before after
+  flushed_part stream more kept waited waits before now after h part =
+      (h.1.0, (h.1.1.0, waits_part (waited ++ texts_of says h.1.0) waits before now after h.1.1.1 part))
+
+-- the lines of the last epoch, behind what waited, and nothing waits
+pub closed : (lines waited waits : List ℕ) (before now after : Option (List ℕ))
+    → Waits (waited ++ lines) waits before now → Goes (Appends waits) now after → Waits (waited ++ lines) [] before after
+closed lines waited waits before now after first wrote =
+    waits_none (waited ++ lines) before after (waits_all (waited ++ lines) waits before now after first wrote)
+
+pub closed_part : (lines waited waits : List ℕ) (before now after : Option (List ℕ))
+    → Waits (waited ++ lines) waits before now → Goes (AppendsPart waits) now after → Goes (AppendsPart (waited ++ lines)) before after
+closed_part lines waited waits before now after first part = waits_part (waited ++ lines) waits before now after first part
+
+pub closed_none : (fault : Fault) (lines waited waits : List ℕ) (before after : Option (List ℕ))
+    → GaveUp fault waited before after → Written {X = Unit {0}} (Err fault) lines waited waits before after
+closed_none Sink lines waited waits before after gave = part_longer waited lines before after gave
+closed_none NoMemoryFault lines waited waits before after gave = gave

@@ -5,6 +5,7 @@ use Rattle.gps_report.specs.declared.edge.Symbol.{Symbol}
 use Rattle.gps_report.specs.declared.report.Body.{Body}
 use Rattle.gps_outside.specs.Counts.{Rose}
 use Rattle.gps_outside.specs.Told.{Stream, Goes, Passes, Appends, AppendsPart}
+use Rattle.gps_outside.specs.Waiting.{Waits}
 use Rattle.gps_outside.specs.Ticks.{Dial, GivesAll}
 use Rattle.gps_outside.specs.Turns.{PassesMore, TakesAll, TakesSome}
 use Rattle.device_core.specs.Reports.{Gains}
@@ -66,20 +67,31 @@ abbrev pub IsWithin : ℕ → Option Stream → Type 0
 IsWithin history None = ⊥
 IsWithin history (Some stream) = length stream.left ≤ history
 
--- the lines were written whole, or in part where the sink failed, or not at all for want of memory
-abbrev pub Written : {X : Type 0} → Result X Fault → List ℕ → Option (List ℕ) → Option (List ℕ) → Type 0
-Written (Ok _) lines before after = Goes (Appends lines) before after
-Written (Err Sink) lines before after = Goes (AppendsPart lines) before after
-Written (Err NoMemoryFault) lines before after = before ≡ after
+-- of what waited and the lines behind it a part was written and the rest waits; or the sink failed; or, out of memory, what waited was written
+abbrev pub Written : {X : Type 0} → Result X Fault → List ℕ → List ℕ → List ℕ → Option (List ℕ) → Option (List ℕ) → Type 0
+Written (Ok _) lines waited waits before after = Waits (waited ++ lines) waits before after
+Written (Err Sink) lines waited waits before after = Goes (AppendsPart (waited ++ lines)) before after
+Written (Err NoMemoryFault) lines waited waits before after = Goes (Appends waited) before after
+
+-- out of memory, what waited was written, or the sink failed
+abbrev pub GaveUp : Fault → List ℕ → Option (List ℕ) → Option (List ℕ) → Type 0
+GaveUp Sink waited before after = Goes (AppendsPart waited) before after
+GaveUp NoMemoryFault waited before after = Goes (Appends waited) before after
+
+abbrev pub FaultCause : Fault → ℕ → ℕ → Type 0
+FaultCause Sink before after = Rose before after
+FaultCause NoMemoryFault before after = Unit {0}
 
 abbrev pub WriteCause : {X : Type 0} → Result X Fault → ℕ → ℕ → Type 0
 WriteCause (Ok _) before after = Unit {0}
 WriteCause (Err Sink) before after = Rose before after
 WriteCause (Err NoMemoryFault) before after = Unit {0}
 
--- the lines of what a stream gains by more of it were written, and what is kept then stands for the longer stream; or a part of them where the
--- sink failed; or nothing for want of memory
-abbrev pub HandsOn : {X : Type 0} → Texts → Result X Fault → List Symbol → List Symbol → Kept → Option (List ℕ) → Option (List ℕ) → Type 0
-HandsOn says (Ok _) stream more kept before after = StandsFor kept (stream ++ more) × ((out : List Body) × (Gains stream more out × Goes (Appends (texts_of says out)) before after))
-HandsOn says (Err Sink) stream more kept before after = (out : List Body) × (Gains stream more out × Goes (AppendsPart (texts_of says out)) before after)
-HandsOn says (Err NoMemoryFault) stream more kept before after = before ≡ after
+-- the lines of what a stream gains by more of it were written or wait, behind what waited, and what is kept then is a summary of the longer stream;
+-- or the sink failed, and a prefix of them was written; or, out of memory, what waited was written
+abbrev pub HandsOn : {X : Type 0} → Texts → Result X Fault → List Symbol → List Symbol → Kept → List ℕ → List ℕ → Option (List ℕ) → Option (List ℕ) → Type 0
+HandsOn says (Ok _) stream more kept waited waits before after =
+    StandsFor kept (stream ++ more) × ((out : List Body) × (Gains stream more out × Waits (waited ++ texts_of says out) waits before after))
+HandsOn says (Err Sink) stream more kept waited waits before after =
+    (out : List Body) × (Gains stream more out × Goes (AppendsPart (waited ++ texts_of says out)) before after)
+HandsOn says (Err NoMemoryFault) stream more kept waited waits before after = Goes (Appends waited) before after

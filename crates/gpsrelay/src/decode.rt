@@ -8,54 +8,94 @@ ghost use Rattle.gpsrelay.specs.Decode.{Decoded, HandsOn, WriteCause, Written};
 ghost use Rattle.gpsrelay.specs.Outcomes.{HasCause};
 
 use crate::outcome::{Fault, Outcome};
-use crate::texts::{Output, lines_of_input};
+use crate::texts::{Draft, Output, lines_of_input};
 use device_core::Device;
-use gps_fixed::{Bytes, Stamp};
+use gps_fixed::Stamp;
 use gps_outside::{Clock, Intake, IntakeStep, Sink, Source};
 use std::alloc::Global;
 
-/// Feeds the device with the bytes of one read, and writes what is written of its gains.
-#[tactic(auto, using(crate::proofs::Decoding::handed_on))]
+/// Feeds the device with the bytes of one read, and adds what is written of its gains.
+#[tactic(auto, using(crate::proofs::Decoding::handed_on, crate::proofs::Decoding::fed_none))]
 fn hand_on<K: Sink>(
     device: &mut Device,
     output: &Output,
-    text: Bytes,
+    draft: &mut Draft,
     at: Stamp,
     bytes: &[u8],
     sink: &mut K,
-) -> Result<Bytes, Fault>
+) -> Result<(), Fault>
     requires { IsOfInput output.now }
     ensures lines { (stream : List Symbol) → StandsFor device.old.now stream
-        → HandsOn (texts_by output.now) result stream (piece at bytes.now) device.new.now (K.written sink.old) (K.written sink.new) }
+        → HandsOn (texts_by output.now) result stream (piece at bytes.now) device.new.now draft.old draft.new (K.written sink.old) (K.written sink.new) }
     ensures cause { WriteCause result (K.faults sink.old) (K.faults sink.new) }
     ensures faults_stay { K.faults sink.old ≤ K.faults sink.new }
 {
     match device.feed(at, bytes) {
-        Ok(gained) => output.write(gained, text, sink),
-        Err(_) => Err(Fault::NoMemory),
+        Ok(gained) => draft.write(output, gained, sink),
+        Err(_) => Err(draft.give_up(sink)),
     }
 }
 
-/// Closes the device's running epoch, and writes what is written of it.
+/// As [`hand_on`], for the last bytes: nothing waits any more.
+#[tactic(auto, using(crate::proofs::Decoding::flushed, crate::proofs::Decoding::flushed_part))]
+fn hand_on_last<K: Sink>(
+    device: &mut Device,
+    output: &Output,
+    draft: &mut Draft,
+    at: Stamp,
+    bytes: &[u8],
+    sink: &mut K,
+) -> Result<(), Fault>
+    requires { IsOfInput output.now }
+    ensures lines { (stream : List Symbol) → StandsFor device.old.now stream
+        → HandsOn (texts_by output.now) result stream (piece at bytes.now) device.new.now draft.old [] (K.written sink.old) (K.written sink.new) }
+    ensures cause { WriteCause result (K.faults sink.old) (K.faults sink.new) }
+    ensures faults_stay { K.faults sink.old ≤ K.faults sink.new }
+{
+    match hand_on(device, output, draft, at, bytes, sink) {
+        Ok(()) => {
+            if draft.flush(sink) {
+                Ok(())
+            } else {
+                Err(Fault::Sink)
+            }
+        }
+        Err(fault) => Err(fault),
+    }
+}
+
+/// Closes the device's running epoch, and writes what waits and what is written of the epoch.
+#[tactic(auto, using(crate::proofs::Decoding::closed, crate::proofs::Decoding::closed_part, crate::proofs::Decoding::closed_none))]
 fn close<K: Sink>(
     device: &mut Device,
     output: &Output,
-    text: Bytes,
+    draft: &mut Draft,
     sink: &mut K,
-) -> Result<Bytes, Fault>
+) -> Result<(), Fault>
     requires { IsOfInput output.now }
     ensures lines { (stream : List Symbol) → StandsFor device.old.now stream
-        → Written result (texts_of (texts_by output.now) (device_close stream)) (K.written sink.old) (K.written sink.new) }
+        → Written result (texts_of (texts_by output.now) (device_close stream)) draft.old [] (K.written sink.old) (K.written sink.new) }
     ensures cause { WriteCause result (K.faults sink.old) (K.faults sink.new) }
     ensures faults_stay { K.faults sink.old ≤ K.faults sink.new }
 {
     match device.finish() {
-        Ok(left) => output.write(left, text, sink),
-        Err(_) => Err(Fault::NoMemory),
+        Ok(left) => match draft.write(output, left, sink) {
+            Ok(()) => {
+                if draft.flush(sink) {
+                    Ok(())
+                } else {
+                    Err(Fault::Sink)
+                }
+            }
+            Err(fault) => Err(fault),
+        },
+        Err(_) => Err(draft.give_up(sink)),
     }
 }
 
 /// As [`decode`] and [`pseudo`], with a new device.
+///
+/// Lines wait for further ones while more input stands ready, and never while the source may wait.
 fn write_reports<S: Source, K: Sink, C: Clock>(
     alloc: Global,
     device: &mut Device,
@@ -75,30 +115,43 @@ fn write_reports<S: Source, K: Sink, C: Clock>(
     ensures quiets_stay { S.quiets source.old ≤ S.quiets source.new }
     ensures sink_faults_stay { K.faults sink.old ≤ K.faults sink.new }
 {
-    let mut text = Bytes::new(alloc);
+    let mut draft = Draft::new(alloc);
     let mut intake = Intake::new(history);
     let mut buf = [0u8; 512];
     'turns: loop {
+        if !draft.settle(&*source, sink) {
+            return Outcome::WriteFault;
+        }
         match intake.step(source, &mut buf) {
             IntakeStep::Piece(n) => {
-                match hand_on(device, output, text, clock.now(), &buf[..n], sink) {
-                    Ok(buffer) => text = buffer,
+                match hand_on(device, output, &mut draft, clock.now(), &buf[..n], sink) {
+                    Ok(()) => {}
                     Err(fault) => return fault.outcome(),
                 }
             }
             IntakeStep::Quiet => {}
             IntakeStep::Last(n) => {
-                match hand_on(device, output, text, clock.now(), &buf[..n], sink) {
-                    Ok(_) => return Outcome::Full,
+                match hand_on_last(device, output, &mut draft, clock.now(), &buf[..n], sink) {
+                    Ok(()) => return Outcome::Full,
                     Err(fault) => return fault.outcome(),
                 }
             }
-            IntakeStep::End => match close(device, output, text, sink) {
-                Ok(_) => return Outcome::Done,
+            IntakeStep::End => match close(device, output, &mut draft, sink) {
+                Ok(()) => return Outcome::Done,
                 Err(fault) => return fault.outcome(),
             },
-            IntakeStep::Failed => return Outcome::ReadFault,
-            IntakeStep::TooQuiet => return Outcome::TooQuiet,
+            IntakeStep::Failed => {
+                if draft.flush(sink) {
+                    return Outcome::ReadFault;
+                }
+                return Outcome::WriteFault;
+            }
+            IntakeStep::TooQuiet => {
+                if draft.flush(sink) {
+                    return Outcome::TooQuiet;
+                }
+                return Outcome::WriteFault;
+            }
         }
     }
 }

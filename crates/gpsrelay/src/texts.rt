@@ -1,15 +1,19 @@
-ghost use Rattle.std.specs.Prelude.{◌≡◌, ◌≤◌, ◌∷◌, ◌++◌, [], IfOk, OnOk, codes, true};
+ghost use Rattle.std.specs.Prelude.{◌≡◌, ◌≤◌, ◌⊎◌, ◌∷◌, ◌++◌, [], IfOk, OnOk, codes, false, true};
+ghost use Rattle.gps_outside.specs.Counts.{Rose};
+ghost use Rattle.gps_outside.specs.Waiting.{Sends};
+ghost use Rattle.gps_outside.specs.Writes.{WritesAll};
 ghost use Rattle.json_line.specs.Lines.{suits, text};
 ghost use Rattle.gpsrelay.specs.Texts.{line_of, sentences_of, texts_by, texts_of, IsOfInput};
-ghost use Rattle.gpsrelay.specs.Decode.{Written, WriteCause};
+ghost use Rattle.gpsrelay.specs.Decode.{FaultCause, GaveUp, Written, WriteCause};
 
 use crate::outcome::Fault;
 use gps_fixed::{Bytes, NoMemory};
-use gps_outside::{Sink, write_all};
+use gps_outside::{Outbox, Sink, Source};
 use gps_report::{Body, Form, Name, Names, Report};
 use json_line::push_line;
 use pseudo_nmea::push_sentences;
 use std::alloc::Global;
+use std::marker::Model;
 
 /// What is written of a device's reports.
 #[derive(Drop)]
@@ -99,28 +103,93 @@ impl Output {
         }
         Ok(())
     }
+}
 
-    /// Writes what is written of reports all at once, and gives the buffer back.
+/// Lines on their way to the sink: room to make those of one read in, and those that wait for further ones.
+#[derive(Drop)]
+pub struct Draft {
+    text: Bytes,
+    outbox: Outbox,
+}
+
+impl Model for Draft {
+    ghost use Rattle.std.specs.Prelude.{List, ℕ};
+
+    ghost Value = { List ℕ };
+
+    ghost view = { λ s. s.outbox };
+}
+
+impl Draft {
+    pub fn new(alloc: Global) -> Draft
+        ensures { result ≡ [] }
+    {
+        Draft {
+            text: Bytes::new(alloc),
+            outbox: Outbox::new(alloc),
+        }
+    }
+
+    /// Adds what is written of reports, once it is made whole.
     pub fn write<K: Sink>(
-        &self,
+        &mut self,
+        output: &Output,
         bodies: Vec<Body>,
-        mut text: Bytes,
         sink: &mut K,
-    ) -> Result<Bytes, Fault>
-        requires { IsOfInput self.now }
-        ensures wrote { Written result (texts_of (texts_by self.now) bodies.items) (K.written sink.old) (K.written sink.new) }
+    ) -> Result<(), Fault>
+        requires { IsOfInput output.now }
+        ensures wrote { Written result (texts_of (texts_by output.now) bodies.items) self.old self.new (K.written sink.old) (K.written sink.new) }
         ensures cause { WriteCause result (K.faults sink.old) (K.faults sink.new) }
         ensures faults_stay { K.faults sink.old ≤ K.faults sink.new }
     {
-        text.clear();
-        match self.push_all(&mut text, bodies) {
-            Ok(()) => {}
-            Err(NoMemory) => return Err(Fault::NoMemory),
+        self.text.clear();
+        match output.push_all(&mut self.text, bodies) {
+            Ok(()) => {
+                if self.outbox.add(self.text.as_slice(), sink) {
+                    Ok(())
+                } else {
+                    Err(Fault::Sink)
+                }
+            }
+            Err(NoMemory) => Err(self.give_up(sink)),
         }
-        if write_all(sink, text.as_slice()) {
-            Ok(text)
+    }
+
+    /// Writes what waits when there is no memory for more.
+    pub fn give_up<K: Sink>(&mut self, sink: &mut K) -> Fault
+        ensures wrote { GaveUp result self.old (K.written sink.old) (K.written sink.new) }
+        ensures cause { FaultCause result (K.faults sink.old) (K.faults sink.new) }
+        ensures faults_stay { K.faults sink.old ≤ K.faults sink.new }
+    {
+        if self.outbox.flush(sink) {
+            Fault::NoMemory
         } else {
-            Err(Fault::Sink)
+            Fault::Sink
         }
+    }
+
+    /// Writes what waits.
+    ///
+    /// False: the sink failed.
+    pub fn flush<K: Sink>(&mut self, sink: &mut K) -> bool
+        ensures bytes { WritesAll result self.old (K.written sink.old) (K.written sink.new) }
+        ensures empty { self.new ≡ [] }
+        ensures none { self.old ≡ [] → result ≡ true }
+        ensures faults_stay { K.faults sink.old ≤ K.faults sink.new }
+        ensures failed { result ≡ false → Rose (K.faults sink.old) (K.faults sink.new) }
+    {
+        self.outbox.flush(sink)
+    }
+
+    /// Writes what waits, unless more bytes stand ready in the source.
+    ///
+    /// False: the sink failed.
+    pub fn settle<S: Source, K: Sink>(&mut self, source: &S, sink: &mut K) -> bool
+        ensures bytes { Sends result self.old self.new (K.written sink.old) (K.written sink.new) }
+        ensures kept { result ≡ true → (self.new ≡ []) ⊎ S.keeps_at_fault source.now }
+        ensures faults_stay { K.faults sink.old ≤ K.faults sink.new }
+        ensures failed { result ≡ false → Rose (K.faults sink.old) (K.faults sink.new) }
+    {
+        self.outbox.settle(source, sink)
     }
 }

@@ -1,10 +1,10 @@
 use Rattle.std.proofs.Common.{◌≡◌, ◌≤◌, [], length}
-use Rattle.gps_outside.proofs.Writing.{IsUnderWay}
+use Rattle.gps_outside.specs.Waiting.{Waits}
 use Rattle.gps_outside.proofs.sink.write_all.Given as goal
 
 abbrev pub invariant-writes : goal.invariant-writes
 invariant-writes g l = record {
-  bytes : IsUnderWay l.piece l.rest (g.K.Sink.written l.initial.sink) (g.K.Sink.written l.sink);
+  bytes : Waits l.piece l.rest (g.K.Sink.written l.initial.sink) (g.K.Sink.written l.sink);
   faults : g.K.Sink.faults l.initial.sink ≤ g.K.Sink.faults l.sink;
   empty : l.piece ≡ [] → l.sink ≡ l.initial.sink;
 }

@@ -9,7 +9,7 @@ invariant-turns g l = record {
   under_way : UnderWay (texts_by l.output) l.history l.intake l.device.now
       (g.S.Source.content l.initial.source) (g.S.Source.content l.source)
       (g.S.Source.quiets l.initial.source) (g.S.Source.quiets l.source)
-      (g.C.Clock.stamps l.initial.clock) (g.C.Clock.stamps l.clock)
+      (g.C.Clock.stamps l.initial.clock) (g.C.Clock.stamps l.clock) l.draft
       (g.K.Sink.written l.initial.sink) (g.K.Sink.written l.sink);
   faults : g.S.Source.faults l.initial.source ≤ g.S.Source.faults l.source;
   quiets : g.S.Source.quiets l.initial.source ≤ g.S.Source.quiets l.source;

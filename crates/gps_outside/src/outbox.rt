@@ -1,0 +1,92 @@
+ghost use Rattle.std.specs.Prelude.{◌≡◌, ◌≤◌, ◌⊎◌, ◌++◌, [], false, true};
+ghost use Rattle.gps_outside.specs.Counts.{Rose};
+ghost use Rattle.gps_outside.specs.Waiting.{Sends};
+ghost use Rattle.gps_outside.specs.Writes.{WritesAll};
+
+use crate::{Sink, Source, write_all};
+use std::alloc::Global;
+use std::marker::Model;
+
+/// At most this many bytes wait.
+const ROOM: usize = 32_768;
+
+/// Bytes on their way to a sink. They wait for further ones, so that many pieces make one write.
+///
+/// Its memory is taken at once. If there is none, nothing waits.
+#[derive(Drop)]
+pub struct Outbox {
+    waiting: Vec<u8>,
+}
+
+impl Model for Outbox {
+    ghost use Rattle.std.specs.Prelude.{List, ℕ};
+
+    ghost Value = { List ℕ };
+
+    ghost view = { λ s. s.waiting.items };
+}
+
+impl Outbox {
+    pub fn new(alloc: Global) -> Outbox
+        ensures { result ≡ [] }
+    {
+        let waiting = match Vec::with_capacity(alloc, ROOM) {
+            Ok(waiting) => waiting,
+            Err(_) => Vec::new(alloc),
+        };
+        Outbox { waiting }
+    }
+
+    /// Keeps a piece if there is room for it.
+    fn keep(&mut self, piece: &[u8]) -> bool
+        ensures kept { result ≡ true → self.new ≡ self.old ++ piece.now }
+        ensures refused { result ≡ false → self.new ≡ self.old }
+    {
+        self.waiting.len() + piece.len() <= self.waiting.capacity()
+            && self.waiting.extend_from_slice(piece).is_ok()
+    }
+
+    /// Adds a piece, which waits if it can. If there is no room for it, what waits is written first.
+    ///
+    /// False: the sink failed.
+    pub fn add<K: Sink>(&mut self, piece: &[u8], sink: &mut K) -> bool
+        ensures bytes { Sends result (self.old ++ piece.now) self.new (K.written sink.old) (K.written sink.new) }
+        ensures faults_stay { K.faults sink.old ≤ K.faults sink.new }
+        ensures failed { result ≡ false → Rose (K.faults sink.old) (K.faults sink.new) }
+    {
+        if self.keep(piece) {
+            return true;
+        }
+        if !self.flush(sink) {
+            return false;
+        }
+        self.keep(piece) || write_all(sink, piece)
+    }
+
+    /// Writes what waits.
+    ///
+    /// False: the sink failed.
+    pub fn flush<K: Sink>(&mut self, sink: &mut K) -> bool
+        ensures bytes { WritesAll result self.old (K.written sink.old) (K.written sink.new) }
+        ensures empty { self.new ≡ [] }
+        ensures none { self.old ≡ [] → result ≡ true }
+        ensures faults_stay { K.faults sink.old ≤ K.faults sink.new }
+        ensures failed { result ≡ false → Rose (K.faults sink.old) (K.faults sink.new) }
+    {
+        let wrote = write_all(sink, self.waiting.as_slice());
+        self.waiting.clear();
+        wrote
+    }
+
+    /// Writes what waits, unless more bytes stand ready in the source.
+    ///
+    /// False: the sink failed.
+    pub fn settle<S: Source, K: Sink>(&mut self, source: &S, sink: &mut K) -> bool
+        ensures bytes { Sends result self.old self.new (K.written sink.old) (K.written sink.new) }
+        ensures kept { result ≡ true → (self.new ≡ []) ⊎ S.keeps_at_fault source.now }
+        ensures faults_stay { K.faults sink.old ≤ K.faults sink.new }
+        ensures failed { result ≡ false → Rose (K.faults sink.old) (K.faults sink.new) }
+    {
+        source.is_ready() || self.flush(sink)
+    }
+}

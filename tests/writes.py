@@ -1,0 +1,116 @@
+#!/usr/bin/env python3
+"""How the program's lines are written: few large writes while input stands ready, and each line at once when the receiver is slow.
+
+Use: writes.py PROGRAM. Prints a line for each check, and ends with 1 if one fails. The counts of writes need strace; without it they are
+skipped, with a line that says so.
+"""
+import os
+import random
+import select
+import shutil
+import subprocess
+import sys
+import tempfile
+import time
+
+from checks import check, exit_status
+from packets import sentence
+
+PROGRAM = os.path.abspath(sys.argv[1])
+SIZE = 8_000_000
+# the most writes for that input: two for each 32 KB that are read, and some to spare
+MOST_WRITES = 520
+
+
+def second(rng, t):
+    """The sentences of one second: position, satellites in use, eleven satellites in view, minimum data."""
+    time_of_day = f"{t // 3600 % 24:02}{t // 60 % 60:02}{t % 60:02}.00"
+    place = f"{rng.randrange(90):02}{rng.randrange(60):02}.{rng.randrange(100000):05},N,{rng.randrange(180):03}{rng.randrange(60):02}.{rng.randrange(100000):05},E"
+    bodies = [f"GPGGA,{time_of_day},{place},1,11,0.90,{rng.randrange(3000)}.{rng.randrange(10)},M,46.9,M,,"]
+    bodies.append("GPGSA,A,3," + ",".join(f"{n:02}" for n in range(1, 12)) + ",,1.60,0.90,1.30")
+    for part in range(3):
+        satellites = [f"{n:02},{rng.randrange(91):02},{rng.randrange(360):03},{rng.randrange(51):02}" for n in range(4 * part + 1, min(4 * part + 5, 12))]
+        bodies.append(f"GPGSV,3,{part + 1},11," + ",".join(satellites))
+    bodies.append(f"GPRMC,{time_of_day},A,{place},{rng.randrange(100):03}.4,084.4,010624,,,A")
+    return b"".join(sentence(body) for body in bodies)
+
+
+def made(size):
+    rng = random.Random(8)
+    out, t = bytearray(), 0
+    while len(out) < size:
+        out += second(rng, t)
+        t += 1
+    return bytes(out[:size])
+
+
+def counted(words, path, folder):
+    """How many writes the program makes for a file that comes through a pipe in one go, and its status."""
+    counts = os.path.join(folder, "counts")
+    with subprocess.Popen(["cat", path], stdout=subprocess.PIPE) as feeder:
+        done = subprocess.run(["strace", "-f", "-qq", "-e", "trace=write", "-e", "signal=none", "-o", counts, PROGRAM, *words],
+                              stdin=feeder.stdout, stdout=subprocess.DEVNULL, timeout=300)
+    with open(counts, encoding="latin-1") as file:
+        return sum("write(1," in row for row in file), done.returncode
+
+
+def many_at_once(folder):
+    if not shutil.which("strace"):
+        print("skipped the counts of writes: strace is not installed")
+        return
+    path = os.path.join(folder, "nmea")
+    with open(path, "wb") as file:
+        file.write(made(SIZE))
+    for command in ("decode", "pseudo"):
+        writes, status = counted([command], path, folder)
+        print(f"        {command}: {writes} writes for {SIZE} bytes")
+        check(f"{command}: status", 0, status)
+        check(f"{command}: at most {MOST_WRITES} writes", True, 0 < writes <= MOST_WRITES)
+
+
+def slow_feed():
+    """A sentence each 50 ms: each one closes the epoch before it, whose line comes before the next sentence."""
+    child = subprocess.Popen([PROGRAM, "decode"], stdin=subprocess.PIPE, stdout=subprocess.PIPE)
+    lines = []
+    for t in range(10):
+        child.stdin.write(sentence(f"GPRMC,{120000 + t:06},A,4807.038,N,01131.000,E,022.4,084.4,010624,,,A"))
+        child.stdin.flush()
+        if t > 0:
+            ready, _, _ = select.select([child.stdout], [], [], 5)
+            lines.append(os.read(child.stdout.fileno(), 65536).count(b"\n") if ready else 0)
+        time.sleep(0.05)
+    rest = child.communicate()[0]
+    check("a sentence each 50 ms: one line after each", [1] * 9, lines)
+    check("a sentence each 50 ms: the last line at the end", (1, 0), (rest.count(b"\n"), child.returncode))
+
+
+def closed_output():
+    reading, writing = os.pipe()
+    os.close(reading)
+    done = subprocess.run([PROGRAM, "decode"], input=made(100_000), stdout=writing)
+    os.close(writing)
+    check("a closed output: status", 4, done.returncode)
+
+
+def full_disk():
+    with open("/dev/full", "wb") as full:
+        done = subprocess.run([PROGRAM, "decode"], input=made(1_000), stdout=full)
+    check("a full disk, few lines: status", 4, done.returncode)
+
+
+def limit_of_history():
+    """All lines of the bytes within the limit are there when one more byte comes."""
+    given = made(200_000)
+    within = subprocess.run([PROGRAM, "decode"], input=given, capture_output=True).stdout
+    cut = subprocess.run([PROGRAM, "decode", "--history", "100000"], input=given, capture_output=True)
+    check("the limit of the history: status", 5, cut.returncode)
+    check("the limit of the history: the lines so far", True, within.startswith(cut.stdout) and cut.stdout.count(b"\n") > 100)
+
+
+with tempfile.TemporaryDirectory() as place:
+    many_at_once(place)
+slow_feed()
+closed_output()
+full_disk()
+limit_of_history()
+sys.exit(exit_status())

@@ -101,6 +101,8 @@ where
 
     ghost content = { λ _. None };
 
+    ghost keeps_at_fault = { λ _. Unit {0} };
+
     fn read(&mut self, buf: &mut [u8]) -> ReadStep {
         self.tell_awaited();
         let step = self.source.read(buf);

@@ -40,14 +40,14 @@ for words in '' 'frob' 'decode --history 0' 'decode --history x' 'decode --help'
     run $words
     check "refused words '$words': status" 2 "$status"
     check "refused words '$words': nothing on standard output" '' "$(cat "$place/out")"
-    check "refused words '$words': the usage line" "$usage" "$(cat "$place/err")"
+    check "refused words '$words': the usage line" "$usage" "$(head -n 1 "$place/err")"
 done
 
 for words in $'dec\xffode' $'decode --history \xff' $'decode \xff'; do
     run $words
     check "words that are no text: status" 2 "$status"
     check "words that are no text: nothing on standard output" '' "$(cat "$place/out")"
-    check "words that are no text: the usage line" "$usage" "$(cat "$place/err")"
+    check "words that are no text: the usage line" "$usage" "$(head -n 1 "$place/err")"
 done
 
 # bytes NUMBER..: these bytes; word WIDTH NUMBER: the WIDTH bytes of a number, the lowest first, as numbers
@@ -137,7 +137,7 @@ fi
 
 # The reader takes ten lines and closes the pipe: the program ends by itself.
 (for _ in $(seq 200); do cat "$samples/drive.nmea"; done) >"$place/in"
-{ timeout 60 "$program" decode <"$place/in"; echo $? >"$place/status"; } | head -n 10 >"$place/out"
+{ timeout 60 "$program" decode <"$place/in" 2>"$place/err"; echo $? >"$place/status"; } | head -n 10 >"$place/out"
 check 'a pipe that is closed early: ten lines' 10 "$(wc -l <"$place/out")"
 check 'a pipe that is closed early: status' 4 "$(cat "$place/status")"
 

@@ -372,7 +372,7 @@ module _ (says : Texts) where
       → Waits waits waits' sink' sink''
       → UnderWay history budget kept source now quiets quiets' clock clock' waits' sink sink''
   settled history budget kept source now quiets quiets' clock clock' waits waits' sink sink' sink'' u wrote = record u {
-    wrote = waits_on (texts_so_far says (stream_of u.readings)) waits waits' sink sink' sink'' u.wrote wrote
+    wrote = waits_on (texts_so_far says (stream_of u.readings)) waits waits' sink sink' sink'' u.wrote wrote;
   }
 
   -- the sink failed after a read that brought nothing and lost nothing

@@ -6,20 +6,29 @@
 mod cues;
 mod decode;
 mod outcome;
+mod place_text;
+mod reasons;
 mod run;
 mod serve;
 #[cfg(test)]
 mod serve_tests;
 mod standard_streams;
+mod streams;
+mod system;
 mod telling;
+mod telling_door;
+mod telling_source;
 #[cfg(test)]
 mod tests;
 mod texts;
 
 use gps_fixed::NoMemory;
-use gps_outside::{RealClock, RealSink, RealSource, write_all};
-use gps_words::WordsFault;
+use gps_outside::{RealClock, RealSink, write_all};
+use gps_serve::{DeviceEnd, Served};
+use gps_words::{WordsFault, asked};
+use gps_world::World;
 use outcome::Outcome;
+use reasons::{say, tell_end, tell_no_memory, tell_no_text, tell_refused};
 use standard_streams::StandardStreams;
 use std::alloc::Global;
 use std::fs::File;
@@ -30,6 +39,7 @@ use std::rt::Files;
 use std::sync::Wait;
 use std::thread::Threads;
 use std::{env, io, time};
+use streams::{CountedInput, CountedOutput};
 use telling::TellingWorld;
 
 /// Why the words of the call could not be read: they are no text, or there was no memory for them.
@@ -56,15 +66,39 @@ fn words_of_call(rt: &HostRuntime) -> Result<Vec<String>, WordsFault> {
     }
 }
 
-/// Does what the words ask for, over the real streams and the machine's clock.
+/// Does what the words ask for, over the real streams and the machine's clock, and says how it ended.
 fn run_outside(rt: HostRuntime, words: &[String]) -> Result<u8, NoMemory> {
-    let mut source = RealSource::of_input(rt, rt.alloc(), rt.stdin())?;
-    let mut sink = RealSink::of_output(rt.stdout());
+    let mut source = CountedInput::new(rt, rt.alloc(), rt.stdin())?;
+    let mut sink = CountedOutput::new(rt.stdout());
     let mut clock = RealClock::new(rt);
-    Ok(run::run(rt.alloc(), words, &mut source, &mut sink, &mut clock))
+    let status = run::run(rt.alloc(), words, &mut source, &mut sink, &mut clock);
+    match asked(rt.alloc(), words) {
+        Ok(command) => tell_end(&rt, &command, status, &source, &sink),
+        Err(WordsFault::Refused) => {}
+        Err(WordsFault::NoMemory) => tell_no_memory(&rt),
+    }
+    Ok(status)
 }
 
-/// Serves what the words ask for, over the real world, and writes the closing lines.
+/// Writes the closing lines of a run of the daemon, and gives its status.
+fn close<W: World, R: Wait + Copy>(
+    alloc: Global,
+    served: &Served<W, R>,
+    sink: &mut RealSink,
+) -> u8 {
+    match served.lines(alloc) {
+        Ok(lines) => {
+            if write_all(sink, lines.as_slice()) {
+                served.status
+            } else {
+                Outcome::WriteFault.status()
+            }
+        }
+        Err(NoMemory) => Outcome::NoMemory.status(),
+    }
+}
+
+/// Serves what the words ask for, over the real world, writes the closing lines, and says how it ended.
 fn serve_outside<R>(rt: R, alloc: Global, words: &[String], sink: &mut RealSink) -> u8
 where
     R: Threads
@@ -78,16 +112,25 @@ where
         + Sync,
 {
     let served = serve::serve_main(rt, alloc, words, TellingWorld::new(alloc, rt));
-    match served.lines(alloc) {
-        Ok(lines) => {
-            if write_all(sink, lines.as_slice()) {
-                served.status
-            } else {
-                Outcome::WriteFault.status()
+    for device in &served.devices {
+        if device.end == Some(DeviceEnd::NoMemory) {
+            if let Some(source) = &device.source {
+                source.tell_lost();
             }
         }
-        Err(NoMemory) => Outcome::NoMemory.status(),
     }
+    let status = close(alloc, &served, sink);
+    match status {
+        3 => say(&rt, "a device could not be opened or failed; see above"),
+        4 => say(
+            &rt,
+            "standard output: the closing lines could not be written: its reader has gone, it is closed, or the disk is full",
+        ),
+        7 => tell_no_memory(&rt),
+        8 => say(&rt, "it could not listen, or its door failed; see above"),
+        _ => {}
+    }
+    status
 }
 
 /// Whether the words are those of the daemon.
@@ -98,33 +141,40 @@ fn are_for_daemon(words: &[String]) -> bool {
     }
 }
 
-fn status_of_words(words: WordsFault) -> u8 {
-    match words {
-        WordsFault::Refused => run::REFUSED,
-        WordsFault::NoMemory => Outcome::NoMemory.status(),
+/// Does what the words of a command ask for.
+fn do_command(rt: HostRuntime, words: &[String]) -> u8 {
+    match run_outside(rt, words) {
+        Ok(status) => status,
+        Err(NoMemory) => {
+            tell_no_memory(&rt);
+            Outcome::NoMemory.status()
+        }
     }
 }
 
 fn main(rt: HostRuntime) -> ExitCode {
     // Held to the end, so that nothing else takes the number of a standard stream.
     let _taken = StandardStreams::take(&rt);
-    let status = match words_of_call(&rt) {
-        Ok(words) => {
-            if are_for_daemon(words.as_slice()) {
-                let mut sink = RealSink::of_output(rt.stdout());
-                serve_outside(rt, rt.alloc(), words.as_slice(), &mut sink)
-            } else {
-                match run_outside(rt, words.as_slice()) {
-                    Ok(status) => status,
-                    Err(NoMemory) => Outcome::NoMemory.status(),
-                }
-            }
+    let words = match words_of_call(&rt) {
+        Ok(words) => words,
+        Err(WordsFault::Refused) => {
+            tell_no_text(&rt);
+            return ExitCode::from(run::REFUSED);
         }
-        Err(fault) => status_of_words(fault),
+        Err(WordsFault::NoMemory) => {
+            tell_no_memory(&rt);
+            return ExitCode::from(Outcome::NoMemory.status());
+        }
+    };
+    let words = words.as_slice();
+    let status = if are_for_daemon(words) {
+        let mut sink = RealSink::of_output(rt.stdout());
+        serve_outside(rt, rt.alloc(), words, &mut sink)
+    } else {
+        do_command(rt, words)
     };
     if status == run::REFUSED {
-        // A standard error that is closed or full changes no status.
-        let _ = eprintln!(rt; "usage: gpsrelay decode|replay|generate|pseudo|lines|serve");
+        tell_refused(&rt, rt.alloc(), words);
     }
     ExitCode::from(status)
 }

@@ -1,0 +1,137 @@
+//! What stands on standard error where a command ends with another status than 0. What is said there changes no status: a standard error that
+//! is closed or full is passed over.
+
+use crate::streams::{CountedInput, CountedOutput};
+use gps_help::{Cause, HELP, RELEASE, Refusal, USAGE, refused};
+use gps_words::Command;
+use std::alloc::Global;
+use std::io::Eprint;
+
+/// How many bytes `replay` and `lines` read at most.
+const MOST: u64 = 1_073_741_824;
+
+/// Says why the words are refused: the usage line first, then the reason, and the help where no command was asked for or help was.
+pub fn tell_refused<R: Eprint>(rt: &R, alloc: Global, words: &[String]) {
+    let _ = eprintln!(rt; "{USAGE}");
+    match refused(alloc, words) {
+        Ok(Some(refusal)) => tell_refusal(rt, &refusal, words),
+        Ok(None) => {}
+        Err(_) => say(rt, "out of memory for the reason"),
+    }
+}
+
+fn tell_refusal<R: Eprint>(rt: &R, refusal: &Refusal, words: &[String]) {
+    match refusal.cause {
+        Cause::Help => {}
+        Cause::Version => {
+            let _ = eprintln!(rt; "{RELEASE}, gpsd's protocol 3.1");
+        }
+        _ => {
+            let told = refusal.told(words);
+            let _ = eprintln!(rt; "gpsrelay: {told}");
+        }
+    }
+    if refusal.wants_help() {
+        let _ = eprint!(rt; "{HELP}");
+    }
+}
+
+/// Says that a word is no text.
+pub fn tell_no_text<R: Eprint>(rt: &R) {
+    let _ = eprintln!(rt; "{USAGE}");
+    say(rt, "a word of the command line is not UTF-8");
+}
+
+pub fn say<R: Eprint>(rt: &R, what: &str) {
+    let _ = eprintln!(rt; "gpsrelay: {what}");
+}
+
+fn tell_read_fault<R: Eprint>(rt: &R, input: &CountedInput<R>) {
+    if input.failed() {
+        say(
+            rt,
+            "standard input: a read failed: is it closed, a directory, or a device that was unplugged?",
+        );
+    } else {
+        say(
+            rt,
+            "standard input: nothing came a thousand times: does the device send?",
+        );
+    }
+}
+
+/// Says that as many bytes came as are read.
+fn tell_full<R: Eprint>(rt: &R, command: &Command) {
+    let _ = match command {
+        Command::Decode { history } | Command::Pseudo { history } => {
+            eprintln!(rt;
+                "gpsrelay: stopped after {history} bytes: --history is the most that is read"
+            )
+        }
+        Command::Replay { .. } | Command::Generate { .. } | Command::Lines => {
+            eprintln!(rt;
+                "gpsrelay: stopped after {MOST} bytes: no more are read at a time; split the input"
+            )
+        }
+    };
+}
+
+/// Says what was expected in the line that is bad.
+fn tell_bad_line<R: Eprint>(rt: &R, command: &Command, number: u64) {
+    let _ = match command {
+        Command::Lines => {
+            eprintln!(rt;
+                "gpsrelay: line {number} of the input is not a line of the daemon, byte for byte"
+            )
+        }
+        _ => {
+            eprintln!(rt;
+                "gpsrelay: line {number} of the input is no line of a script, or may not stand there"
+            )
+        }
+    };
+}
+
+/// Says that bytes came in which nothing was found.
+fn tell_nothing_found<R: Eprint>(
+    rt: &R,
+    command: &Command,
+    input: &CountedInput<R>,
+    output: &CountedOutput,
+) {
+    let bytes = input.bytes();
+    if bytes == 0 || output.bytes() > 0 {
+        return;
+    }
+    if let Command::Decode { .. } | Command::Pseudo { .. } = command {
+        let _ = eprintln!(rt;
+            "gpsrelay: {bytes} bytes came, and no fix was found: is it NMEA 0183 or UBX, at the right speed?"
+        );
+    }
+}
+
+/// Says how a command ended, where there is something to say.
+pub fn tell_end<R: Eprint>(
+    rt: &R,
+    command: &Command,
+    status: u8,
+    input: &CountedInput<R>,
+    output: &CountedOutput,
+) {
+    match status {
+        0 => tell_nothing_found(rt, command, input, output),
+        3 => tell_read_fault(rt, input),
+        4 => say(
+            rt,
+            "standard output: a write failed: its reader has gone, it is closed, or the disk is full",
+        ),
+        5 => tell_full(rt, command),
+        6 => tell_bad_line(rt, command, output.number()),
+        7 => tell_no_memory(rt),
+        _ => {}
+    }
+}
+
+pub fn tell_no_memory<R: Eprint>(rt: &R) {
+    say(rt, "out of memory");
+}

@@ -1,0 +1,63 @@
+//! What the system says of a place: why it cannot be opened or read, and whether it is a terminal.
+
+use crate::place_text::text_of;
+use gps_fixed::Bytes;
+use std::fmt;
+use std::fs::{self, File, FileType};
+use std::io::{self, ErrorKind, IsTerminal};
+use std::os::unix::fs::FileTypeExt;
+use std::rt::Files;
+
+/// A reason of the system behind a message, or nothing where none is known.
+#[derive(Clone, Copy)]
+pub struct Reason(pub Option<ErrorKind>);
+
+impl Reason {
+    /// The reason of a fault.
+    pub fn of(fault: Option<io::Error>) -> Reason {
+        match fault {
+            Some(error) => Reason(Some(error.kind())),
+            None => Reason(None),
+        }
+    }
+}
+
+impl fmt::Display for Reason {
+    fn fmt<W: fmt::Write>(&self, f: &mut fmt::Formatter<W>) -> fmt::Result {
+        match self.0 {
+            None => Ok(()),
+            Some(ErrorKind::NotFound) => f.write_str(": no such file"),
+            Some(ErrorKind::InvalidInput) => f.write_str(": no such address"),
+            Some(ErrorKind::PermissionDenied) => {
+                f.write_str(": permission denied; is this user in its group?")
+            }
+            Some(ErrorKind::AddrInUse) => f.write_str(
+                ": address in use; another daemon may serve there: say --listen HOST:PORT",
+            ),
+            Some(ErrorKind::AddrNotAvailable) => {
+                f.write_str(": address not available; this machine has no such address")
+            }
+            Some(kind) => write!(f, ": {}", kind),
+        }
+    }
+}
+
+fn file_type_of<R: Files>(rt: &R, path: &Bytes) -> io::Result<FileType> {
+    let metadata = fs::metadata(rt, text_of(path))?;
+    Ok(metadata.file_type())
+}
+
+/// Whether a path is that of a terminal. Only a character device is opened for it.
+pub fn is_terminal<R: Files<File = File>>(rt: &R, path: &Bytes) -> bool {
+    let is_device = match file_type_of(rt, path) {
+        Ok(kind) => kind.is_char_device(),
+        Err(_) => false,
+    };
+    if !is_device {
+        return false;
+    }
+    match fs::open(rt, text_of(path)) {
+        Ok(file) => file.is_terminal(),
+        Err(_) => false,
+    }
+}

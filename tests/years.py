@@ -306,7 +306,7 @@ def places():
     trickling = daemon.connect()
     check("64 links: the next is not served", False, daemon.greets(seconds=1))
     start = time.monotonic()
-    while time.monotonic() - start < 63:
+    while time.monotonic() - start < 69:
         flood(trickling, b"?")
         time.sleep(0.5)
     check("silent links are ended after a minute", 0, sum(is_open(link) for link in silent))

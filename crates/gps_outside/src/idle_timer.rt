@@ -6,8 +6,8 @@ const FIRST: u64 = 60;
 /// A link that watches nothing and asked nothing for so long is idle, in seconds.
 const LATER: u64 = 900;
 
-/// How many seconds a read of a link that has asked something waits for bytes.
-const TICK: u64 = 300;
+/// No read of a link waits longer for bytes, in seconds. The system may add an eighth.
+const TICK: u64 = 120;
 
 /// The most bytes of a request.
 const MOST: usize = 1_024;
@@ -69,15 +69,25 @@ impl IdleTimer {
         }
     }
 
-    /// How long a read of the link may wait for bytes.
-    pub(crate) fn wait(&self) -> Duration {
-        Duration::from_secs(if self.asked { TICK } else { FIRST })
+    /// After how many seconds without a request the link is idle.
+    fn most(&self) -> u64 {
+        if self.asked { LATER } else { FIRST }
+    }
+
+    /// How long the next read of the link may wait for bytes, until it may be idle.
+    pub(crate) fn wait(&self, now: Duration) -> Duration {
+        let passed = now.saturating_sub(self.since).as_secs();
+        let left = self.most().saturating_sub(passed);
+        Duration::from_secs(if self.watches {
+            TICK
+        } else {
+            left.max(1).min(TICK)
+        })
     }
 
     /// Whether the link is idle for too long.
     pub(crate) fn is_over(&self, now: Duration) -> bool {
-        let most = if self.asked { LATER } else { FIRST };
-        !self.watches && now.saturating_sub(self.since).as_secs() >= most
+        !self.watches && now.saturating_sub(self.since).as_secs() >= self.most()
     }
 
     /// Takes bytes that came now.

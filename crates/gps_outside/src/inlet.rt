@@ -91,8 +91,8 @@ impl Link {
         }
     }
 
-    fn set_wait(&mut self) {
-        let wait = self.timer.wait();
+    fn set_wait(&mut self, now: Duration) {
+        let wait = self.timer.wait(now);
         if wait != self.wait && self.stream.set_read_timeout(Some(wait)).is_ok() {
             self.wait = wait;
         }
@@ -113,7 +113,7 @@ impl Link {
         if self.timer.is_over(now) {
             return Ok(0);
         }
-        self.set_wait();
+        self.set_wait(now);
         result
     }
 }

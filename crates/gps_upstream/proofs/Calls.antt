@@ -234,7 +234,9 @@ appends_some asked first None after e p = absurd (cc)
 appends_some asked first (Some x) None e p = absurd p
 appends_some asked first (Some x) (Some y) e p = let same : x ≡ first = cc in ap (λ l. Some l) (p ∙ ap (λ l. l ++ asked) same)
 
-appends_front : (asked first : List ℕ) (before after : Option (List ℕ)) → before ≡ Some first → Goes (AppendsPart asked) before after → GivenBy heads.Unsent asked first after
+appends_front : (asked first : List ℕ) (before after : Option (List ℕ))
+    → before ≡ Some first → Goes (AppendsPart asked) before after
+    → GivenBy heads.Unsent asked first after
 appends_front asked first None after e p = absurd (cc)
 appends_front asked first (Some x) None e p = absurd p
 appends_front asked first (Some x) (Some y) e p = let same : x ≡ first = cc in (p.0, (p.1.0, ap (λ l. Some l) (p.1.1 ∙ ap (λ l. l ++ p.0) same)))
@@ -306,7 +308,11 @@ module _ (result : ReadStep) (room : ℕ) (buffer : List ℕ) (old mid new : Upw
   not_over (inr e) = let b = f.between in cc
 
   ended_first : HasEnded mid new → HasEnded old new
-  ended_first (inl ended) = inl (record { good = ended.good; sent = ended.sent; none = subst (λ (c : Option Stream). Goes HasNothingLeft c new.source) f.source ended.none })
+  ended_first (inl ended) = inl (record {
+    good = ended.good;
+    sent = ended.sent;
+    none = subst (λ (c : Option Stream). Goes HasNothingLeft c new.source) f.source ended.none;
+  })
   ended_first (inr was) = absurd (not_over was.over)
 
   pub first_read : DoesRead result room buffer old new
@@ -387,7 +393,8 @@ module _ (room : ℕ) (buffer : List ℕ) (old new : Upward) (f : FirstFails old
   given_unsent first given =
       let start : old.written ≡ Some first = subst (λ (h : Head). GivenBy h (request old.device) first old.written) f.before given in
       let part : GivenBy heads.Unsent (request new.device) first new.written =
-      subst (λ (n : Option (List ℕ)). GivenBy heads.Unsent (request n) first new.written) (sym f.device) (appends_front (request old.device) first old.written new.written start f.written) in
+      subst (λ (n : Option (List ℕ)). GivenBy heads.Unsent (request n) first new.written) (sym f.device)
+      (appends_front (request old.device) first old.written new.written start f.written) in
       subst (λ (h : Head). GivenBy h (request new.device) first new.written) (sym f.after) part
 
   pub fails_first : DoesRead answers.Failed room buffer old new

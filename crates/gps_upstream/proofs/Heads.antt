@@ -49,7 +49,9 @@ both_from s byte a b Inside e on =
 both_from s byte a b Behind e on =
     let first : behind s (byte ∷ a) ≡ byte ∷ a = all_behind s (byte ∷ a) e in
     let later : taken (step s byte) a ≡ s = taken_behind s (byte ∷ a) e in
-    all_behind s (byte ∷ (a ++ b)) e ∙ sym (ap (λ l. l ++ behind (taken (step s byte) a) b) first ∙ ap (λ t. (byte ∷ a) ++ behind t b) later ∙ ap (λ l. (byte ∷ a) ++ l) (all_behind s b e))
+    let split : behind s (byte ∷ a) ++ behind (taken (step s byte) a) b ≡ (byte ∷ a) ++ b =
+    ap (λ l. l ++ behind (taken (step s byte) a) b) first ∙ ap (λ t. (byte ∷ a) ++ behind t b) later ∙ ap (λ l. (byte ∷ a) ++ l) (all_behind s b e) in
+    all_behind s (byte ∷ (a ++ b)) e ∙ sym split
 both_from s byte a b Nowhere e on =
     let first : behind s (byte ∷ a) ≡ [] = none_nowhere s (byte ∷ a) e in
     let later : taken (step s byte) a ≡ s = taken_nowhere s (byte ∷ a) e in
@@ -88,7 +90,11 @@ under_way used piece old now after way lt at is =
     record {
       within = omega arith;
       stand = way.stand ∙ ap (λ l. taken now l) first ∙ ap (λ t. taken t (drop (used + 1) piece)) stepped;
-      rest = way.rest ∙ ap (λ l. behind now l) first ∙ more_inside now (get_or piece used 0) (drop (used + 1) piece) at ∙ ap (λ t. behind t (drop (used + 1) piece)) stepped;
+      rest =
+          way.rest
+          ∙ ap (λ l. behind now l) first
+          ∙ more_inside now (get_or piece used 0) (drop (used + 1) piece) at
+          ∙ ap (λ t. behind t (drop (used + 1) piece)) stepped;
       count = ap (λ (t : Stand). t.count) is ∙ more_count now (get_or piece used 0) ∙ (let e = way.count in omega arith);
     }
 
@@ -116,7 +122,9 @@ all_taken piece old now way =
     }
 
 -- outside the head no more of it is
-outside_by : (t : Stage) (used : ℕ) (piece : List ℕ) (old now : Stand) → IsUnderWay used piece old now → now.stage ≡ t → now.stage ≢ Inside → HasTaken used piece old now
+outside_by : (t : Stage) (used : ℕ) (piece : List ℕ) (old now : Stand)
+    → IsUnderWay used piece old now → now.stage ≡ t → now.stage ≢ Inside
+    → HasTaken used piece old now
 outside_by Inside used piece old now way e not = absurd (not e)
 outside_by Behind used piece old now way e not = record {
   within = way.within;

@@ -64,7 +64,9 @@ in_head old now new c d e first more = record {
   stage = more.stage;
 }
 
-pub gives_on : (s : HeadStep) (buffer : List ℕ) (old now new : Stand) (c d e : Option Stream) → IsInHead old now c d → Gives s buffer now new d e → Gives s buffer old new c e
+pub gives_on : (s : HeadStep) (buffer : List ℕ) (old now new : Stand) (c d e : Option Stream)
+    → IsInHead old now c d → Gives s buffer now new d e
+    → Gives s buffer old new c e
 gives_on s buffer old now new c d e first more = record {
   raw = first.raw ++ more.raw;
   moved = goes_on (Passes first.raw) (Moves s more.raw) (Moves s (first.raw ++ more.raw)) c d e (moves_both s first.raw more.raw) first.moved more.moved;

@@ -1,8 +1,9 @@
 -- One read, as the parts of an object show it.
-use Rattle.std.proofs.Common.{◌≡◌, ◌≢◌, ℕ, ◌≤◌, ◌⊎◌, inl, inr, Bool, true, false, List, [], Option, Some, None, refl, sym, ap, subst, if◌then◌else◌, arith}
+use Rattle.std.proofs.Common.{◌≡◌, ◌≢◌, ℕ, ◌≤◌, ◌⊎◌, inl, inr, Bool, true, false, List, [], Option, Some, None, IfSome, ◌+◌, refl, sym, ap, subst, if◌then◌else◌, arith}
 use Rattle.gps_outside.specs.declared.source.ReadStep.{ReadStep}
 use Rattle.gps_outside.specs.declared.source.ReadStep.TheVariants as answers
 use Rattle.gps_outside.specs.Counts.{Rose}
+use Rattle.gps_outside.specs.Links.{IsUnread}
 use Rattle.gps_outside.specs.Told.{Stream, Goes, IsAtEnd, Appends, AppendsPart}
 use Rattle.upstream_laws.specs.declared.stage.Stage.{Stage}
 use Rattle.upstream_laws.specs.declared.stage.Stage.TheVariants as stages
@@ -44,11 +45,35 @@ start_is askings.NotYet t e = refl
 start_is askings.Whole t e = absurd (not_start t e)
 start_is askings.Unsent t e = absurd (cc)
 
+-- a new source that tells its bytes makes it tell
+pub fresh_told : (c : Option Stream) (left : List ℕ)
+    → c ≡ Some (record { taken = []; left = left })
+    → content_by heads.Start fresh c ≡ Some (record { taken = []; left = behind fresh left })
+unfolding same_stand
+fresh_told None left e = cc
+fresh_told (Some s) left e = ap (λ (x : Option Stream). content_by heads.Start fresh x) e
+
+told_none : (b : Bool) (x : Stream) → x.taken ≡ [] → IfSome (if b then Some x else None) (λ (s : Stream). s.taken ≡ [])
+told_none true x e = e
+told_none false x e = tt
+
+unread_told : (c : Option Stream) → IfSome c (λ (s : Stream). s.taken ≡ []) → IfSome (content_by heads.Start fresh c) (λ (s : Stream). s.taken ≡ [])
+unread_told None is = tt
+unread_told (Some s) is = told_none (same_stand fresh (taken fresh s.taken)) (handed heads.Start fresh s) (ap (λ l. behind fresh l) is)
+
+pub fresh_unread : (c : Option Stream) (f q k : ℕ) → IsUnread c f q → k ≡ 0 → IsUnread (content_by heads.Start fresh c) (f + k + 0) q
+fresh_unread c f q k is none = record {
+  nothing = unread_told c is.nothing;
+  no_fault = let source = is.no_fault in omega arith;
+  no_quiet = is.no_quiet;
+}
+
 -- a daemon that was asked just now
 pub open_fresh : (s : Stand) → s ≡ fresh → IsOpen (head_by askings.Whole s.stage)
 open_fresh s e = subst (λ (t : Stand). IsOpen (head_by askings.Whole t.stage)) (sym e) tt
 
-pub read_seen : (s : HeadStep) (room : ℕ) (buffer : List ℕ) (device : Option (List ℕ)) (a : Asked) (old new : Stand) (c d : Option Stream) (f f' q q' : ℕ) (w : Option (List ℕ)) (k : ℕ)
+pub read_seen : (s : HeadStep) (room : ℕ) (buffer : List ℕ) (device : Option (List ℕ)) (a : Asked) (old new : Stand)
+    → (c d : Option Stream) (f f' q q' : ℕ) (w : Option (List ℕ)) (k : ℕ)
     → IsOpen (head_by a old.stage)
     → FitsBuffer s room → Gives s buffer old new c d
     → f ≤ f' → q ≤ q' → (s ≡ steps.Failed → Rose f f') → (s ≡ steps.Quiet → Rose q q')
@@ -68,7 +93,8 @@ read_seen s room buffer device a old new c d f f' q q' w k is_open fits gives fa
       sink_faults = refl;
     })
 
-pub first_seen : (result : ReadStep) (room : ℕ) (buffer : List ℕ) (device : Option (List ℕ)) (a : Asked) (s : Stand) (c : Option Stream) (f q : ℕ) (w w' : Option (List ℕ)) (k k' : ℕ) (new : Upward)
+pub first_seen : (result : ReadStep) (room : ℕ) (buffer : List ℕ) (device : Option (List ℕ)) (a : Asked) (s : Stand)
+    → (c : Option Stream) (f q : ℕ) (w w' : Option (List ℕ)) (k k' : ℕ) (new : Upward)
     → head_by a s.stage ≡ heads.Start → s ≡ fresh
     → Goes (Appends (request device)) w w' → k ≤ k'
     → DoesRead result room buffer (seen device askings.Whole s c f q w' k') new
@@ -88,7 +114,8 @@ first_seen result room buffer device a s c f q w w' k k' new start is written mo
     })
     d
 
-pub unsent_seen : (room : ℕ) (buffer : List ℕ) (device : Option (List ℕ)) (a : Asked) (s : Stand) (c : Option Stream) (f q : ℕ) (w w' : Option (List ℕ)) (k k' : ℕ)
+pub unsent_seen : (room : ℕ) (buffer : List ℕ) (device : Option (List ℕ)) (a : Asked) (s : Stand)
+    → (c : Option Stream) (f q : ℕ) (w w' : Option (List ℕ)) (k k' : ℕ)
     → head_by a s.stage ≡ heads.Start
     → Goes (AppendsPart (request device)) w w' → k ≤ k' → Rose k k'
     → DoesRead answers.Failed room buffer (seen device a s c f q w k) (seen device askings.Unsent s c f q w' k')

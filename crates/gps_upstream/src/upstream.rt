@@ -1,8 +1,10 @@
-ghost use Rattle.std.specs.Prelude.{◌≡◌, ◌<◌, length};
+ghost use Rattle.std.specs.Prelude.{◌≡◌, ◌<◌, ℕ, List, [], length, Some};
+ghost use Rattle.gps_outside.specs.Links.{IsUnread};
 ghost use Rattle.upstream_laws.specs.declared.stage.Stage.{Stage};
+ghost use Rattle.upstream_laws.specs.Head.{behind, fresh};
 ghost use Rattle.gps_upstream.specs.declared.head.Head.{Head};
 ghost use Rattle.gps_upstream.specs.Calls.{DoesRead};
-ghost use Rattle.gps_upstream.specs.Upward.{IsOpen, StandsBy, head_at, opened};
+ghost use Rattle.gps_upstream.specs.Upward.{IsOpen, StandsBy, content_of, faults_of, head_at, opened};
 
 use crate::Head;
 use crate::asking::ask;
@@ -59,9 +61,13 @@ fn head_at(stage: Stage) -> Head
 }
 
 impl<S: Source, K: Sink> Upstream<S, K> {
-    /// Takes no memory and writes nothing.
+    /// Over a new connection nothing was taken from it. Takes no memory and writes nothing.
     pub fn new(source: S, sink: K, device: Option<Name>) -> Upstream<S, K>
-        ensures { result ≡ opened device (S.content source) (S.faults source) (S.quiets source) (K.written sink) (K.faults sink) }
+        ensures opened { result ≡ opened device (S.content source) (S.faults source) (S.quiets source) (K.written sink) (K.faults sink) }
+        ensures told { (left : List ℕ) → S.content source ≡ Some (record { taken = []; left = left })
+            → content_of result ≡ Some (record { taken = []; left = behind fresh left }) }
+        ensures unread { IsUnread (S.content source) (S.faults source) (S.quiets source) → K.faults sink ≡ 0
+            → IsUnread (content_of result) (faults_of result) result.quiets }
     {
         Upstream {
             source,
@@ -109,12 +115,11 @@ impl<S: Source, K: Sink> Upstream<S, K> {
 }
 
 impl<S: Source, K: Sink> Source for Upstream<S, K> {
-    ghost use Rattle.std.specs.Prelude.{◌≤◌, List, ℕ};
+    ghost use Rattle.std.specs.Prelude.{◌≤◌};
     ghost use Rattle.gps_outside.specs.declared.source.ReadStep.{ReadStep};
     ghost use Rattle.gps_outside.specs.Counts.{Rose};
     ghost use Rattle.gps_outside.specs.Reads.{FitsBuffer, Reads};
     ghost use Rattle.gps_upstream.specs.Calls.{Asks, IsGiven, IfGot, HasFault, HasEnded, HandsOn};
-    ghost use Rattle.gps_upstream.specs.Upward.{content_of, faults_of};
 
     ghost faults = { λ u. faults_of u };
 

@@ -70,6 +70,8 @@ REFUSED = [
     ("serve gps0=file:", "gps0=file:: the path is missing"),
     ("serve gps0=tcp:host", "say gps0=tcp:HOST:PORT"),
     ("serve gps0=tcp:host:65536", "say gps0=tcp:HOST:PORT"),
+    ("serve gpsd:localhost:2947", "gpsd:localhost:2947: say NAME=gpsd:localhost:2947"),
+    ("serve gps0=gpsd:host", "say gps0=gpsd:HOST:PORT"),
     ("serve =file:a", "a name has 1 to 64 printable ASCII characters"),
     ("serve gps\"0=file:a", "a name has 1 to 64 printable ASCII characters"),
     ("serve gps0=file:a gps0=tcp:b:1", "the name gps0 stands twice"),
@@ -83,7 +85,8 @@ REFUSED = [
 HELP = ["", "help", "-h", "--help", "decode --help", "serve -h", "serve --help g=file:a", "generate --seed 1 --help"]
 HELP_SAYS = ["serve", "decode", "pseudo", "lines", "replay", "generate", "--listen HOST:PORT", "127.0.0.1:2947", "--queue N", "1 to 65536",
              "--history N", "1 to 33554432", "16777216", "--wait N", "0 to 64", "--monitor N", "0 to 1000000", "--seed N", "0 to 4294967295",
-             "--size N", "1 to 10000", "NAME=file:PATH", "NAME=tcp:HOST:PORT", "NAME=edges:PATH"]
+             "--size N", "1 to 10000", "NAME=file:PATH", "NAME=tcp:HOST:PORT", "NAME=gpsd:HOST:PORT",
+             "NAME=edges:PATH"]
 
 VERSION = ["version", "--version"]
 

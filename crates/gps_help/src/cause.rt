@@ -38,11 +38,11 @@ pub enum DeviceCause {
     NoName,
     /// The name is none: 1 to 64 printable ASCII characters without the space, `"`, `\` and `=`.
     BadName,
-    /// What stands behind `NAME=` is neither `file:`, `tcp:` nor `edges:`.
+    /// What stands behind `NAME=` is neither `file:`, `tcp:`, `gpsd:` nor `edges:`.
     NoSuchKind,
     /// The path is empty.
     NoPath,
-    /// What stands behind `tcp:` is no `HOST:PORT`.
+    /// What stands behind `tcp:` or `gpsd:` is no `HOST:PORT`.
     BadAddress,
     /// Another word says where the bytes of this name come from.
     NameTwice,

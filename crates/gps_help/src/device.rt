@@ -45,7 +45,11 @@ fn place_cause(place: &str) -> Option<DeviceCause> {
     if let Some(path) = place.strip_prefix("edges:") {
         return path.is_empty().then_some(DeviceCause::NoPath);
     }
-    match place.strip_prefix("tcp:") {
+    let address = match place.strip_prefix("tcp:") {
+        Some(address) => Some(address),
+        None => place.strip_prefix("gpsd:"),
+    };
+    match address {
         Some(address) => (!is_address(address.as_bytes())).then_some(DeviceCause::BadAddress),
         None => Some(DeviceCause::NoSuchKind),
     }

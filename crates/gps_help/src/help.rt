@@ -25,6 +25,7 @@ options of serve:
 words of serve, 1 to 16 of at most 8 devices:
   NAME=file:PATH       a receiver at a file, a FIFO or a terminal (set it raw first: stty -F PATH raw -echo)
   NAME=tcp:HOST:PORT   a receiver behind TCP
+  NAME=gpsd:HOST:PORT  another daemon, gpsd or gpsrelay: the packets of its devices
   NAME=edges:PATH      the pulse edges of the device NAME, behind its own word
 
 options of the other commands:

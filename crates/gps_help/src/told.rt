@@ -98,10 +98,19 @@ impl Told<'_> {
         }
     }
 
+    /// The kind of a word with an address.
+    fn kind(&self) -> &'static str {
+        match self.word.split_once('=') {
+            Some((_, place)) if place.starts_with("gpsd:") => "gpsd",
+            _ => "tcp",
+        }
+    }
+
     fn write_no_name<W: fmt::Write>(&self, f: &mut fmt::Formatter<W>) -> fmt::Result {
         let word = self.word;
         let has_kind = word.starts_with("file:")
             || word.starts_with("tcp:")
+            || word.starts_with("gpsd:")
             || word.starts_with("edges:");
         if has_kind {
             write!(f, "{}: say NAME={}", word, word)
@@ -122,8 +131,8 @@ impl Told<'_> {
         } else {
             write!(
                 f,
-                "{}: say {}=file:PATH, {}=tcp:HOST:PORT or {}=edges:PATH",
-                self.word, name, name, name
+                "{}: say {}=file:PATH, {}=tcp:HOST:PORT, {}=gpsd:HOST:PORT or {}=edges:PATH",
+                self.word, name, name, name, name
             )
         }
     }
@@ -145,10 +154,11 @@ impl Told<'_> {
             DeviceCause::NoSuchKind => self.write_no_kind(f),
             DeviceCause::NoPath => write!(f, "{}: the path is missing", word),
             DeviceCause::BadAddress => {
+                let kind = self.kind();
                 write!(
                     f,
-                    "{}: say {}=tcp:HOST:PORT, with a port from 0 to 65535",
-                    word, name
+                    "{}: say {}={}:HOST:PORT, with a port from 0 to 65535",
+                    word, name, kind
                 )
             }
             DeviceCause::NameTwice => write!(f, "{}: the name {} stands twice", word, name),
@@ -162,8 +172,8 @@ impl Told<'_> {
             }
             DeviceCause::EdgesAlone => write!(
                 f,
-                "{}: the device {} is missing: say {}=file:PATH or {}=tcp:HOST:PORT before its edges",
-                word, name, name, name
+                "{}: the device {} is missing: say {}=file:PATH, {}=tcp:HOST:PORT or {}=gpsd:HOST:PORT before its edges",
+                word, name, name, name, name
             ),
             DeviceCause::TooMany => write!(f, "{}: at most 8 devices are served", word),
         }

@@ -14,7 +14,7 @@ use Rattle.gps_words.specs.Replay.{replay_in}
 use Rattle.gps_words.specs.Serve.{Serve, numbers_in, serve_asked_of, serve_in}
 use Rattle.gps_words.specs.declared.command.Command.{Command}
 use Rattle.gps_words.specs.declared.command.Command.TheVariants.{Decode, Generate, Lines, Replay}
-use Rattle.gps_words.specs.declared.device.Input.TheVariants.{File, Tcp}
+use Rattle.gps_words.specs.declared.device.Input.TheVariants.{File, Tcp, Gpsd}
 use Rattle.gps_words.specs.declared.serve.ServeNumbers.{ServeNumbers}
 
 abbrev decode_with : List Text → Option Command
@@ -137,6 +137,14 @@ one_device : served (codes "g=file:x" ∷ []) ≡ Some (record {
 })
 unfolding clap_on_literals serve_on_literals
 one_device = refl
+
+another_daemon : served (codes "g=gpsd:h:2947" ∷ []) ≡ Some (record {
+  devices = record { names = codes "g" ∷ []; inputs = Gpsd (codes "h:2947") ∷ []; edges = None ∷ [] };
+  listen = codes "127.0.0.1:2947";
+  numbers = defaults;
+})
+unfolding clap_on_literals serve_on_literals
+another_daemon = refl
 
 words_among_options : served (codes "b=tcp:[::1]:80" ∷ codes "--wait" ∷ codes "3" ∷ codes "a=file:=:" ∷ codes "b=edges:y" ∷ codes "--listen=h:65535" ∷ []) ≡ Some (record {
   devices = record { names = codes "b" ∷ codes "a" ∷ []; inputs = Tcp (codes "[::1]:80") ∷ File (codes "=:") ∷ []; edges = Some (codes "y") ∷ None ∷ [] };

@@ -6,7 +6,7 @@ use Rattle.std.specs.Str.{bytes_eq}
 use Rattle.gps_fixed.specs.Scaled.{whole_of}
 use Rattle.gps_report.specs.Name.{are_names, is_name}
 use Rattle.gps_words.specs.declared.device.Input.{Input}
-use Rattle.gps_words.specs.declared.device.Input.TheVariants.{File, Tcp}
+use Rattle.gps_words.specs.declared.device.Input.TheVariants.{File, Tcp, Gpsd}
 use Rattle.gps_words.specs.declared.device.Target.{Target}
 use Rattle.gps_words.specs.declared.device.Target.TheVariants.{Device, Edges}
 use Rattle.gps_words.specs.declared.device.DeviceWord.{DeviceWord}
@@ -53,10 +53,11 @@ unfoldable pub target_of : List ℕ → List ℕ → Option Target
 target_of kind text =
     if bytes_eq kind (codes "file") then option_map (λ path. Device (File path)) (path_in text)
     else (if bytes_eq kind (codes "tcp") then option_map (λ address. Device (Tcp address)) (address_in text)
+    else (if bytes_eq kind (codes "gpsd") then option_map (λ address. Device (Gpsd address)) (address_in text)
     else (if bytes_eq kind (codes "edges") then option_map (λ path. Edges path) (path_in text)
-    else None))
+    else None)))
 
--- `file:PATH`, `tcp:HOST:PORT` or `edges:PATH`
+-- `file:PATH`, `tcp:HOST:PORT`, `gpsd:HOST:PORT` or `edges:PATH`
 unfoldable pub target_in : List ℕ → Option Target
 target_in text = option_and_then (λ p. target_of p.0 p.1) (halves 58 text)
 

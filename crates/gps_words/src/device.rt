@@ -12,6 +12,8 @@ pub enum Input {
     File(Bytes),
     /// `HOST:PORT`.
     Tcp(Bytes),
+    /// The `HOST:PORT` of another daemon.
+    Gpsd(Bytes),
 }
 
 /// What a device word says of its name.
@@ -22,7 +24,7 @@ pub(crate) enum Target {
     Edges(Bytes),
 }
 
-/// A device word: `NAME=file:PATH`, `NAME=tcp:HOST:PORT` or `NAME=edges:PATH`.
+/// A device word: `NAME=file:PATH`, `NAME=tcp:HOST:PORT`, `NAME=gpsd:HOST:PORT` or `NAME=edges:PATH`.
 #[derive(Debug, Drop)]
 pub(crate) struct DeviceWord {
     pub(crate) name: Name,
@@ -106,7 +108,7 @@ fn address(alloc: Global, text: &[u8]) -> Result<Option<Bytes>, NoMemory>
     Ok(Some(address))
 }
 
-/// What a word of this kind says: a file, a connection, or a file with edges. All else, `gpsd` among it, is refused.
+/// What a word of this kind says: a file, a connection, another daemon, or a file with edges. All else is refused.
 #[tactic(auto, unfolding(crate::specs::Devices::target_of))]
 fn target_of(alloc: Global, kind: &[u8], text: &[u8]) -> Result<Option<Target>, NoMemory>
     ensures { IfOk result (λ target. target ≡ target_of kind.now text.now) }
@@ -117,6 +119,9 @@ fn target_of(alloc: Global, kind: &[u8], text: &[u8]) -> Result<Option<Target>, 
     } else if kind == b"tcp".as_slice() {
         let address = address(alloc, text)?;
         Ok(address.map(|address| Target::Device(Input::Tcp(address))))
+    } else if kind == b"gpsd".as_slice() {
+        let address = address(alloc, text)?;
+        Ok(address.map(|address| Target::Device(Input::Gpsd(address))))
     } else if kind == b"edges".as_slice() {
         let path = path(alloc, text)?;
         Ok(path.map(|path| Target::Edges(path)))

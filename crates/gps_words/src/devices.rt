@@ -131,6 +131,10 @@ impl Input {
                 let address = address.copy()?;
                 Ok(Input::Tcp(address))
             }
+            Input::Gpsd(address) => {
+                let address = address.copy()?;
+                Ok(Input::Gpsd(address))
+            }
         }
     }
 }

@@ -4,13 +4,19 @@
 #![tactic(auto)]
 
 mod asked;
+mod daemon;
 mod memory_world;
 mod place;
+mod real_gate;
+mod real_input;
 mod real_world;
 mod world;
 
 pub use asked::Asked;
+pub use daemon::DaemonFault;
 pub use memory_world::MemoryWorld;
 pub use place::Place;
+pub use real_gate::RealGate;
+pub use real_input::RealInput;
 pub use real_world::RealWorld;
 pub use world::{Opened, World};

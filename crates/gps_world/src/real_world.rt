@@ -1,7 +1,7 @@
 ghost use Rattle.std.specs.Prelude.{◌≡◌, IfOk};
 ghost use Rattle.gps_world.specs.Asking.{asked_nothing};
 
-use crate::{Asked, Opened, Place, World};
+use crate::{Asked, Opened, Place, RealGate, RealInput, World};
 use gps_fixed::Bytes;
 use gps_outside::{RealClock, RealDoor, RealSink, RealSource};
 use std::alloc::Global;
@@ -91,11 +91,11 @@ impl<R: Net<Listener = TcpListener, Stream = TcpStream> + time::Clock + Copy> Re
         Ok(RealSource::of_host(self.machine, copy_of(address)?))
     }
 
-    fn bind(&self, address: &Bytes) -> io::Result<RealDoor<R>>
-        ensures { IfOk result (λ door. door ≡ record { faults = 0; quiets = 0 }) }
+    fn bind(&self, address: &Bytes) -> io::Result<RealGate<R>>
+        ensures { IfOk result (λ gate. gate ≡ record { faults = 0; quiets = 0 }) }
     {
         let listener = TcpListener::bind(&self.machine, text_of(address)?)?;
-        RealDoor::of_listener(self.machine, listener)
+        Ok(RealGate::new(RealDoor::of_listener(self.machine, listener)?))
     }
 }
 
@@ -103,6 +103,21 @@ impl<R> RealWorld<R> {
     /// Why the last input that could not be opened failed, or else the listening.
     pub fn fault(&self) -> Option<io::Error> {
         self.fault
+    }
+}
+
+impl<R> RealWorld<R>
+where
+    R: Files<File = File> + Net<Listener = TcpListener, Stream = TcpStream> + time::Clock + Copy,
+{
+    fn open(&self, place: &Place) -> io::Result<RealInput<R>>
+        ensures { IfOk result (λ input. input ≡ record { faults = 0; quiets = 0 }) }
+    {
+        match place {
+            Place::File(path) => Ok(RealInput::of_source(self.open_file(path)?)),
+            Place::Tcp(address) => Ok(RealInput::of_source(self.host(address)?)),
+            Place::Gpsd(address) => Ok(RealInput::of_daemon(self.machine, copy_of(address)?)),
+        }
     }
 }
 
@@ -116,13 +131,13 @@ where
 {
     ghost use Rattle.std.specs.Prelude.{None};
 
-    type In = RealSource<R>;
+    type In = RealInput<R>;
 
     type Out = RealSink;
 
     type Now = RealClock<R>;
 
-    type Gate = RealDoor<R>;
+    type Gate = RealGate<R>;
 
     ghost input_faults = { λ s. s.input_faults };
 
@@ -136,13 +151,8 @@ where
 
     ghost stamps = { λ _. None };
 
-    fn input(&mut self, place: Place) -> Opened<RealSource<R>> {
-        let source = match &place {
-            Place::File(path) => self.open_file(path),
-            Place::Tcp(address) => self.host(address),
-            // Another daemon cannot be asked yet.
-            Place::Gpsd(_) => Err(io::Error::from(ErrorKind::Unsupported)),
-        };
+    fn input(&mut self, place: Place) -> Opened<RealInput<R>> {
+        let source = self.open(&place);
         self.asked.add(place);
         match source {
             Ok(source) => Opened::Ready(source),
@@ -154,7 +164,7 @@ where
         }
     }
 
-    fn listen(&mut self, address: Bytes) -> Opened<RealDoor<R>> {
+    fn listen(&mut self, address: Bytes) -> Opened<RealGate<R>> {
         let door = self.bind(&address);
         self.asked.set_address(address);
         match door {

@@ -15,6 +15,7 @@ use Rattle.serve_opening.specs.Opening.{AsksAll, AsksSome, GivenOnce, places_in}
 abbrev pub place_of : Input → Place
 place_of (input.File path) = place.File path
 place_of (input.Tcp address) = place.Tcp address
+place_of (input.Gpsd address) = place.Gpsd address
 
 abbrev pub edge_place_of : Option (List ℕ) → Option Place
 edge_place_of None = None

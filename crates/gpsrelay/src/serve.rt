@@ -30,6 +30,7 @@ fn place_of(input: Input) -> Place
     match input {
         Input::File(path) => Place::File(path),
         Input::Tcp(address) => Place::Tcp(address),
+        Input::Gpsd(address) => Place::Gpsd(address),
     }
 }
 

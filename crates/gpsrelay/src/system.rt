@@ -2,6 +2,7 @@
 
 use crate::place_text::text_of;
 use gps_fixed::Bytes;
+use gps_world::DaemonFault;
 use std::fmt;
 use std::fs::{self, File, FileType};
 use std::io::{self, ErrorKind, IsTerminal};
@@ -38,6 +39,34 @@ impl fmt::Display for Reason {
                 f.write_str(": address not available; this machine has no such address")
             }
             Some(kind) => write!(f, ": {}", kind),
+        }
+    }
+}
+
+/// Why another daemon failed.
+#[derive(Clone, Copy)]
+pub struct DaemonReason(pub DaemonFault);
+
+impl fmt::Display for DaemonReason {
+    fn fmt<W: fmt::Write>(&self, f: &mut fmt::Formatter<W>) -> fmt::Result {
+        match self.0 {
+            DaemonFault::Unreached(error) => {
+                let kind = error.kind();
+                match kind {
+                    ErrorKind::InvalidInput => f.write_str("no such address"),
+                    ErrorKind::WouldBlock | ErrorKind::TimedOut => {
+                        f.write_str("no answer within 5 seconds")
+                    }
+                    _ => write!(f, "{}", kind),
+                }
+            }
+            DaemonFault::Unsent => f.write_str("the request could not be sent"),
+            DaemonFault::NoDaemon => f.write_str("what answers there is not gpsd nor gpsrelay"),
+            DaemonFault::ClosedEarly => {
+                f.write_str("the connection ended before its answer was whole")
+            }
+            DaemonFault::TooLate => f.write_str("its answer was not whole within 10 seconds"),
+            DaemonFault::Broken => f.write_str("the connection broke"),
         }
     }
 }

@@ -1,7 +1,8 @@
 ghost use Rattle.std.specs.Prelude.{◌≡◌};
 
 use crate::telling_source::{TellingSource, Ticket};
-use gps_outside::{Closer, Door, DoorStep, RealDoor, RealSink, RealSource};
+use gps_outside::{Closer, Door, DoorStep, RealSink};
+use gps_world::{RealGate, RealInput};
 use std::alloc::Global;
 use std::fs::File;
 use std::io::Eprint;
@@ -27,7 +28,7 @@ const PAUSE: u64 = 60;
 #[derive(Drop)]
 pub struct TellingDoor<R> {
     rt: R,
-    door: RealDoor<R>,
+    door: RealGate<R>,
     /// Whether a link was dropped that was not read; missing where there was no memory for it.
     dropped: Option<Arc<AtomicBool>>,
     /// Whether a link was given since the last call.
@@ -37,7 +38,7 @@ pub struct TellingDoor<R> {
 }
 
 impl<R> TellingDoor<R> {
-    pub fn new(alloc: Global, rt: R, door: RealDoor<R>) -> TellingDoor<R>
+    pub fn new(alloc: Global, rt: R, door: RealGate<R>) -> TellingDoor<R>
         ensures { result.door ≡ door }
     {
         let dropped = match Arc::new(alloc, AtomicBool::new(false)) {
@@ -136,8 +137,10 @@ impl<R: Eprint + time::Clock + Copy> TellingDoor<R> {
             "gpsrelay: the door failed: no further client is served; start the daemon anew"
         );
     }
+}
 
-    fn link(&mut self, source: RealSource<R>) -> TellingSource<R>
+impl<R: Eprint + Files<File = File> + Net<Stream = TcpStream> + time::Clock + Copy> TellingDoor<R> {
+    fn link(&mut self, source: RealInput<R>) -> TellingSource<R>
         ensures door { self.new.door ≡ self.old.door }
         ensures source { result.source ≡ source }
     {
@@ -148,7 +151,7 @@ impl<R: Eprint + time::Clock + Copy> TellingDoor<R> {
 
 impl<R> Door for TellingDoor<R>
 where
-    R: Eprint + Files<File = File> + Net<Stream = TcpStream> + time::Clock + Copy + Drop,
+    R: Eprint + Files<File = File> + Net<Stream = TcpStream> + time::Clock + Copy,
 {
     ghost use Rattle.std.specs.Prelude.{None};
 

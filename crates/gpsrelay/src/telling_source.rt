@@ -1,9 +1,9 @@
 ghost use Rattle.std.specs.Prelude.{◌≡◌};
 
 use crate::place_text::PlaceText;
-use crate::system::Reason;
-use gps_outside::{Awaited, ReadStep, RealSource, Source};
-use gps_world::Place;
+use crate::system::{DaemonReason, Reason};
+use gps_outside::{Awaited, ReadStep, Source};
+use gps_world::{Place, RealInput};
 use std::fs::File;
 use std::io::Eprint;
 use std::net::{Net, TcpStream};
@@ -53,16 +53,16 @@ struct Subject {
 /// A source that says, of a device, when it ends or fails, once, and when it is silent for a minute and speaks again. That of a link says
 /// nothing.
 #[derive(Drop)]
-pub struct TellingSource<R> {
+pub struct TellingSource<R: Files<File = File> + Net<Stream = TcpStream> + time::Clock + Copy> {
     rt: R,
-    source: RealSource<R>,
+    source: RealInput<R>,
     subject: Option<Subject>,
     ticket: Option<Ticket>,
 }
 
-impl<R> TellingSource<R> {
+impl<R: Files<File = File> + Net<Stream = TcpStream> + time::Clock + Copy> TellingSource<R> {
     /// The source of a device.
-    pub fn of_device(rt: R, source: RealSource<R>, place: Option<Place>) -> TellingSource<R>
+    pub fn of_device(rt: R, source: RealInput<R>, place: Option<Place>) -> TellingSource<R>
         ensures { result.source ≡ source }
     {
         let subject = match place {
@@ -83,7 +83,7 @@ impl<R> TellingSource<R> {
     }
 
     /// The source of a link.
-    pub fn of_link(rt: R, source: RealSource<R>, ticket: Option<Ticket>) -> TellingSource<R>
+    pub fn of_link(rt: R, source: RealInput<R>, ticket: Option<Ticket>) -> TellingSource<R>
         ensures { result.source ≡ source }
     {
         TellingSource {
@@ -95,7 +95,9 @@ impl<R> TellingSource<R> {
     }
 }
 
-impl<R: Eprint + time::Clock> TellingSource<R> {
+impl<R: Eprint + Files<File = File> + Net<Stream = TcpStream> + time::Clock + Copy> TellingSource<
+    R,
+> {
     /// Bytes came.
     fn heard(&mut self)
         ensures { self.new.source ≡ self.old.source }
@@ -149,6 +151,11 @@ impl<R: Eprint + time::Clock> TellingSource<R> {
     {
         if let Some(subject) = self.subject.take() {
             let place = PlaceText(&subject.place);
+            if let Some(fault) = self.source.daemon_fault() {
+                let reason = DaemonReason(fault);
+                let _ = eprintln!(self.rt; "gpsrelay: {place} failed: {reason}");
+                return;
+            }
             let reason = Reason::of(self.source.fault());
             let _ = if subject.has_come {
                 eprintln!(self.rt;
@@ -184,7 +191,7 @@ impl<R: Eprint + time::Clock> TellingSource<R> {
 
 impl<R> Source for TellingSource<R>
 where
-    R: Eprint + Files<File = File> + Net<Stream = TcpStream> + time::Clock + Drop,
+    R: Eprint + Files<File = File> + Net<Stream = TcpStream> + time::Clock + Copy,
 {
     ghost use Rattle.std.specs.Prelude.{None};
 

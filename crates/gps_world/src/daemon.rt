@@ -1,0 +1,213 @@
+ghost use Rattle.std.specs.Prelude.{◌<◌, length, IfOk};
+ghost use Rattle.gps_outside.specs.Reads.{FitsBuffer};
+
+use gps_fixed::Bytes;
+use gps_outside::{ReadStep, RealSink, RealSource, Source, connect};
+use gps_upstream::{Head, Upstream};
+use std::fs::File;
+use std::io::{self, ErrorKind};
+use std::net::{Net, TcpStream};
+use std::rt::Files;
+use std::str;
+use std::time::{Clock, Duration};
+
+/// How many seconds after it was connected the head of a daemon must have ended.
+const HEAD_WAIT: u64 = 10;
+
+/// How many seconds a read inside the head waits for bytes, and the request for room.
+const TICK: u64 = 1;
+
+/// How many seconds a read behind the head waits for bytes.
+const PACKETS_WAIT: u64 = 60;
+
+/// Why another daemon gives no more packets.
+#[derive(Clone, Copy, Debug)]
+pub enum DaemonFault {
+    /// No connection to it came about.
+    Unreached(io::Error),
+    /// The request for packets could not be written.
+    Unsent,
+    /// What it sent is not the answer of such a daemon.
+    NoDaemon,
+    /// The connection ended before its answer was whole.
+    ClosedEarly,
+    /// Its answer was not whole within ten seconds.
+    TooLate,
+    /// The connection broke behind its answer.
+    Broken,
+}
+
+/// A connection to a daemon.
+#[derive(Drop)]
+struct Connection<R: Files<File = File> + Net<Stream = TcpStream> + Clock + Copy> {
+    upstream: Upstream<RealSource<R>, RealSink>,
+    /// The same connection, for its time-out.
+    stream: TcpStream,
+    /// When it was connected; none once the head has ended.
+    since: Option<Duration>,
+}
+
+#[derive(Drop)]
+enum State<R: Files<File = File> + Net<Stream = TcpStream> + Clock + Copy> {
+    /// The first read connects to this HOST:PORT.
+    Waiting(Bytes),
+    Open(Connection<R>),
+    Ended,
+    Broken(DaemonFault),
+}
+
+/// The packets of another daemon, over one TCP connection.
+///
+/// Its first read connects, as that of a host, and asks for the packets of all devices of the daemon. What the daemon answers
+/// before the packets must be whole ten seconds later; silence behind it is no fault. After its end it stays ended, and after a
+/// fault each read is a fault.
+#[derive(Drop)]
+pub(crate) struct Daemon<R: Files<File = File> + Net<Stream = TcpStream> + Clock + Copy> {
+    machine: R,
+    state: State<R>,
+}
+
+fn text_of(bytes: &Bytes) -> io::Result<&str> {
+    match str::from_utf8(bytes.as_slice()) {
+        Ok(text) => Ok(text),
+        Err(_) => Err(io::Error::from(ErrorKind::InvalidInput)),
+    }
+}
+
+fn connection_to<R: Files<File = File> + Net<Stream = TcpStream> + Clock + Copy>(
+    machine: R,
+    address: &Bytes,
+) -> io::Result<Connection<R>> {
+    let stream = connect(&machine, text_of(address)?)?;
+    stream.set_read_timeout(Some(Duration::from_secs(TICK)))?;
+    stream.set_write_timeout(Some(Duration::from_secs(TICK)))?;
+    let source = RealSource::of_stream(machine, stream.try_clone()?);
+    let sink = RealSink::of_stream(stream.try_clone()?);
+    let since = machine.monotonic()?;
+    Ok(Connection {
+        upstream: Upstream::new(source, sink, None),
+        stream,
+        since: Some(since),
+    })
+}
+
+impl<R: Files<File = File> + Net<Stream = TcpStream> + Clock + Copy> Connection<R> {
+    /// Whether the head has not ended in time.
+    fn is_late(&self, machine: &R) -> bool {
+        let Some(since) = self.since else {
+            return false;
+        };
+        match machine.monotonic() {
+            Ok(now) => now.saturating_sub(since).as_secs() >= HEAD_WAIT,
+            Err(_) => true,
+        }
+    }
+
+    /// The head has ended: a read may wait longer.
+    fn head_ended(&mut self) {
+        if self.since.take().is_some() {
+            let _ = self
+                .stream
+                .set_read_timeout(Some(Duration::from_secs(PACKETS_WAIT)));
+        }
+    }
+
+    /// Why a read failed.
+    fn cause(&self) -> DaemonFault {
+        match self.upstream.head() {
+            Head::Unsent => DaemonFault::Unsent,
+            Head::Bad => DaemonFault::NoDaemon,
+            Head::Start | Head::Reading => DaemonFault::ClosedEarly,
+            Head::Done => DaemonFault::Broken,
+        }
+    }
+
+    /// Reads once, and looks whether the head has ended.
+    fn read(&mut self, machine: &R, buf: &mut [u8]) -> Result<ReadStep, DaemonFault>
+        requires { 0 < length buf.old }
+        ensures { IfOk result (λ step. FitsBuffer step (length buf.old)) }
+    {
+        let step = self.upstream.read(buf);
+        if let Head::Done = self.upstream.head() {
+            self.head_ended();
+        }
+        match step {
+            ReadStep::Failed => Err(self.cause()),
+            ReadStep::End if self.since.is_some() => Err(DaemonFault::ClosedEarly),
+            ReadStep::Quiet if self.is_late(machine) => Err(DaemonFault::TooLate),
+            step => Ok(step),
+        }
+    }
+}
+
+impl<R: Files<File = File> + Net<Stream = TcpStream> + Clock + Copy> Daemon<R> {
+    /// The daemon at this HOST:PORT. Its first read connects.
+    pub(crate) fn new(machine: R, address: Bytes) -> Daemon<R> {
+        Daemon {
+            machine,
+            state: State::Waiting(address),
+        }
+    }
+
+    /// Connects, where that was not done yet.
+    fn open(&mut self) -> Result<(), DaemonFault> {
+        if let State::Waiting(address) = &self.state {
+            match connection_to(self.machine, address) {
+                Ok(connection) => self.state = State::Open(connection),
+                Err(error) => return Err(DaemonFault::Unreached(error)),
+            }
+        }
+        Ok(())
+    }
+
+    fn read_open(&mut self, buf: &mut [u8]) -> Result<ReadStep, DaemonFault>
+        requires { 0 < length buf.old }
+        ensures { IfOk result (λ step. FitsBuffer step (length buf.old)) }
+    {
+        self.open()?;
+        match &mut self.state {
+            State::Open(connection) => connection.read(&self.machine, buf),
+            State::Waiting(_) | State::Ended => Ok(ReadStep::End),
+            State::Broken(fault) => Err(*fault),
+        }
+    }
+
+    /// Takes the next packets, as a source does.
+    pub(crate) fn read(&mut self, buf: &mut [u8]) -> ReadStep
+        requires { 0 < length buf.old }
+        ensures { FitsBuffer result (length buf.old) }
+    {
+        match self.read_open(buf) {
+            Ok(step) => {
+                if let ReadStep::End = step {
+                    self.state = State::Ended;
+                }
+                step
+            }
+            Err(fault) => {
+                self.state = State::Broken(fault);
+                ReadStep::Failed
+            }
+        }
+    }
+}
+
+impl<R: Files<File = File> + Net<Stream = TcpStream> + Clock + Copy> Daemon<R> {
+    /// Closes the connection.
+    pub(crate) fn finish(&mut self) {
+        self.state = State::Ended;
+    }
+
+    /// Whether its next read connects.
+    pub(crate) fn is_waiting(&self) -> bool {
+        matches!(self.state, State::Waiting(_))
+    }
+
+    /// Why it failed, after a fault.
+    pub(crate) fn fault(&self) -> Option<DaemonFault> {
+        match self.state {
+            State::Broken(fault) => Some(fault),
+            _ => None,
+        }
+    }
+}

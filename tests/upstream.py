@@ -1,0 +1,243 @@
+#!/usr/bin/env python3
+"""Runs the built daemon behind other daemons, `NAME=gpsd:HOST:PORT`, and checks what its clients get and what it says.
+
+Use: upstream.py PROGRAM. Two daemons in a chain; a chain of three whose middle one is killed; a tree of one root, eight daemons and
+sixty-four clients; gpsd before and behind, if it is installed; and small servers that are no daemon, or stop too early. Exits with 1 if
+a check failed.
+"""
+import json
+import os
+import shutil
+import socket
+import sys
+import threading
+import time
+
+from harness import *
+
+PROGRAM = os.path.abspath(sys.argv[1])
+GPSD = shutil.which("gpsd") or shutil.which("gpsd", path="/usr/sbin")
+SECONDS = 20
+HEAD_WAIT = 10  # seconds that the answer of a daemon may take
+MOST = 1_048_576  # bytes of the longest answer
+DEVICES = b'{"class":"DEVICES","devices":[]}\r\n'
+
+
+def behind(port, name="up", **more):
+    """A daemon whose device is the daemon at this port."""
+    return Daemon(PROGRAM, *more.pop("words", []), f"{name}=gpsd:127.0.0.1:{port}", **more)
+
+
+def reports(lines):
+    """The fixes and skies among these lines, without the device's name."""
+    found = []
+    for line in lines:
+        value = json.loads(line)
+        if value["class"] in ("TPV", "SKY"):
+            value.pop("device")
+            found.append(value)
+    return found
+
+
+def names(lines):
+    return {value["device"] for value in map(json.loads, lines) if value["class"] in ("TPV", "SKY")}
+
+
+def watch(daemon):
+    client = daemon.client()
+    client.watching()
+    return client
+
+
+def is_connected(daemon, port):
+    return until(lambda: f"connecting to gpsd:127.0.0.1:{port}" in daemon.said())
+
+
+def two_in_a_chain():
+    device = TcpDevice("gps0")
+    first = Daemon(PROGRAM, "--wait", "2", device.word)
+    one = watch(first)
+    second_daemon = behind(first.listening().port, words=["--wait", "1"])
+    two = watch(second_daemon)
+    device.take()
+    for t in range(SECONDS):
+        device.send(second(t))
+    device.end()
+    ones, twos = one.lines(), two.lines()
+    check("chain of two: the first has fixes", True, len(reports(ones)) >= SECONDS - 1)
+    check("chain of two: the second's fixes and skies are the first's", reports(ones), reports(twos))
+    check("chain of two: the names", ({"gps0"}, {"up"}), (names(ones), names(twos)))
+    check("chain of two: it says that it connects", True, is_connected(second_daemon, first.port))
+    check("chain of two: it says that its device has ended", True, f"gpsd:127.0.0.1:{first.port} has ended" in second_daemon.said())
+    check("chain of two: statuses", [0, 0], [it.wait()[0] for it in (first, second_daemon)])
+
+
+def middle_killed():
+    device, other = TcpDevice("gps0"), TcpDevice("own")
+    first = Daemon(PROGRAM, "--wait", "1", device.word)
+    middle = behind(first.listening().port)
+    last = behind(middle.listening().port, words=[other.word])
+    client = watch(last)
+    device.take(), other.take()
+    device.send(second(0) + second(1))
+    while client.object().get("device") != "up":
+        pass
+    middle.process.kill()
+    middle.wait()
+    place = f"gpsd:127.0.0.1:{middle.port}"
+    check("middle killed: the last says so", True, until(lambda: f"{place} has ended" in last.said() or f"{place} failed" in last.said()))
+    other.send(second(5) + second(6))
+    found = None
+    while found != "own":
+        found = client.object().get("device")
+    check("middle killed: its other device is served on", "own", found)
+    other.end()
+    client.lines()
+    status = last.wait()[0]
+    check("middle killed: the last ends", True, status in (0, 3))
+    device.end()
+    first.stop()
+
+
+def tree():
+    many_files()
+    device = TcpDevice("gps0")
+    root = Daemon(PROGRAM, "--wait", "9", device.word)
+    own = watch(root)
+    daemons = [behind(root.listening().port, words=["--wait", "8"]) for _ in range(8)]
+    clients = [watch(daemon) for daemon in daemons for _ in range(8)]
+    device.take()
+    for t in range(SECONDS):
+        device.send(second(t))
+    device.end()
+    wanted = reports(own.lines())
+    found = [reports(client.lines()) for client in clients]
+    check("tree: the root's client has fixes", True, len(wanted) >= SECONDS - 1)
+    check("tree: 64 streams are the same", 64, sum(each == wanted for each in found))
+    check("tree: statuses", [0] * 9, [it.wait()[0] for it in (root, *daemons)])
+
+
+def with_gpsd():
+    if GPSD is None:
+        print("left out: gpsd is not installed", flush=True)
+        return
+    device = TcpDevice("gps0")
+    up = Gpsd(GPSD, f"tcp://127.0.0.1:{device.port}")
+    down = behind(up.listening().port)
+    client = watch(down)
+    device.take()
+    stop = threading.Event()
+
+    def send():
+        t = 0
+        while not stop.is_set() and t < 200:
+            try:
+                device.send(second(t))
+            except OSError:
+                return
+            t += 1
+            stop.wait(0.05)
+
+    sender = threading.Thread(target=send)
+    sender.start()
+    value = {}
+    while value is not None and value.get("class") != "TPV":
+        value = client.object()
+    stop.set()
+    sender.join()
+    check("behind gpsd: a fix", ("up", 48.1173), (value["device"], round(value["lat"], 4)))
+    down.stop(), up.stop()
+
+    source = TcpDevice("gps0")
+    up = Daemon(PROGRAM, "--wait", "1", source.word)
+    down = Gpsd(GPSD, f"gpsd://127.0.0.1:{up.listening().port}")
+    client = down.client()
+    client.watching()
+    source.take()
+    value, t = {}, 0
+    while t < 100 and value.get("class") != "TPV":
+        source.send(second(t))
+        t += 1
+        if client.buffer or (got := client.receive(seconds=0.1)):
+            client.buffer += got if not client.buffer else b""
+            while b"\n" in client.buffer and value.get("class") != "TPV":
+                value = client.object()
+    check("gpsd behind gpsrelay: a fix", 48.1173, round(value.get("lat", 0), 4))
+    down.stop(), up.stop()
+
+
+class Fake:
+    """A server that sends these bytes to the first that connects, and then keeps the connection or closes it."""
+
+    def __init__(self, data=b"", keeps=True):
+        self.data, self.keeps = data, keeps
+        self.listener = socket.create_server(("127.0.0.1", 0))
+        self.listener.settimeout(WAIT)
+        self.port = self.listener.getsockname()[1]
+        self.asked, self.link = b"", None
+        self.thread = threading.Thread(target=self.serve, daemon=True)
+        self.thread.start()
+
+    def serve(self):
+        self.link, _ = self.listener.accept()
+        self.link.settimeout(WAIT)
+        try:
+            if self.keeps or self.data:
+                self.asked = self.link.recv(4096)
+            self.link.sendall(self.data)
+        except OSError:
+            pass  # the daemon may close before it has taken all
+        if not self.keeps:
+            self.link.close()
+
+
+def bad_head(title, wanted, seconds, port):
+    """A daemon behind what stands at this port loses that device with this message, and serves its other one on."""
+    other = TcpDevice("own")
+    begun = time.monotonic()
+    daemon = behind(port, words=[other.word])
+    client = watch(daemon)
+    other.take()
+    line = f"gpsrelay: gpsd:127.0.0.1:{port} failed: {wanted}\n"
+    until(lambda: "failed" in daemon.said(), seconds)
+    took = time.monotonic() - begun
+    check(f"{title}: the message", line, "".join(x + "\n" for x in daemon.said().split("\n") if "failed" in x))
+    within(f"{title}: seconds", took <= seconds, took)
+    other.send(second(0) + second(1))
+    value = {}
+    while value is not None and value.get("class") != "TPV":
+        value = client.object()
+    check(f"{title}: the other device is served on", "own", value and value["device"])
+    other.end()
+    client.lines()
+    check(f"{title}: status", 3, daemon.wait()[0])
+
+
+def refusals():
+    long = b'{"class":"DEVICES","devices":[' + b"x" * MOST
+    early = "the connection ended before its answer was whole"
+    none = "what answers there is not gpsd nor gpsrelay"
+    rows = [
+        ("silence", "its answer was not whole within 10 seconds", HEAD_WAIT + 2, Fake()),
+        ("half an answer", "its answer was not whole within 10 seconds", HEAD_WAIT + 2, Fake(VERSION + DEVICES)),
+        ("a bad third line", none, 4, Fake(VERSION + DEVICES + b"HTTP/1.1 400 Bad Request\r\n")),
+        ("closed in the answer", early, 4, Fake(VERSION + DEVICES[:20], keeps=False)),
+        ("a long answer", none, 4, Fake(VERSION + long)),
+        ("closed at once", early, 4, Fake(keeps=False)),
+    ]
+    threads = [threading.Thread(target=run_parts_of, args=(title, wanted, seconds, fake.port)) for title, wanted, seconds, fake in rows]
+    threads.append(threading.Thread(target=run_parts_of, args=("nobody listens", "connection refused", 4, free_port())))
+    for thread in threads:
+        thread.start()
+    for thread in threads:
+        thread.join()
+
+
+def run_parts_of(title, wanted, seconds, port):
+    try:
+        bad_head(title, wanted, seconds, port)
+    except Exception as error:
+        check(f"{title} ran to its end", None, repr(error))
+
+
+sys.exit(run_parts(two_in_a_chain, middle_killed, tree, with_gpsd, refusals))

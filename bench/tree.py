@@ -31,12 +31,12 @@ def summary(lines, name):
 class Reader(threading.Thread):
     def __init__(self, daemon, name):
         super().__init__()
-        self.client, self.name, self.sum = daemon.client(), name.encode(), None
+        self.client, self.device, self.sum = daemon.client(), name.encode(), None
         self.client.watching()
         self.start()
 
     def run(self):
-        self.sum = summary(self.client.lines(), self.name)
+        self.sum = summary(self.client.lines(), self.device)
 
 
 def main():

@@ -178,9 +178,9 @@ device_twice : devices_in (codes "a=file:x" ∷ codes "a=tcp:h:1" ∷ []) ≡ No
 unfolding serve_on_literals
 device_twice = refl
 
-another_daemon : devices_in (codes "a=gpsd:h:1" ∷ []) ≡ None
+unknown_kind : devices_in (codes "a=udp:h:1" ∷ []) ≡ None
 unfolding serve_on_literals
-another_daemon = refl
+unknown_kind = refl
 
 no_host : devices_in (codes "a=tcp::1" ∷ []) ≡ None
 unfolding serve_on_literals

@@ -19,7 +19,7 @@ from packets import sentence
 PROGRAM = os.path.abspath(sys.argv[1])
 SIZE = 8_000_000
 # the most writes for that input: two for each 32 KB that are read, and some to spare
-MOST_WRITES = 520
+MOST_WRITES = 800  # of 8 MB: three for each 32 KB that are read ahead, as they make some 70 KB of lines and 32 KB wait at most
 
 
 def second(rng, t):

@@ -1,4 +1,4 @@
--- A report in each form in which some policy can select it. This project's own.
+-- A report in each form in which some policy can select it.
 use Rattle.std.specs.Prelude.{ℕ, List}
 use Rattle.gps_report.specs.declared.packet.PacketKind.{PacketKind}
 use Rattle.gps_report.specs.declared.packet.PacketKind.TheVariants.{Nmea, Ubx}

@@ -1,15 +1,15 @@
--- The reports of one call, and a row of their forms for each session that may take them. This project's own.
+-- The reports of one call, and a row of their forms for each session that may take them.
 use Rattle.std.specs.Prelude.{ℕ, ◌≡◌, true, List, length, map, nat_lt}
 use Rattle.std.specs.List.{All, list_all}
 use Rattle.gps_report.specs.declared.report.Report.{Report}
 use Rattle.book_batch.specs.Forms.{forms_of}
 use Rattle.book_batch.specs.declared.forms.Forms.{Forms}
 
-pub record Sharing : Type 0 where
+pub record BatchView : Type 0 where
   pub reports : List Report
   pub rows : List (List Forms)
 
-abbrev pub shares_of : Sharing → ℕ
+abbrev pub shares_of : BatchView → ℕ
 shares_of batch = length batch.rows
 
 -- the devices of the reports have names
@@ -21,5 +21,5 @@ abbrev pub row_of : List (List ℕ) → List Report → List Forms
 row_of names reports = map (forms_of names) reports
 
 -- each row has the forms of the reports, by the names of the devices
-abbrev pub SharesLines : List (List ℕ) → Sharing → Type 0
+abbrev pub SharesLines : List (List ℕ) → BatchView → Type 0
 SharesLines names batch = All (λ row. row ≡ row_of names batch.reports) batch.rows

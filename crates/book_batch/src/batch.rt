@@ -16,9 +16,9 @@ pub struct Batch {
 }
 
 impl Model for Batch {
-    ghost use Rattle.book_batch.specs.Sharing.{Sharing};
+    ghost use Rattle.book_batch.specs.Sharing.{BatchView};
 
-    ghost Value = { Sharing };
+    ghost Value = { BatchView };
 
     ghost view = { λ batch. record { reports = batch.reports.items; rows = batch.rows.items } };
 }

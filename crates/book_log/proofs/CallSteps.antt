@@ -12,37 +12,37 @@ use Rattle.gps_report.specs.declared.edge.Symbol.TheVariants.{Edge as EdgeSymbol
 use Rattle.gps_report.specs.declared.report.Report.{Report}
 use Rattle.device_core.specs.Stream.{piece}
 use Rattle.book_log.specs.declared.generation.Generation.{Generation}
-use Rattle.book_log.specs.declared.stage.Stage.{Stage}
-use Rattle.book_log.specs.declared.stage.Stage.TheVariants.{Running, Ended, Lost}
+use Rattle.book_log.specs.declared.device_stage.DeviceStage.{DeviceStage}
+use Rattle.book_log.specs.declared.device_stage.DeviceStage.TheVariants.{Running, Ended, Lost}
 use Rattle.book_log.specs.Entries.{Entry, edged, ended, fed, lost, symbols_in}
-use Rattle.book_log.specs.Standing.{LineState, Summary, has_stopped}
-use Rattle.book_log.specs.Logged.{Holds, Logged, running, runs, stopped_of, next_generation, turned_if, turns_at}
-use Rattle.book_log.specs.Steps.{ChangesAt, EndsAt, GoesAll, LosesAt, Takes, TakesAt}
-use Rattle.book_log.specs.Pieces.{Held, Keeps}
+use Rattle.book_log.specs.Standing.{DeviceStateView, DeviceStatesView, has_stopped}
+use Rattle.book_log.specs.DeviceLogView.{LogHolds, DeviceLogView, running, runs, stopped_of, next_generation, turned_if, turns_at}
+use Rattle.book_log.specs.Steps.{ChangesAt, EndsAt, GoesAll, LosesAt, TakesSymbols, TakesAt}
+use Rattle.book_log.specs.Pieces.{LogView, Keeps}
 use Rattle.book_log.specs.Turning.{Called, IsNext, IsReady, log_of, shown}
 use Rattle.book_log.proofs.Histories.{symbols_got}
 use Rattle.book_log.proofs.LoggedSteps.{added, began, few_run, ready_log, turned_if_holds}
 use Rattle.book_log.proofs.SummarySteps.{edged_all, ended_all, fed_all, lost_all}
 
-is_running : (stage : Stage) → has_stopped stage ≡ false → stage ≡ Running
+is_running : (stage : DeviceStage) → has_stopped stage ≡ false → stage ≡ Running
 is_running Running runs = refl
 is_running Ended runs = let e : true ≡ false = runs in cc
 is_running Lost runs = let e : true ≡ false = runs in cc
 
 -- a device that has not stopped is there
-pub runs_there : (lines : List LineState) (d : ℕ) → get_or (map (λ line. has_stopped line.stage) lines) d true ≡ false
-    → (d < length lines) × ((free : LineState) → (get_or lines d free).stage ≡ Running)
+pub runs_there : (lines : List DeviceStateView) (d : ℕ) → get_or (map (λ line. has_stopped line.stage) lines) d true ≡ false
+    → (d < length lines) × ((free : DeviceStateView) → (get_or lines d free).stage ≡ Running)
 runs_there [] d stopped = let e : true ≡ false = stopped in cc
 runs_there (line ∷ lines) zero stopped = (omega arith, λ free. is_running line.stage stopped)
 runs_there (line ∷ lines) (suc d) stopped = let more = runs_there lines d stopped in (omega (arith, more.0), more.1)
 
-behind : (b : Bool) (line : LineState) (news olds : List LineState) (m n : ℕ) → length news + m ≡ length olds + n
+behind : (b : Bool) (line : DeviceStateView) (news olds : List DeviceStateView) (m n : ℕ) → length news + m ≡ length olds + n
     → length (cond b (line ∷ news) news) + m ≡ length (cond b (line ∷ olds) olds) + n
 behind true line news olds m n same = omega arith
 behind false line news olds m n same = same
 
 -- how many run, where one line became another
-pub running_set : (lines : List LineState) (d : ℕ) (next free : LineState) → d < length lines
+pub running_set : (lines : List DeviceStateView) (d : ℕ) (next free : DeviceStateView) → d < length lines
     → length (filter runs (set lines d next)) + cond (runs (get_or lines d free)) 1 0 ≡ length (filter runs lines) + cond (runs next) 1 0
 running_set [] d next free within = absurd (omega arith)
 running_set (line ∷ lines) zero next free within = swapped (runs line) (runs next)
@@ -54,14 +54,14 @@ running_set (line ∷ lines) zero next free within = swapped (runs line) (runs n
     swapped false false = refl
 running_set (line ∷ lines) (suc d) next free within = behind (runs line) line (filter runs (set lines d next)) (filter runs lines) (cond (runs (get_or lines d free)) 1 0) (cond (runs next) 1 0) (running_set lines d next free (omega arith))
 
-runs_now : (line : LineState) → line.stage ≡ Running → runs line ≡ true
+runs_now : (line : DeviceStateView) → line.stage ≡ Running → runs line ≡ true
 runs_now line is = ap (λ s. cond (has_stopped s) false true) is
 
-stops_now : (line : LineState) → has_stopped line.stage ≡ true → runs line ≡ false
+stops_now : (line : DeviceStateView) → has_stopped line.stage ≡ true → runs line ≡ false
 stops_now line is = ap (λ b. cond b false true) is
 
 -- a device's line changed, and the device still runs
-pub still_runs : (olds news : List LineState) (d : ℕ) (next : LineState) → d < length olds → ((free : LineState) → (get_or olds d free).stage ≡ Running)
+pub still_runs : (olds news : List DeviceStateView) (d : ℕ) (next : DeviceStateView) → d < length olds → ((free : DeviceStateView) → (get_or olds d free).stage ≡ Running)
     → news ≡ set olds d next → next.stage ≡ Running
     → (map (λ line. has_stopped line.stage) news ≡ map (λ line. has_stopped line.stage) olds) × (length (filter runs news) ≡ length (filter runs olds))
 still_runs olds news d next within was are is =
@@ -75,7 +75,7 @@ still_runs olds news d next within was are is =
     )
 
 -- a device's line changed, and the device has stopped
-pub runs_no_more : (olds news : List LineState) (d : ℕ) (next : LineState) → d < length olds → ((free : LineState) → (get_or olds d free).stage ≡ Running)
+pub runs_no_more : (olds news : List DeviceStateView) (d : ℕ) (next : DeviceStateView) → d < length olds → ((free : DeviceStateView) → (get_or olds d free).stage ≡ Running)
     → news ≡ set olds d next → has_stopped next.stage ≡ true
     → (map (λ line. has_stopped line.stage) news ≡ set (map (λ line. has_stopped line.stage) olds) d true) × (length (filter runs news) + 1 ≡ length (filter runs olds))
 runs_no_more olds news d next within was are is =
@@ -88,7 +88,7 @@ runs_no_more olds news d next within was are is =
     )
 
 -- a call's symbols fit into the generation that it goes to
-few_after : (turns : Bool) (b : Logged) (more : ℕ) → Holds b → turns ≡ turns_at b more → more ≤ 512
+few_after : (turns : Bool) (b : DeviceLogView) (more : ℕ) → LogHolds b → turns ≡ turns_at b more → more ≤ 512
     → (turned_if turns b).symbols + more ≤ max (turned_if turns b).limit 512
 few_after true b more h is few = omega arith
 few_after false b more h is few = stays (nat_lt 0 b.symbols) (nat_lt b.limit (b.symbols + more)) refl refl is
@@ -105,9 +105,9 @@ piece_long at [] = refl
 piece_long at (byte ∷ bytes) = ap (λ n. suc n) (piece_long at bytes)
 
 -- a call that adds symbols, where a new generation begins before them if one is due
-pub called : (old : Logged) (devices present : Summary) (limit number later : ℕ) (was current : Generation) (next : Option Generation) (reserved log : Held) (turns : Bool)
+pub called : (old : DeviceLogView) (devices present : DeviceStatesView) (limit number later : ℕ) (was current : Generation) (next : Option Generation) (reserved log : LogView) (turns : Bool)
     (entries : List Entry) (reports : List Report) (more bytes count : ℕ)
-    → Holds (shown devices limit number was) → shown devices limit number was ≡ old
+    → LogHolds (shown devices limit number was) → shown devices limit number was ≡ old
     → 0 < more → more ≤ 512 → symbols_in entries ≡ more → turns ≡ turns_at (shown devices limit number was) more → IsNext turns devices next
     → IsReady (length devices.lines) bytes (log_of next reserved) → reserved.entries ≡ was.log.entries
     → GoesAll devices present entries reports → running present ≡ running devices → length reports ≤ 2056 + more
@@ -117,12 +117,12 @@ pub called : (old : Logged) (devices present : Summary) (limit number later : �
     (shown present limit later (record { opening = current.opening; log = log; length = current.length + count; symbols = current.symbols + more })) entries reports log.room
 called old devices present limit number later was current next reserved log turns entries reports more bytes count h seen some few in_all due is_next ready same goes still short is_current is_number keeps long =
     let b = shown devices limit number was in
-    let P : List Entry → Logged = λ e. record { opening = was.opening; present = devices; log = e; length = was.length; symbols = was.symbols; limit = limit; generation = number } in
+    let P : List Entry → DeviceLogView = λ e. record { opening = was.opening; present = devices; log = e; length = was.length; symbols = was.symbols; limit = limit; generation = number } in
     let mid_is : shown devices limit later current ≡ turned_if turns b =
     began turns devices limit number later (record was { log = reserved }) current next is_next is_current is_number ∙ ap (λ e. turned_if turns (P e)) same in
     let mid = shown devices limit later current in
-    let h_mid : Holds mid = subst Holds (sym mid_is) (turned_if_holds turns b h) in
-    let Q : Logged → Type 0 = λ m. m.symbols + more ≤ max m.limit 512 in
+    let h_mid : LogHolds mid = subst LogHolds (sym mid_is) (turned_if_holds turns b h) in
+    let Q : DeviceLogView → Type 0 = λ m. m.symbols + more ≤ max m.limit 512 in
     let fits : mid.symbols + more ≤ max mid.limit 512 = subst Q (sym mid_is) (few_after turns b more h due few) in
     let room = ready_log (length devices.lines) bytes (record was { log = reserved }) current next ready is_current in
     let few_runs : running devices ≤ length devices.lines = few_run devices.lines in
@@ -130,14 +130,14 @@ called old devices present limit number later was current next reserved log turn
     omega (arith, h_mid.bound, still, goes.count, short, some, long) in
     let both = added mid present log.entries entries reports (current.length + count) (current.symbols + more) h_mid goes keeps.entries_are
     (ap (λ n. current.length + n) long) (ap (λ n. current.symbols + n) (sym in_all)) fits bound in
-    let R : Logged → Type 0 = λ m. Called m
+    let R : DeviceLogView → Type 0 = λ m. Called m
     (shown present limit later (record { opening = current.opening; log = log; length = current.length + count; symbols = current.symbols + more })) entries reports log.room in
     subst R (mid_is ∙ ap (λ t. turned_if t b) due ∙ ap (λ m. turned_if (turns_at m more) m) seen)
     (record { adds = both.1; holds = both.0; rooms = omega (arith, still, few_runs, room.events, keeps.room) })
 
 -- a call that adds the end or the loss of a device
-pub called_once : (old : Logged) (devices present : Summary) (limit number : ℕ) (was : Generation) (log : Held) (entries : List Entry) (reports : List Report) (count : ℕ)
-    → Holds (shown devices limit number was) → running devices ≤ was.log.room → shown devices limit number was ≡ old
+pub called_once : (old : DeviceLogView) (devices present : DeviceStatesView) (limit number : ℕ) (was : Generation) (log : LogView) (entries : List Entry) (reports : List Report) (count : ℕ)
+    → LogHolds (shown devices limit number was) → running devices ≤ was.log.room → shown devices limit number was ≡ old
     → symbols_in entries ≡ 0 → GoesAll devices present entries reports → running present + 1 ≡ running devices → length reports ≤ 3
     → Keeps was.log log entries → count ≡ length reports
     → Called old (shown present limit number (record { opening = was.opening; log = log; length = was.length + count; symbols = was.symbols })) entries reports log.room
@@ -146,20 +146,20 @@ called_once old devices present limit number was log entries reports count h roo
     let bound : (was.length + count) + 3 * running present ≤ 2057 * was.symbols + 3 * length present.lines = omega (arith, h.bound, fewer, goes.count, short, long) in
     let kept : was.symbols ≡ was.symbols + symbols_in entries = omega (arith, none) in
     let both = added b present log.entries entries reports (was.length + count) was.symbols h goes keeps.entries_are (ap (λ n. was.length + n) long) kept h.few bound in
-    let R : Logged → Type 0 = λ m. Called m
+    let R : DeviceLogView → Type 0 = λ m. Called m
     (shown present limit number (record { opening = was.opening; log = log; length = was.length + count; symbols = was.symbols })) entries reports log.room in
     subst R seen (record { adds = both.1; holds = both.0; rooms = omega (arith, room, fewer, keeps.room) })
 
-took_symbols : (olds news : List LineState) (d : ℕ) (symbols : List Symbol) (stamp : Option Moment) (reports : List Report) → d < length olds
-    → ((free : LineState) → (get_or olds d free).stage ≡ Running) → ChangesAt olds news d (λ line next. Takes line next d symbols stamp reports)
+took_symbols : (olds news : List DeviceStateView) (d : ℕ) (symbols : List Symbol) (stamp : Option Moment) (reports : List Report) → d < length olds
+    → ((free : DeviceStateView) → (get_or olds d free).stage ≡ Running) → ChangesAt olds news d (λ line next. TakesSymbols line next d symbols stamp reports)
     → (map (λ line. has_stopped line.stage) news ≡ map (λ line. has_stopped line.stage) olds) × (length (filter runs news) ≡ length (filter runs olds))
 took_symbols olds news d symbols stamp reports within was changes =
     let next = changes.next in still_runs olds news d next within was changes.news_are ((changes.changes next).1.stage ∙ was next)
 
 -- `feed`
-pub fed_called : (old : Logged) (devices present : Summary) (limit number later : ℕ) (was current : Generation) (next : Option Generation) (reserved log : Held) (turns : Bool)
+pub fed_called : (old : DeviceLogView) (devices present : DeviceStatesView) (limit number later : ℕ) (was current : Generation) (next : Option Generation) (reserved log : LogView) (turns : Bool)
     (d : ℕ) (at : Moment) (bytes : List ℕ) (reports : List Report) (count : ℕ)
-    → Holds (shown devices limit number was) → shown devices limit number was ≡ old → get_or (stopped_of old.present) d true ≡ false
+    → LogHolds (shown devices limit number was) → shown devices limit number was ≡ old → get_or (stopped_of old.present) d true ≡ false
     → 0 < length bytes → length bytes ≤ 512 → turns ≡ turns_at (shown devices limit number was) (length bytes) → IsNext turns devices next
     → IsReady (length devices.lines) (length bytes) (log_of next reserved) → reserved.entries ≡ was.log.entries
     → TakesAt devices present d (piece at bytes) (Some at) reports
@@ -168,7 +168,7 @@ pub fed_called : (old : Logged) (devices present : Summary) (limit number later 
     → Called (turned_if (turns_at old (length bytes)) old)
     (shown present limit later (record { opening = current.opening; log = log; length = current.length + count; symbols = current.symbols + length bytes })) (fed d at bytes) reports log.room
 fed_called old devices present limit number later was current next reserved log turns d at bytes reports count h seen runs_d some few due is_next ready same takes is_current is_number keeps long =
-    let P : Logged → Type 0 = λ b. get_or (stopped_of b.present) d true ≡ false in
+    let P : DeviceLogView → Type 0 = λ b. get_or (stopped_of b.present) d true ≡ false in
     let there = runs_there devices.lines d (subst P (sym seen) runs_d) in
     let next_line = takes.lines_are.next in
     let short = (takes.lines_are.changes next_line).1.few in
@@ -177,23 +177,23 @@ fed_called old devices present limit number later was current next reserved log 
     (took_symbols devices.lines present.lines d (piece at bytes) (Some at) reports there.0 there.1 takes.lines_are).1
     (subst (λ n. length reports ≤ 2056 + n) (piece_long at bytes) short) is_current is_number keeps long
 
-pub fed_few : (devices present : Summary) (d : ℕ) (at : Moment) (bytes : List ℕ) (reports : List Report) → TakesAt devices present d (piece at bytes) (Some at) reports
+pub fed_few : (devices present : DeviceStatesView) (d : ℕ) (at : Moment) (bytes : List ℕ) (reports : List Report) → TakesAt devices present d (piece at bytes) (Some at) reports
     → length reports ≤ 2056 + length bytes
 fed_few devices present d at bytes reports takes =
     let next_line = takes.lines_are.next in subst (λ n. length reports ≤ 2056 + n) (piece_long at bytes) (takes.lines_are.changes next_line).1.few
 
-pub took_stopped : (old : Logged) (devices present : Summary) (limit number : ℕ) (was : Generation) (d : ℕ) (symbols : List Symbol) (stamp : Option Moment) (reports : List Report)
+pub took_stopped : (old : DeviceLogView) (devices present : DeviceStatesView) (limit number : ℕ) (was : Generation) (d : ℕ) (symbols : List Symbol) (stamp : Option Moment) (reports : List Report)
     → shown devices limit number was ≡ old → get_or (stopped_of old.present) d true ≡ false → TakesAt devices present d symbols stamp reports
     → stopped_of present ≡ stopped_of old.present
 took_stopped old devices present limit number was d symbols stamp reports seen runs_d takes =
-    let P : Logged → Type 0 = λ b. get_or (stopped_of b.present) d true ≡ false in
+    let P : DeviceLogView → Type 0 = λ b. get_or (stopped_of b.present) d true ≡ false in
     let there = runs_there devices.lines d (subst P (sym seen) runs_d) in
     (took_symbols devices.lines present.lines d symbols stamp reports there.0 there.1 takes.lines_are).0 ∙ ap (λ b. stopped_of b.present) seen
 
 -- `edge`
-pub edged_called : (old : Logged) (devices present : Summary) (limit number later : ℕ) (was current : Generation) (next : Option Generation) (reserved log : Held) (turns : Bool)
+pub edged_called : (old : DeviceLogView) (devices present : DeviceStatesView) (limit number later : ℕ) (was current : Generation) (next : Option Generation) (reserved log : LogView) (turns : Bool)
     (d : ℕ) (edge : Edge) (reports : List Report) (count : ℕ)
-    → Holds (shown devices limit number was) → shown devices limit number was ≡ old → get_or (stopped_of old.present) d true ≡ false
+    → LogHolds (shown devices limit number was) → shown devices limit number was ≡ old → get_or (stopped_of old.present) d true ≡ false
     → turns ≡ turns_at (shown devices limit number was) 1 → IsNext turns devices next
     → IsReady (length devices.lines) 0 (log_of next reserved) → reserved.entries ≡ was.log.entries
     → TakesAt devices present d (EdgeSymbol edge ∷ []) None reports
@@ -202,7 +202,7 @@ pub edged_called : (old : Logged) (devices present : Summary) (limit number late
     → Called (turned_if (turns_at old 1) old)
     (shown present limit later (record { opening = current.opening; log = log; length = current.length + count; symbols = current.symbols + 1 })) (edged d edge) reports log.room
 edged_called old devices present limit number later was current next reserved log turns d edge reports count h seen runs_d due is_next ready same takes is_current is_number keeps long =
-    let P : Logged → Type 0 = λ b. get_or (stopped_of b.present) d true ≡ false in
+    let P : DeviceLogView → Type 0 = λ b. get_or (stopped_of b.present) d true ≡ false in
     let there = runs_there devices.lines d (subst P (sym seen) runs_d) in
     let next_line = takes.lines_are.next in
     called old devices present limit number later was current next reserved log turns (edged d edge) reports 1 0 count h seen (omega arith) (omega arith)
@@ -210,43 +210,43 @@ edged_called old devices present limit number later was current next reserved lo
     (took_symbols devices.lines present.lines d (EdgeSymbol edge ∷ []) None reports there.0 there.1 takes.lines_are).1
     (omega (arith, (takes.lines_are.changes next_line).1.few)) is_current is_number keeps long
 
-pub edged_few : (devices present : Summary) (d : ℕ) (edge : Edge) (reports : List Report) → TakesAt devices present d (EdgeSymbol edge ∷ []) None reports
+pub edged_few : (devices present : DeviceStatesView) (d : ℕ) (edge : Edge) (reports : List Report) → TakesAt devices present d (EdgeSymbol edge ∷ []) None reports
     → length reports ≤ 1
 edged_few devices present d edge reports takes = let next_line = takes.lines_are.next in (takes.lines_are.changes next_line).1.few
 
 -- `end_device`
-pub ended_called : (old : Logged) (devices present : Summary) (limit number : ℕ) (was : Generation) (log : Held) (d : ℕ) (reports : List Report) (count : ℕ)
-    → Holds (shown devices limit number was) × (running devices ≤ was.log.room) → shown devices limit number was ≡ old → get_or (stopped_of old.present) d true ≡ false
+pub ended_called : (old : DeviceLogView) (devices present : DeviceStatesView) (limit number : ℕ) (was : Generation) (log : LogView) (d : ℕ) (reports : List Report) (count : ℕ)
+    → LogHolds (shown devices limit number was) × (running devices ≤ was.log.room) → shown devices limit number was ≡ old → get_or (stopped_of old.present) d true ≡ false
     → EndsAt devices present d reports → Keeps was.log log (ended d) → count ≡ length reports
     → Called old (shown present limit number (record { opening = was.opening; log = log; length = was.length + count; symbols = was.symbols })) (ended d) reports log.room
 ended_called old devices present limit number was log d reports count h seen runs_d ends keeps long =
-    let P : Logged → Type 0 = λ b. get_or (stopped_of b.present) d true ≡ false in
+    let P : DeviceLogView → Type 0 = λ b. get_or (stopped_of b.present) d true ≡ false in
     let there = runs_there devices.lines d (subst P (sym seen) runs_d) in
     let next_line = ends.lines_are.next in
     let closed = (ends.lines_are.changes next_line).1 in
     called_once old devices present limit number was log (ended d) reports count h.0 h.1 seen refl (ended_all devices present d reports there.0 there.1 ends)
     (runs_no_more devices.lines present.lines d next_line there.0 there.1 ends.lines_are.news_are (ap has_stopped closed.stage)).1 closed.few keeps long
 
-pub ended_few : (devices present : Summary) (d : ℕ) (reports : List Report) → EndsAt devices present d reports → length reports ≤ 3
+pub ended_few : (devices present : DeviceStatesView) (d : ℕ) (reports : List Report) → EndsAt devices present d reports → length reports ≤ 3
 ended_few devices present d reports ends = let next_line = ends.lines_are.next in (ends.lines_are.changes next_line).1.few
 
-pub ended_stopped : (old : Logged) (devices present : Summary) (limit number : ℕ) (was : Generation) (d : ℕ) (reports : List Report)
+pub ended_stopped : (old : DeviceLogView) (devices present : DeviceStatesView) (limit number : ℕ) (was : Generation) (d : ℕ) (reports : List Report)
     → shown devices limit number was ≡ old → get_or (stopped_of old.present) d true ≡ false → EndsAt devices present d reports
     → stopped_of present ≡ set (stopped_of old.present) d true
 ended_stopped old devices present limit number was d reports seen runs_d ends =
-    let P : Logged → Type 0 = λ b. get_or (stopped_of b.present) d true ≡ false in
+    let P : DeviceLogView → Type 0 = λ b. get_or (stopped_of b.present) d true ≡ false in
     let there = runs_there devices.lines d (subst P (sym seen) runs_d) in
     let next_line = ends.lines_are.next in
     (runs_no_more devices.lines present.lines d next_line there.0 there.1 ends.lines_are.news_are (ap has_stopped (ends.lines_are.changes next_line).1.stage)).0
     ∙ ap (λ b. set (stopped_of b.present) d true) seen
 
 -- `lose_device`
-pub lost_called : (old : Logged) (devices present : Summary) (limit number : ℕ) (was : Generation) (log : Held) (d : ℕ)
-    → Holds (shown devices limit number was) × (running devices ≤ was.log.room) → shown devices limit number was ≡ old → get_or (stopped_of old.present) d true ≡ false
+pub lost_called : (old : DeviceLogView) (devices present : DeviceStatesView) (limit number : ℕ) (was : Generation) (log : LogView) (d : ℕ)
+    → LogHolds (shown devices limit number was) × (running devices ≤ was.log.room) → shown devices limit number was ≡ old → get_or (stopped_of old.present) d true ≡ false
     → LosesAt devices present d → Keeps was.log log (lost d)
     → Called old (shown present limit number (record { opening = was.opening; log = log; length = was.length; symbols = was.symbols })) (lost d) [] log.room
 lost_called old devices present limit number was log d h seen runs_d loses keeps =
-    let P : Logged → Type 0 = λ b. get_or (stopped_of b.present) d true ≡ false in
+    let P : DeviceLogView → Type 0 = λ b. get_or (stopped_of b.present) d true ≡ false in
     let there = runs_there devices.lines d (subst P (sym seen) runs_d) in
     let next_line = loses.lines_are.next in
     let R : ℕ → Type 0 = λ n. Called old (shown present limit number (record { opening = was.opening; log = log; length = n; symbols = was.symbols })) (lost d) [] log.room in
@@ -255,32 +255,32 @@ lost_called old devices present limit number was log d h seen runs_d loses keeps
     (runs_no_more devices.lines present.lines d next_line there.0 there.1 loses.lines_are.news_are (ap (λ l. has_stopped l.stage) (loses.lines_are.changes next_line))).1
     (omega arith) keeps refl)
 
-pub lost_stopped : (old : Logged) (devices present : Summary) (limit number : ℕ) (was : Generation) (d : ℕ)
+pub lost_stopped : (old : DeviceLogView) (devices present : DeviceStatesView) (limit number : ℕ) (was : Generation) (d : ℕ)
     → shown devices limit number was ≡ old → get_or (stopped_of old.present) d true ≡ false → LosesAt devices present d
     → stopped_of present ≡ set (stopped_of old.present) d true
 lost_stopped old devices present limit number was d seen runs_d loses =
-    let P : Logged → Type 0 = λ b. get_or (stopped_of b.present) d true ≡ false in
+    let P : DeviceLogView → Type 0 = λ b. get_or (stopped_of b.present) d true ≡ false in
     let there = runs_there devices.lines d (subst P (sym seen) runs_d) in
     let next_line = loses.lines_are.next in
     (runs_no_more devices.lines present.lines d next_line there.0 there.1 loses.lines_are.news_are (ap (λ l. has_stopped l.stage) (loses.lines_are.changes next_line))).0
     ∙ ap (λ b. set (stopped_of b.present) d true) seen
 
 -- there is room for the end or the loss of a device that runs
-pub ended_room : (old : Logged) (devices present : Summary) (limit number : ℕ) (was : Generation) (d : ℕ) (reports : List Report)
-    → Holds (shown devices limit number was) × (running devices ≤ was.log.room) → shown devices limit number was ≡ old → get_or (stopped_of old.present) d true ≡ false
+pub ended_room : (old : DeviceLogView) (devices present : DeviceStatesView) (limit number : ℕ) (was : Generation) (d : ℕ) (reports : List Report)
+    → LogHolds (shown devices limit number was) × (running devices ≤ was.log.room) → shown devices limit number was ≡ old → get_or (stopped_of old.present) d true ≡ false
     → EndsAt devices present d reports → 0 < was.log.room
 ended_room old devices present limit number was d reports h seen runs_d ends =
-    let P : Logged → Type 0 = λ b. get_or (stopped_of b.present) d true ≡ false in
+    let P : DeviceLogView → Type 0 = λ b. get_or (stopped_of b.present) d true ≡ false in
     let there = runs_there devices.lines d (subst P (sym seen) runs_d) in
     let next_line = ends.lines_are.next in
     let fewer = (runs_no_more devices.lines present.lines d next_line there.0 there.1 ends.lines_are.news_are (ap has_stopped (ends.lines_are.changes next_line).1.stage)).1 in
     omega (arith, fewer, h.1)
 
-pub lost_room : (old : Logged) (devices present : Summary) (limit number : ℕ) (was : Generation) (d : ℕ)
-    → Holds (shown devices limit number was) × (running devices ≤ was.log.room) → shown devices limit number was ≡ old → get_or (stopped_of old.present) d true ≡ false
+pub lost_room : (old : DeviceLogView) (devices present : DeviceStatesView) (limit number : ℕ) (was : Generation) (d : ℕ)
+    → LogHolds (shown devices limit number was) × (running devices ≤ was.log.room) → shown devices limit number was ≡ old → get_or (stopped_of old.present) d true ≡ false
     → LosesAt devices present d → 0 < was.log.room
 lost_room old devices present limit number was d h seen runs_d loses =
-    let P : Logged → Type 0 = λ b. get_or (stopped_of b.present) d true ≡ false in
+    let P : DeviceLogView → Type 0 = λ b. get_or (stopped_of b.present) d true ≡ false in
     let there = runs_there devices.lines d (subst P (sym seen) runs_d) in
     let next_line = loses.lines_are.next in
     let fewer = (runs_no_more devices.lines present.lines d next_line there.0 there.1 loses.lines_are.news_are (ap (λ l. has_stopped l.stage) (loses.lines_are.changes next_line))).1 in

@@ -11,13 +11,13 @@ use Rattle.gps_report.specs.declared.report.Report.{Report}
 use Rattle.device_core.specs.Stream.{piece}
 use Rattle.device_core.specs.Reports.{device_close, reports_from}
 use Rattle.device_core.specs.Standing.{StandsFor as DeviceStands}
-use Rattle.book_log.specs.declared.stage.Stage.{Stage}
-use Rattle.book_log.specs.declared.stage.Stage.TheVariants.{Running}
+use Rattle.book_log.specs.declared.device_stage.DeviceStage.{DeviceStage}
+use Rattle.book_log.specs.declared.device_stage.DeviceStage.TheVariants.{Running}
 use Rattle.book_log.specs.Entries.{Entry, Ended, Lost, ended, got, has_end, has_lost, is_end_of, is_loss_of, lost, stream}
 use Rattle.book_log.specs.Readings.{fix_in, first_stamp, given_by, last_of, of_device, sky_in, stamp_in}
 use Rattle.book_log.specs.History.{history, history_after}
-use Rattle.book_log.specs.Standing.{LineState, StandsAt, has_stopped, is_ended, is_lost}
-use Rattle.book_log.specs.Steps.{Ends, Goes, Loses, Takes, Took, announcement, unless_known}
+use Rattle.book_log.specs.Standing.{DeviceStateView, StandsAt, has_stopped, is_ended, is_lost}
+use Rattle.book_log.specs.Steps.{Ends, Goes, Loses, TakesSymbols, Took, announcement, unless_known}
 use Rattle.book_log.proofs.ReadingLaws.{first_of-append, last_of-append, or_none}
 use Rattle.book_log.proofs.Histories.{gains_are, given_own, has_end-append, has_lost-append, history-append, history_edge, history_piece, no_end_got, no_loss_got, same, stream-append, stream_after}
 use Rattle.std.proofs.lemmas.List.Folds.{list_any-append}
@@ -42,7 +42,7 @@ no_sky_announced None out = refl
 no_sky_announced (Some at) out = or_none (last_of sky_in out)
 
 -- symbols that a device took, where a first byte among them is announced at once
-pub goes_on : (d : ℕ) (old new : LineState) (symbols : List Symbol) (stamp : Option Moment) (out : List Body) (reports : List Report)
+pub goes_on : (d : ℕ) (old new : DeviceStateView) (symbols : List Symbol) (stamp : Option Moment) (out : List Body) (reports : List Report)
     → stamp ≡ first_stamp symbols
     → ((log : List Entry) → history_after log (got d symbols) ≡ of_device d (announcement (unless_known (first_stamp (stream d log)) stamp) ++ reports_from (stream d log) symbols))
     → old.stage ≡ Running → Took old new d symbols stamp out reports → Goes d old new (got d symbols) reports
@@ -75,13 +75,13 @@ piece_stamp : (at : Moment) (bytes : List ℕ) → 0 < length bytes → Some at 
 piece_stamp at [] some = absurd (omega arith)
 piece_stamp at (byte ∷ bytes) some = refl
 
-pub goes_by_piece : (d : ℕ) (old new : LineState) (at : Moment) (bytes : List ℕ) (reports : List Report) → 0 < length bytes → old.stage ≡ Running
-    → Takes old new d (piece at bytes) (Some at) reports → Goes d old new (got d (piece at bytes)) reports
+pub goes_by_piece : (d : ℕ) (old new : DeviceStateView) (at : Moment) (bytes : List ℕ) (reports : List Report) → 0 < length bytes → old.stage ≡ Running
+    → TakesSymbols old new d (piece at bytes) (Some at) reports → Goes d old new (got d (piece at bytes)) reports
 goes_by_piece d old new at bytes reports some runs took =
     goes_on d old new (piece at bytes) (Some at) took.0 reports (piece_stamp at bytes some) (λ log. history_piece log d at bytes some) runs took.1
 
-pub goes_by_edge : (d : ℕ) (old new : LineState) (edge : Edge) (reports : List Report) → old.stage ≡ Running
-    → Takes old new d (EdgeSymbol edge ∷ []) None reports → Goes d old new (got d (EdgeSymbol edge ∷ [])) reports
+pub goes_by_edge : (d : ℕ) (old new : DeviceStateView) (edge : Edge) (reports : List Report) → old.stage ≡ Running
+    → TakesSymbols old new d (EdgeSymbol edge ∷ []) None reports → Goes d old new (got d (EdgeSymbol edge ∷ [])) reports
 goes_by_edge d old new edge reports runs took =
     goes_on d old new (EdgeSymbol edge ∷ []) None took.0 reports refl (λ log. history_edge log d edge) runs took.1
 
@@ -106,10 +106,10 @@ has_lost_now : (d : ℕ) (log : List Entry) → true ≡ has_lost d (log ++ Lost
 has_lost_now d log =
     or_true (has_lost d log) ∙ ap (λ b. has_lost d log || (b || false)) (sym (same d)) ∙ sym (list_any-append (is_loss_of d) log (Lost d ∷ []))
 
-stopped_for_good : {X : Type 0} (stage : Stage) (end : Stage) → stage ≡ end → has_stopped end ≡ true → has_stopped stage ≡ false → X
+stopped_for_good : {X : Type 0} (stage : DeviceStage) (end : DeviceStage) → stage ≡ end → has_stopped end ≡ true → has_stopped stage ≡ false → X
 stopped_for_good stage end is stops runs = let e : true ≡ false = sym stops ∙ ap has_stopped (sym is) ∙ runs in cc
 
-pub goes_by_end : (d : ℕ) (old new : LineState) (reports : List Report) → old.stage ≡ Running → Ends old new d reports → Goes d old new (ended d) reports
+pub goes_by_end : (d : ℕ) (old new : DeviceStateView) (reports : List Report) → old.stage ≡ Running → Ends old new d reports → Goes d old new (ended d) reports
 unfolding history_after
 goes_by_end d old new reports runs (out, closed) = record {
   adds = λ log was. adds log was ∙ sym closed.reports_are;
@@ -128,7 +128,7 @@ goes_by_end d old new reports runs (out, closed) = record {
         append-nil (of_device d (device_close (stream d log) ++ Device None ∷ []))
         ∙ ap (λ o. of_device d (o ++ Device None ∷ [])) (sym (closed.closes (stream d log) (was.device (ap has_stopped runs))))
 
-pub goes_by_loss : (d : ℕ) (old new : LineState) → old.stage ≡ Running → Loses old new → Goes d old new (lost d) []
+pub goes_by_loss : (d : ℕ) (old new : DeviceStateView) → old.stage ≡ Running → Loses old new → Goes d old new (lost d) []
 unfolding history_after
 goes_by_loss d old new runs loses = record {
   adds = λ log was. refl;

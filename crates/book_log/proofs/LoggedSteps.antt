@@ -5,15 +5,15 @@ use Rattle.gps_report.specs.declared.report.Report.{Report}
 use Rattle.book_log.specs.declared.generation.Generation.{Generation}
 use Rattle.book_log.specs.Entries.{Entry, is_symbol, symbols_in}
 use Rattle.book_log.specs.History.{history_after}
-use Rattle.book_log.specs.Standing.{LineState, StandsFor, Summary}
-use Rattle.book_log.specs.Logged.{Adds, Holds, Logged, Over, next_generation, running, runs, turned, turned_if}
+use Rattle.book_log.specs.Standing.{DeviceStateView, StandsFor, DeviceStatesView}
+use Rattle.book_log.specs.DeviceLogView.{LogAdds, LogHolds, DeviceLogView, FollowsLog, next_generation, running, runs, turned, turned_if}
 use Rattle.book_log.specs.Steps.{GoesAll}
 use Rattle.book_log.specs.Turning.{Begins, IsNext, IsReady, log_of, shown}
 use Rattle.book_log.proofs.Histories.{history-append, symbols_in-append}
 
-pub over_more : (b : Logged) (now : Summary) (log entries : List Entry) (reports : List Report) (places symbols : ℕ) (before : List Entry)
-    → Over b before → GoesAll b.present now entries reports → log ≡ b.log ++ entries → places ≡ b.length + length reports
-    → Over (record b { present = now; log = log; length = places; symbols = symbols }) before
+pub over_more : (b : DeviceLogView) (now : DeviceStatesView) (log entries : List Entry) (reports : List Report) (places symbols : ℕ) (before : List Entry)
+    → FollowsLog b before → GoesAll b.present now entries reports → log ≡ b.log ++ entries → places ≡ b.length + length reports
+    → FollowsLog (record b { present = now; log = log; length = places; symbols = symbols }) before
 over_more b now log entries reports places symbols before was goes are longer =
     let P : List Entry → Type 0 = λ l. StandsFor now l in
     let joined : (before ++ b.log) ++ entries ≡ before ++ log = append_assoc before b.log entries ∙ ap (λ l. before ++ l) (sym are) in
@@ -24,11 +24,11 @@ over_more b now log entries reports places symbols before was goes are longer =
       places = longer ∙ ap (λ n. n + length reports) was.places ∙ sym (ap length whole ∙ length-append (history_after before b.log) reports);
     }
 
-pub added : (b : Logged) (now : Summary) (log entries : List Entry) (reports : List Report) (places symbols : ℕ)
-    → Holds b → GoesAll b.present now entries reports → log ≡ b.log ++ entries → places ≡ b.length + length reports → symbols ≡ b.symbols + symbols_in entries
+pub added : (b : DeviceLogView) (now : DeviceStatesView) (log entries : List Entry) (reports : List Report) (places symbols : ℕ)
+    → LogHolds b → GoesAll b.present now entries reports → log ≡ b.log ++ entries → places ≡ b.length + length reports → symbols ≡ b.symbols + symbols_in entries
     → symbols ≤ max b.limit 512 → places + 3 * running now ≤ 2057 * symbols + 3 * length now.lines
-    → Holds (record b { present = now; log = log; length = places; symbols = symbols })
-    × Adds b (record b { present = now; log = log; length = places; symbols = symbols }) entries reports
+    → LogHolds (record b { present = now; log = log; length = places; symbols = symbols })
+    × LogAdds b (record b { present = now; log = log; length = places; symbols = symbols }) entries reports
 added b now log entries reports places symbols h goes are longer more few bound = (
   record {
     some = h.some;
@@ -54,15 +54,15 @@ added b now log entries reports places symbols h goes are longer more few bound 
   },
 )
 
-few_more : (b : Bool) (line : LineState) (kept lines : List LineState) → length kept ≤ length lines → length (cond b (line ∷ kept) kept) ≤ length (line ∷ lines)
+few_more : (b : Bool) (line : DeviceStateView) (kept lines : List DeviceStateView) → length kept ≤ length lines → length (cond b (line ∷ kept) kept) ≤ length (line ∷ lines)
 few_more true line kept lines few = omega arith
 few_more false line kept lines few = omega arith
 
-pub few_run : (lines : List LineState) → length (filter runs lines) ≤ length lines
+pub few_run : (lines : List DeviceStateView) → length (filter runs lines) ≤ length lines
 few_run [] = omega arith
 few_run (line ∷ lines) = few_more (runs line) line (filter runs lines) lines (few_run lines)
 
-pub turned_holds : (b : Logged) → Holds b → Holds (turned b)
+pub turned_holds : (b : DeviceLogView) → LogHolds b → LogHolds (turned b)
 unfolding history_after
 turned_holds b h = record {
   some = (h.some.0 ++ b.log, (h.over h.some.0 h.some.1).present);
@@ -76,12 +76,12 @@ turned_holds b h = record {
   generation = omega arith;
 }
 
-pub turned_if_holds : (turns : Bool) (b : Logged) → Holds b → Holds (turned_if turns b)
+pub turned_if_holds : (turns : Bool) (b : DeviceLogView) → LogHolds b → LogHolds (turned_if turns b)
 turned_if_holds true b h = turned_holds b h
 turned_if_holds false b h = h
 
 -- what is seen behind `prepared` and `begin`
-pub began : (turns : Bool) (now : Summary) (limit number later : ℕ) (old current : Generation) (next : Option Generation)
+pub began : (turns : Bool) (now : DeviceStatesView) (limit number later : ℕ) (old current : Generation) (next : Option Generation)
     → IsNext turns now next → current ≡ unwrap_or next old → later ≡ cond (is_some next) (next_generation number) number
     → shown now limit later current ≡ turned_if turns (shown now limit number old)
 began true now limit number later old current None is_next is_current is_number = elim is_next [ ]
@@ -90,11 +90,11 @@ began false now limit number later old current None is_next is_current is_number
     ap (λ n. shown now limit n current) is_number ∙ ap (shown now limit number) is_current
 began true now limit number later old current (Some g) is_next is_current is_number =
     ap (λ n. shown now limit n current) is_number ∙ ap (shown now limit (next_generation number)) is_current
-    ∙ same_seen now limit (next_generation number) g is_next
+    ∙ same_used_id now limit (next_generation number) g is_next
   where
-    same_seen : (now : Summary) (limit number : ℕ) (g : Generation) → Begins now g
+    same_used_id : (now : DeviceStatesView) (limit number : ℕ) (g : Generation) → Begins now g
         → shown now limit number g ≡ record { opening = now; present = now; log = []; length = 0; symbols = 0; limit = limit; generation = number }
-    same_seen now limit number g begins = cc (begins.opening, begins.entries, begins.places, begins.symbols)
+    same_used_id now limit number g begins = cc (begins.opening, begins.entries, begins.places, begins.symbols)
 
 pub ready_log : (count bytes : ℕ) (old current : Generation) (next : Option Generation) → IsReady count bytes (log_of next old.log) → current ≡ unwrap_or next old
     → IsReady count bytes current.log

@@ -4,13 +4,13 @@ use Rattle.std.specs.List.{All, filter}
 use Rattle.std.proofs.lemmas.List.Elements.{All-get_or, All-head, All-push, All-tail}
 use Rattle.book_log.specs.Entries.{Entry, GoesOn, symbols_in}
 use Rattle.book_log.specs.History.{history_after}
-use Rattle.book_log.specs.Standing.{LineState, Summary, StandsAt, StandsFor, has_stopped, is_ended, is_lost}
-use Rattle.book_log.specs.Logged.{Holds, IsFresh, Over, runs, running, stopped_of}
-use Rattle.book_log.specs.Pieces.{Held}
+use Rattle.book_log.specs.Standing.{DeviceStateView, DeviceStatesView, StandsAt, StandsFor, has_stopped, is_ended, is_lost}
+use Rattle.book_log.specs.DeviceLogView.{LogHolds, IsFresh, FollowsLog, runs, running, stopped_of}
+use Rattle.book_log.specs.Pieces.{LogView}
 use Rattle.book_log.specs.Turning.{shown}
 use Rattle.book_log.specs.Steps.{IsNew}
 
-new_at : (line : LineState) (d : ℕ) → IsNew line → StandsAt line d []
+new_at : (line : DeviceStateView) (d : ℕ) → IsNew line → StandsAt line d []
 unfolding history_after
 new_at line d new = record {
   device = λ runs. new.device;
@@ -21,7 +21,7 @@ new_at line d new = record {
   sky = new.sky;
 }
 
-pub new_stand : (lines : List LineState) → All IsNew lines → StandsFor (record { lines = lines; stamp = None }) []
+pub new_stand : (lines : List DeviceStateView) → All IsNew lines → StandsFor (record { lines = lines; stamp = None }) []
 unfolding GoesOn
 new_stand lines new = record {
   is_log = tt;
@@ -29,29 +29,29 @@ new_stand lines new = record {
   stamp = refl;
 }
 
-pub new_run : (lines : List LineState) → All IsNew lines → length (filter runs lines) ≡ length lines
+pub new_run : (lines : List DeviceStateView) → All IsNew lines → length (filter runs lines) ≡ length lines
 new_run [] new = refl
 new_run (line ∷ lines) new =
     ap (λ b. length (cond b (line ∷ filter runs lines) (filter runs lines))) (ap (λ s. cond (has_stopped s) false true) (All-head IsNew line lines new).stage)
     ∙ ap (λ n. suc n) (new_run lines (All-tail IsNew line lines new))
 
-pub all_more : (lines : List LineState) (line : LineState) → All IsNew lines → IsNew line → All IsNew (lines ++ line ∷ [])
+pub all_more : (lines : List DeviceStateView) (line : DeviceStateView) → All IsNew lines → IsNew line → All IsNew (lines ++ line ∷ [])
 all_more lines line new next = All-push IsNew lines line new next
 
-pub new_stopped : (lines : List LineState) → All IsNew lines → map (λ line. has_stopped line.stage) lines ≡ replicate (length lines) false
+pub new_stopped : (lines : List DeviceStateView) → All IsNew lines → map (λ line. has_stopped line.stage) lines ≡ replicate (length lines) false
 new_stopped [] new = refl
 new_stopped (line ∷ lines) new =
     ap (λ b. b ∷ map (λ l. has_stopped l.stage) lines) (ap has_stopped (All-head IsNew line lines new).stage)
     ∙ ap (λ s. false ∷ s) (new_stopped lines (All-tail IsNew line lines new))
 
-pub new_log : (opening present : Summary) (devices limit : ℕ) (log : Held) → opening ≡ present → StandsFor present [] → length present.lines ≡ devices
+pub new_log : (opening present : DeviceStatesView) (devices limit : ℕ) (log : LogView) → opening ≡ present → StandsFor present [] → length present.lines ≡ devices
     → running present ≡ devices → stopped_of present ≡ replicate devices false → devices < 256 → limit ≤ 33_554_432 → log.entries ≡ [] → devices ≤ log.room
-    → Holds (shown present limit 0 (record { opening = opening; log = log; length = 0; symbols = 0 }))
+    → LogHolds (shown present limit 0 (record { opening = opening; log = log; length = 0; symbols = 0 }))
     × (running present ≤ log.room)
     × IsFresh devices limit (shown present limit 0 (record { opening = opening; log = log; length = 0; symbols = 0 }))
 unfolding history_after
 new_log opening present devices limit log same stands count runs stopped small limited none room =
-    let P : Summary → Type 0 = λ o. StandsFor o [] in (
+    let P : DeviceStatesView → Type 0 = λ o. StandsFor o [] in (
       record {
         some = ([], subst P (sym same) stands);
         over = λ before was. new_over opening present limit log before same none was;
@@ -77,10 +77,10 @@ new_log opening present devices limit log same stands count runs stopped small l
       },
     )
   where
-    new_over : (opening present : Summary) (limit : ℕ) (log : Held) (before : List Entry) → opening ≡ present → log.entries ≡ [] → StandsFor opening before
-        → Over (shown present limit 0 (record { opening = opening; log = log; length = 0; symbols = 0 })) before
+    new_over : (opening present : DeviceStatesView) (limit : ℕ) (log : LogView) (before : List Entry) → opening ≡ present → log.entries ≡ [] → StandsFor opening before
+        → FollowsLog (shown present limit 0 (record { opening = opening; log = log; length = 0; symbols = 0 })) before
     new_over opening present limit log before same none was =
-        let P : Summary → Type 0 = λ o. StandsFor o before in
+        let P : DeviceStatesView → Type 0 = λ o. StandsFor o before in
         let Q : List Entry → Type 0 = λ l. StandsFor present l in
         record {
           present = subst Q (sym (append-nil before) ∙ ap (λ l. before ++ l) (sym none)) (subst P same was);

@@ -5,7 +5,7 @@ use Rattle.std.proofs.lemmas.Bool.{and_parts, eq-eqb, eqb-true, lt-ltb}
 use Rattle.gps_report.specs.declared.report.Body.{Body}
 use Rattle.gps_report.specs.declared.report.Report.{Report}
 use Rattle.book_batch.specs.Sharing.{AreNamed}
-use Rattle.book_log.specs.Logged.{AreOf}
+use Rattle.book_log.specs.DeviceLogView.{AreOf}
 use Rattle.book_log.specs.Readings.{of_device}
 
 pub of_device_own : (d : ℕ) (bodies : List Body) → AreOf d (of_device d bodies)

@@ -12,11 +12,11 @@ use Rattle.gps_report.specs.declared.report.Body.{Body}
 use Rattle.gps_report.specs.declared.report.Report.{Report}
 use Rattle.device_core.specs.Stream.{piece}
 use Rattle.device_core.specs.Standing.{StandsFor as DeviceStands}
-use Rattle.book_log.specs.declared.stage.Stage.TheVariants.{Running}
+use Rattle.book_log.specs.declared.device_stage.DeviceStage.TheVariants.{Running}
 use Rattle.book_log.specs.Entries.{Entry, Got, GoesOn, IsLog, ended, got, has_end, has_lost, lost, stops_in, stream}
 use Rattle.book_log.specs.Readings.{fix_in, first_stamp, given_by, last_of, last_stamp, of_device, sky_in, stamp_at}
 use Rattle.book_log.specs.History.{history, history_after}
-use Rattle.book_log.specs.Standing.{LineState, StandsAt, StandsFor, Summary, is_ended, is_lost}
+use Rattle.book_log.specs.Standing.{DeviceStateView, StandsAt, StandsFor, DeviceStatesView, is_ended, is_lost}
 use Rattle.book_log.specs.Steps.{EndsAt, Goes, GoesAll, LosesAt, TakesAt}
 use Rattle.book_log.proofs.ReadingLaws.{last_of-append}
 use Rattle.book_log.proofs.Histories.{IsQuiet, given_other, has_end-append, has_lost-append, history-append, quiet_end, quiet_got, quiet_loss, stream-append}
@@ -47,7 +47,7 @@ goes_loss : (n d : ℕ) (log : List Entry) → d < n → stops_in d log ≡ fals
 unfolding GoesOn
 goes_loss n d log within runs = (within, runs, tt)
 
-pub runs_in : (d : ℕ) (line : LineState) (log : List Entry) → line.stage ≡ Running → StandsAt line d log → stops_in d log ≡ false
+pub runs_in : (d : ℕ) (line : DeviceStateView) (log : List Entry) → line.stage ≡ Running → StandsAt line d log → stops_in d log ≡ false
 runs_in d line log runs was =
     ap (λ b. b || has_lost d log) (sym was.ended ∙ ap is_ended runs) ∙ sym was.lost ∙ ap is_lost runs
 
@@ -64,7 +64,7 @@ nothing_more : (d : ℕ) (log entries : List Entry) → stream d entries ≡ [] 
 nothing_more d log entries none = stream-append d log entries ∙ ap (λ s. stream d log ++ s) none ∙ append-nil (stream d log)
 
 -- another device's line stays as it is
-stays : (d e : ℕ) (line : LineState) (log entries : List Entry) (bodies : List Body) → nat_eq d e ≡ false → IsQuiet e entries
+stays : (d e : ℕ) (line : DeviceStateView) (log entries : List Entry) (bodies : List Body) → nat_eq d e ≡ false → IsQuiet e entries
     → history_after log entries ≡ of_device d bodies → StandsAt line e log → StandsAt line e (log ++ entries)
 stays d e line log entries bodies other quiet adds was = record {
   device = λ runs. subst (DeviceStands line.kept) (sym (nothing_more e log entries quiet.no_symbols)) (was.device runs);
@@ -79,8 +79,8 @@ bool_cases : (b : Bool) → (b ≡ true) ⊎ (b ≡ false)
 bool_cases true = inl refl
 bool_cases false = inr refl
 
-all_go : (old new : Summary) (d : ℕ) (entries : List Entry) (bodies : List Body) (reports : List Report) (next : LineState)
-    → d < length old.lines → new.lines ≡ set old.lines d next → ((free : LineState) → Goes d (get_or old.lines d free) next entries reports)
+all_go : (old new : DeviceStatesView) (d : ℕ) (entries : List Entry) (bodies : List Body) (reports : List Report) (next : DeviceStateView)
+    → d < length old.lines → new.lines ≡ set old.lines d next → ((free : DeviceStateView) → Goes d (get_or old.lines d free) next entries reports)
     → ((e : ℕ) → nat_eq d e ≡ false → IsQuiet e entries) → reports ≡ of_device d bodies
     → ((log : List Entry) → StandsFor old log → GoesOn (length old.lines) log entries)
     → ((log : List Entry) → StandsFor old log → new.stamp ≡ last_stamp (log ++ entries))
@@ -89,7 +89,7 @@ all_go old new d entries bodies reports next within are goes quiet own on stamps
   adds = λ log was. adds log was next;
   stands = λ log was. record {
     is_log = let P : ℕ → Type 0 = λ n. IsLog n (log ++ entries) in subst P (sym count) (goes-append (length old.lines) [] log entries was.is_log (on log was));
-    lines = λ e free inside. let P : List LineState → Type 0 = λ lines. StandsAt (get_or lines e free) e (log ++ entries) in
+    lines = λ e free inside. let P : List DeviceStateView → Type 0 = λ lines. StandsAt (get_or lines e free) e (log ++ entries) in
         subst P (sym are) (line log was e free (subst (λ n. e < n) count inside));
     stamp = stamps log was;
   };
@@ -99,19 +99,19 @@ all_go old new d entries bodies reports next within are goes quiet own on stamps
     count : length new.lines ≡ length old.lines
     count = ap length are ∙ length-set old.lines d next
 
-    adds : (log : List Entry) → StandsFor old log → (free : LineState) → history_after log entries ≡ reports
+    adds : (log : List Entry) → StandsFor old log → (free : DeviceStateView) → history_after log entries ≡ reports
     adds log was free = (goes free).adds log (was.lines d free within)
 
-    line : (log : List Entry) → StandsFor old log → (e : ℕ) (free : LineState) → e < length old.lines → StandsAt (get_or (set old.lines d next) e free) e (log ++ entries)
+    line : (log : List Entry) → StandsFor old log → (e : ℕ) (free : DeviceStateView) → e < length old.lines → StandsAt (get_or (set old.lines d next) e free) e (log ++ entries)
     line log was e free inside =
         elim (bool_cases (nat_eq d e)) [
           | inl same ↦
               let is : d ≡ e = eqb-true d e same in
               let P : ℕ → Type 0 = λ k. StandsAt (get_or (set old.lines d next) k free) k (log ++ entries) in
-              let Q : LineState → Type 0 = λ l. StandsAt l d (log ++ entries) in
+              let Q : DeviceStateView → Type 0 = λ l. StandsAt l d (log ++ entries) in
               subst P is (subst Q (sym (get_or-set_same old.lines d next free within)) ((goes free).stands log (was.lines d free within)))
           | inr other ↦
-              let Q : LineState → Type 0 = λ l. StandsAt l e (log ++ entries) in
+              let Q : DeviceStateView → Type 0 = λ l. StandsAt l e (log ++ entries) in
               subst Q (sym (get_or-set_other old.lines d e next free (λ (p : e ≡ d). eqb-false d e other (sym p))))
               (stays d e (get_or old.lines e free) log entries bodies other (quiet e other) (adds log was free ∙ own) (was.lines e free inside))
         ]
@@ -124,16 +124,16 @@ stamp_fed : (d : ℕ) (at : Moment) (bytes : List ℕ) → 0 < length bytes → 
 stamp_fed d at [] some = absurd (omega arith)
 stamp_fed d at (byte ∷ bytes) some = stamp_of_piece d at bytes
 
-stamp_after : (old : Summary) (now : Option Moment) (log entries : List Entry) (stamp : Option Moment) → StandsFor old log
+stamp_after : (old : DeviceStatesView) (now : Option Moment) (log entries : List Entry) (stamp : Option Moment) → StandsFor old log
     → now ≡ option_or stamp old.stamp → last_stamp entries ≡ stamp → now ≡ last_stamp (log ++ entries)
 stamp_after old now log entries stamp was is last =
     is ∙ ap (option_or stamp) was.stamp ∙ ap (λ o. option_or o (last_stamp log)) (sym last) ∙ sym (last_of-append stamp_at log entries)
 
 -- the device of this number runs
-abbrev pub RunsAt : Summary → ℕ → Type 0
-RunsAt old d = (free : LineState) → (get_or old.lines d free).stage ≡ Running
+abbrev pub RunsAt : DeviceStatesView → ℕ → Type 0
+RunsAt old d = (free : DeviceStateView) → (get_or old.lines d free).stage ≡ Running
 
-pub fed_all : (old new : Summary) (d : ℕ) (at : Moment) (bytes : List ℕ) (reports : List Report) → d < length old.lines → 0 < length bytes → RunsAt old d
+pub fed_all : (old new : DeviceStatesView) (d : ℕ) (at : Moment) (bytes : List ℕ) (reports : List Report) → d < length old.lines → 0 < length bytes → RunsAt old d
     → TakesAt old new d (piece at bytes) (Some at) reports → GoesAll old new (got d (piece at bytes)) reports
 fed_all old new d at bytes reports within some runs takes =
     let next = takes.lines_are.next in
@@ -144,7 +144,7 @@ fed_all old new d at bytes reports within some runs takes =
     (λ log was. goes_got (length old.lines) d log (piece at bytes) within (runs_in d (get_or old.lines d next) log (runs next) (was.lines d next within)))
     (λ log was. stamp_after old new.stamp log (got d (piece at bytes)) (Some at) was takes.stamp_is (stamp_fed d at bytes some))
 
-pub edged_all : (old new : Summary) (d : ℕ) (edge : Edge) (reports : List Report) → d < length old.lines → RunsAt old d
+pub edged_all : (old new : DeviceStatesView) (d : ℕ) (edge : Edge) (reports : List Report) → d < length old.lines → RunsAt old d
     → TakesAt old new d (EdgeSymbol edge ∷ []) None reports → GoesAll old new (got d (EdgeSymbol edge ∷ [])) reports
 edged_all old new d edge reports within runs takes =
     let next = takes.lines_are.next in
@@ -155,7 +155,7 @@ edged_all old new d edge reports within runs takes =
     (λ log was. goes_got (length old.lines) d log (EdgeSymbol edge ∷ []) within (runs_in d (get_or old.lines d next) log (runs next) (was.lines d next within)))
     (λ log was. stamp_after old new.stamp log (got d (EdgeSymbol edge ∷ [])) None was takes.stamp_is refl)
 
-pub ended_all : (old new : Summary) (d : ℕ) (reports : List Report) → d < length old.lines → RunsAt old d
+pub ended_all : (old new : DeviceStatesView) (d : ℕ) (reports : List Report) → d < length old.lines → RunsAt old d
     → EndsAt old new d reports → GoesAll old new (ended d) reports
 ended_all old new d reports within runs ends =
     let next = ends.lines_are.next in
@@ -166,7 +166,7 @@ ended_all old new d reports within runs ends =
     (λ log was. goes_end (length old.lines) d log within (runs_in d (get_or old.lines d next) log (runs next) (was.lines d next within)))
     (λ log was. stamp_after old new.stamp log (ended d) None was ends.stamp_is refl)
 
-pub lost_all : (old new : Summary) (d : ℕ) → d < length old.lines → RunsAt old d → LosesAt old new d → GoesAll old new (lost d) []
+pub lost_all : (old new : DeviceStatesView) (d : ℕ) → d < length old.lines → RunsAt old d → LosesAt old new d → GoesAll old new (lost d) []
 lost_all old new d within runs loses =
     let next = loses.lines_are.next in
     all_go old new d (lost d) [] [] next within loses.lines_are.news_are

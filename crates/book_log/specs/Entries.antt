@@ -1,5 +1,4 @@
--- The entries of a book's log: what came of each device, its end and its loss, in one order; and what a log has of one device. This
--- project's own.
+-- The entries of a book's log: what came of each device, its end and its loss, in one order; and what a log has of one device.
 use Rattle.std.specs.Prelude.{◌≡◌, ◌<◌, ℕ, Bool, true, false, ◌||◌, List, [], ◌∷◌, ◌++◌, cond, length, map, nat_eq}
 use Rattle.std.specs.List.{filter, flat_map, list_any}
 use Rattle.gps_fixed.specs.Moment.{Moment}

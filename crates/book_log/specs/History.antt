@@ -1,4 +1,4 @@
--- The history of a log: entry by entry, the reports that each adds behind the entries before it. This project's own.
+-- The history of a log: entry by entry, the reports that each adds behind the entries before it.
 use Rattle.std.specs.Prelude.{ℕ, List, [], ◌∷◌, ◌++◌, Option, Some, None, cond}
 use Rattle.gps_fixed.specs.Moment.{Moment}
 use Rattle.gps_report.specs.declared.edge.Symbol.{Symbol}

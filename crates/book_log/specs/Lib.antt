@@ -2,7 +2,7 @@ pub mod Entries
 pub mod Readings
 pub mod History
 pub mod Standing
-pub mod Logged
+pub mod DeviceLogView
 pub mod Pieces
 pub mod Steps
 pub mod Turning

@@ -1,5 +1,5 @@
 -- The first and the last that a list gives of something; and the stamps, the fixes and the skies that stand in symbols, entries and
--- reports. This project's own.
+-- reports.
 use Rattle.std.specs.Prelude.{ℕ, List, [], ◌∷◌, Option, Some, None, cond, map, nat_eq}
 use Rattle.std.specs.Option.{option_or}
 use Rattle.gps_fixed.specs.Moment.{Moment}

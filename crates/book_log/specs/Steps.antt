@@ -1,5 +1,5 @@
 -- Steps of the calls, which no public clause speaks of: what becomes of one device's line and of all lines, and of what is kept of a
--- generation. This project's own.
+-- generation.
 use Rattle.std.specs.Prelude.{◌≡◌, ◌≤◌, ◌+◌, ℕ, List, [], ◌∷◌, ◌++◌, Option, Some, None, length, get_or}
 use Rattle.std.proofs.Math.ListN.{set}
 use Rattle.std.specs.Option.{option_or}
@@ -10,11 +10,11 @@ use Rattle.gps_report.specs.declared.report.Body.TheVariants.{Device}
 use Rattle.gps_report.specs.declared.report.Report.{Report}
 use Rattle.device_core.specs.Reports.{device_close, Gains}
 use Rattle.device_core.specs.Standing.{StandsFor as DeviceStands}
-use Rattle.book_log.specs.declared.stage.Stage.TheVariants.{Running, Ended, Lost}
+use Rattle.book_log.specs.declared.device_stage.DeviceStage.TheVariants.{Running, Ended, Lost}
 use Rattle.book_log.specs.Readings.{fix_in, last_of, of_device, sky_in}
 use Rattle.book_log.specs.Entries.{Entry}
 use Rattle.book_log.specs.History.{history_after}
-use Rattle.book_log.specs.Standing.{LineState, StandsAt, StandsFor, Summary}
+use Rattle.book_log.specs.Standing.{DeviceStateView, StandsAt, StandsFor, DeviceStatesView}
 
 abbrev pub announcement : Option Moment → List Body
 announcement None = []
@@ -26,7 +26,7 @@ unless_known (Some first) at = None
 unless_known None at = at
 
 -- a device that was given nothing yet
-pub record IsNew (line : LineState) : Type 0 where
+pub record IsNew (line : DeviceStateView) : Type 0 where
   pub device : DeviceStands line.kept []
   pub first : line.first ≡ None
   pub stage : line.stage ≡ Running
@@ -39,7 +39,7 @@ most_reports (Some at) symbols = 2056 + length symbols
 most_reports None symbols = 1
 
 -- a device took symbols, of which the first byte has this stamp, and `out` are the reports that it gained
-pub record Took (old new : LineState) (d : ℕ) (symbols : List Symbol) (stamp : Option Moment) (out : List Body) (reports : List Report) : Type 0 where
+pub record Took (old new : DeviceStateView) (d : ℕ) (symbols : List Symbol) (stamp : Option Moment) (out : List Body) (reports : List Report) : Type 0 where
   pub gains : (s : List Symbol) → DeviceStands old.kept s → Gains s symbols out
   pub stands : (s : List Symbol) → DeviceStands old.kept s → DeviceStands new.kept (s ++ symbols)
   pub reports_are : reports ≡ of_device d (announcement (unless_known old.first stamp) ++ out)
@@ -49,11 +49,11 @@ pub record Took (old new : LineState) (d : ℕ) (symbols : List Symbol) (stamp :
   pub sky : new.sky ≡ option_or (last_of sky_in out) old.sky
   pub few : length reports ≤ most_reports stamp symbols
 
-abbrev pub Takes : LineState → LineState → ℕ → List Symbol → Option Moment → List Report → Type 0
-Takes old new d symbols stamp reports = (out : List Body) × Took old new d symbols stamp out reports
+abbrev pub TakesSymbols : DeviceStateView → DeviceStateView → ℕ → List Symbol → Option Moment → List Report → Type 0
+TakesSymbols old new d symbols stamp reports = (out : List Body) × Took old new d symbols stamp out reports
 
 -- a device has ended, and `out` are the reports of its end
-pub record Closed (old new : LineState) (d : ℕ) (out : List Body) (reports : List Report) : Type 0 where
+pub record Closed (old new : DeviceStateView) (d : ℕ) (out : List Body) (reports : List Report) : Type 0 where
   pub closes : (s : List Symbol) → DeviceStands old.kept s → out ≡ device_close s
   pub reports_are : reports ≡ of_device d (out ++ Device None ∷ [])
   pub first : new.first ≡ old.first
@@ -62,38 +62,38 @@ pub record Closed (old new : LineState) (d : ℕ) (out : List Body) (reports : L
   pub sky : new.sky ≡ option_or (last_of sky_in out) old.sky
   pub few : length reports ≤ 3
 
-abbrev pub Ends : LineState → LineState → ℕ → List Report → Type 0
+abbrev pub Ends : DeviceStateView → DeviceStateView → ℕ → List Report → Type 0
 Ends old new d reports = (out : List Body) × Closed old new d out reports
 
 -- the line of device d alone became another one, by this relation
-pub record ChangesAt (olds news : List LineState) (d : ℕ) (R : LineState → LineState → Type 0) : Type 0 where
-  pub next : LineState
+pub record ChangesAt (olds news : List DeviceStateView) (d : ℕ) (R : DeviceStateView → DeviceStateView → Type 0) : Type 0 where
+  pub next : DeviceStateView
   pub news_are : news ≡ set olds d next
-  pub changes : (free : LineState) → R (get_or olds d free) next
+  pub changes : (free : DeviceStateView) → R (get_or olds d free) next
 
 -- device d took symbols, among all devices
-pub record TakesAt (old new : Summary) (d : ℕ) (symbols : List Symbol) (stamp : Option Moment) (reports : List Report) : Type 0 where
-  pub lines_are : ChangesAt old.lines new.lines d (λ before after. Takes before after d symbols stamp reports)
+pub record TakesAt (old new : DeviceStatesView) (d : ℕ) (symbols : List Symbol) (stamp : Option Moment) (reports : List Report) : Type 0 where
+  pub lines_are : ChangesAt old.lines new.lines d (λ before after. TakesSymbols before after d symbols stamp reports)
   pub stamp_is : new.stamp ≡ option_or stamp old.stamp
 
-pub record EndsAt (old new : Summary) (d : ℕ) (reports : List Report) : Type 0 where
+pub record EndsAt (old new : DeviceStatesView) (d : ℕ) (reports : List Report) : Type 0 where
   pub lines_are : ChangesAt old.lines new.lines d (λ before after. Ends before after d reports)
   pub stamp_is : new.stamp ≡ old.stamp
 
-abbrev pub Loses : LineState → LineState → Type 0
+abbrev pub Loses : DeviceStateView → DeviceStateView → Type 0
 Loses old new = new ≡ record old { stage = Lost }
 
-pub record LosesAt (old new : Summary) (d : ℕ) : Type 0 where
+pub record LosesAt (old new : DeviceStatesView) (d : ℕ) : Type 0 where
   pub lines_are : ChangesAt old.lines new.lines d Loses
   pub stamp_is : new.stamp ≡ old.stamp
 
 -- one device's line goes on from every log that it stood for
-pub record Goes (d : ℕ) (old new : LineState) (entries : List Entry) (reports : List Report) : Type 0 where
+pub record Goes (d : ℕ) (old new : DeviceStateView) (entries : List Entry) (reports : List Report) : Type 0 where
   pub adds : (log : List Entry) → StandsAt old d log → history_after log entries ≡ reports
   pub stands : (log : List Entry) → StandsAt old d log → StandsAt new d (log ++ entries)
 
 -- all lines go on from every log that they stood for
-pub record GoesAll (old new : Summary) (entries : List Entry) (reports : List Report) : Type 0 where
+pub record GoesAll (old new : DeviceStatesView) (entries : List Entry) (reports : List Report) : Type 0 where
   pub adds : (log : List Entry) → StandsFor old log → history_after log entries ≡ reports
   pub stands : (log : List Entry) → StandsFor old log → StandsFor new (log ++ entries)
   pub count : length new.lines ≡ length old.lines

@@ -6,11 +6,11 @@ ghost use Rattle.book_log.specs.Entries.{Entry, edged, ended, fed, lost};
 ghost use Rattle.book_log.specs.Readings.{last_fix, last_sky, last_stamp};
 ghost use Rattle.book_log.specs.History.{active, history};
 ghost use Rattle.book_log.specs.Standing.{StandsFor, has_stopped};
-ghost use Rattle.book_log.specs.Logged.{Adds, AreOf, Holds, IsFresh, stopped_of, turned_if, turns_at};
+ghost use Rattle.book_log.specs.DeviceLogView.{LogAdds, AreOf, LogHolds, IsFresh, stopped_of, turned_if, turns_at};
 
 use crate::addition::Addition;
+use crate::device_states::DeviceStates;
 use crate::generation::{Generation, begin, prepared, turns_due};
-use crate::lines::Lines;
 use crate::log::Log;
 use book_batch::Batch;
 use gps_fixed::{NoMemory, Stamp};
@@ -24,7 +24,7 @@ use std::marker::Model;
 #[derive(Drop)]
 pub struct DeviceLog {
     alloc: Global,
-    present: Lines,
+    present: DeviceStates,
     current: Generation,
     generation: u64,
     limit: u32,
@@ -32,14 +32,14 @@ pub struct DeviceLog {
 
 impl Model for DeviceLog {
     ghost use Rattle.std.specs.Prelude.{◌≤◌};
-    ghost use Rattle.book_log.specs.Logged.{Holds, Logged, running};
+    ghost use Rattle.book_log.specs.DeviceLogView.{LogHolds, DeviceLogView, running};
     ghost use Rattle.book_log.specs.Turning.{shown};
 
-    ghost Value = { Logged };
+    ghost Value = { DeviceLogView };
 
     ghost view = { λ b. shown b.present b.limit b.generation b.current };
 
-    ghost invariant = { λ b. Holds (shown b.present b.limit b.generation b.current) × (running b.present ≤ b.current.log.room) };
+    ghost invariant = { λ b. LogHolds (shown b.present b.limit b.generation b.current) × (running b.present ≤ b.current.log.room) };
 }
 
 impl DeviceLog {
@@ -48,9 +48,9 @@ impl DeviceLog {
     pub fn new(alloc: Global, devices: u8, limit: u32) -> Result<DeviceLog, NoMemory>
         requires { limit ≤ 33_554_432 }
         ensures fresh { IfOk result (λ log. IsFresh devices limit log) }
-        ensures holds { IfOk result Holds }
+        ensures holds { IfOk result LogHolds }
     {
-        let present = Lines::new(alloc, devices)?;
+        let present = DeviceStates::new(alloc, devices)?;
         let opening = present.copy(alloc)?;
         let log = Log::with_room(alloc, usize::from(devices), 0)?;
         let current = Generation {
@@ -83,7 +83,8 @@ impl DeviceLog {
         requires runs { get_or (stopped_of self.old.present) device true ≡ false }
         requires some { 0 < length bytes.now }
         requires piece { length bytes.now ≤ 512 }
-        ensures adds { IfOk result (λ added. Adds (turned_if (turns_at self.old (length bytes.now)) self.old) self.new (fed device at bytes.now) added.batch.reports) }
+        ensures adds { IfOk result (λ added. LogAdds (turned_if (turns_at self.old (length bytes.now)) self.old) self.new
+            (fed device at bytes.now) added.batch.reports) }
         ensures turned { IfOk result (λ added. added.turned ≡ turns_at self.old (length bytes.now)) }
         ensures first { IfOk result (λ added. added.first ≡ (turned_if (turns_at self.old (length bytes.now)) self.old).length) }
         ensures few { IfOk result (λ added. length added.batch.reports ≤ 2056 + length bytes.now) }
@@ -91,7 +92,7 @@ impl DeviceLog {
         ensures shares { IfOk result (λ added. shares_of added.batch ≡ shares) }
         ensures lines { IfOk result (λ added. SharesLines names.now added.batch) }
         ensures stopped { stopped_of self.new.present ≡ stopped_of self.old.present }
-        ensures holds { Holds self.new }
+        ensures holds { LogHolds self.new }
         ensures err { OnErr result (self.new ≡ self.old) }
     {
         let turned = turns_due(self.current.symbols, self.limit, bytes.len() as u32);
@@ -129,7 +130,7 @@ impl DeviceLog {
         requires named { device < length names.now }
         requires shares { shares ≤ 64 }
         requires runs { get_or (stopped_of self.old.present) device true ≡ false }
-        ensures adds { IfOk result (λ added. Adds (turned_if (turns_at self.old 1) self.old) self.new (edged device edge.now) added.batch.reports) }
+        ensures adds { IfOk result (λ added. LogAdds (turned_if (turns_at self.old 1) self.old) self.new (edged device edge.now) added.batch.reports) }
         ensures turned { IfOk result (λ added. added.turned ≡ turns_at self.old 1) }
         ensures first { IfOk result (λ added. added.first ≡ (turned_if (turns_at self.old 1) self.old).length) }
         ensures few { IfOk result (λ added. length added.batch.reports ≤ 1) }
@@ -137,7 +138,7 @@ impl DeviceLog {
         ensures shares { IfOk result (λ added. shares_of added.batch ≡ shares) }
         ensures lines { IfOk result (λ added. SharesLines names.now added.batch) }
         ensures stopped { stopped_of self.new.present ≡ stopped_of self.old.present }
-        ensures holds { Holds self.new }
+        ensures holds { LogHolds self.new }
         ensures err { OnErr result (self.new ≡ self.old) }
     {
         let turned = turns_due(self.current.symbols, self.limit, 1);
@@ -165,7 +166,7 @@ impl DeviceLog {
         requires named { device < length names.now }
         requires shares { shares ≤ 64 }
         requires runs { get_or (stopped_of self.old.present) device true ≡ false }
-        ensures adds { IfOk result (λ added. Adds self.old self.new (ended device) added.batch.reports) }
+        ensures adds { IfOk result (λ added. LogAdds self.old self.new (ended device) added.batch.reports) }
         ensures turned { IfOk result (λ added. added.turned ≡ false) }
         ensures first { IfOk result (λ added. added.first ≡ self.old.length) }
         ensures few { IfOk result (λ added. length added.batch.reports ≤ 3) }
@@ -173,7 +174,7 @@ impl DeviceLog {
         ensures shares { IfOk result (λ added. shares_of added.batch ≡ shares) }
         ensures lines { IfOk result (λ added. SharesLines names.now added.batch) }
         ensures stopped { IfOk result (λ added. stopped_of self.new.present ≡ set (stopped_of self.old.present) device true) }
-        ensures holds { Holds self.new }
+        ensures holds { LogHolds self.new }
         ensures err { OnErr result (self.new ≡ self.old) }
     {
         let batch = self.present.finish(self.alloc, device, names, shares)?;
@@ -190,9 +191,9 @@ impl DeviceLog {
     /// A device is lost, which adds no report. Takes no memory.
     pub fn lose_device(&mut self, device: u8)
         requires { get_or (stopped_of self.old.present) device true ≡ false }
-        ensures adds { Adds self.old self.new (lost device) [] }
+        ensures adds { LogAdds self.old self.new (lost device) [] }
         ensures stopped { stopped_of self.new.present ≡ set (stopped_of self.old.present) device true }
-        ensures holds { Holds self.new }
+        ensures holds { LogHolds self.new }
     {
         self.present.lose(device);
         self.current.log.push_loss(device);

@@ -1,7 +1,7 @@
 ghost use Rattle.std.specs.Prelude.{◌≡◌, ◌≤◌, ◌<◌, ◌∷◌, ◌++◌, [], None, IfOk, length};
 ghost use Rattle.std.specs.Option.{option_or};
 ghost use Rattle.book_batch.specs.Sharing.{SharesLines, shares_of};
-ghost use Rattle.book_log.specs.Logged.{AreOf};
+ghost use Rattle.book_log.specs.DeviceLogView.{AreOf};
 ghost use Rattle.book_log.specs.Readings.{fix_in, last_of, of_device, sky_in};
 ghost use Rattle.book_log.specs.Steps.{announcement};
 

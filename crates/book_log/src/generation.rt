@@ -1,8 +1,8 @@
 ghost use Rattle.std.specs.Prelude.{◌≡◌, ◌≤◌, ◌+◌, ◌&&◌, Bool, cond, is_some, unwrap_or, nat_lt, IfOk, length};
-ghost use Rattle.book_log.specs.Logged.{next_generation};
+ghost use Rattle.book_log.specs.DeviceLogView.{next_generation};
 ghost use Rattle.book_log.specs.Turning.{IsNext, IsReady, log_of};
 
-use crate::lines::Lines;
+use crate::device_states::DeviceStates;
 use crate::log::Log;
 use gps_fixed::NoMemory;
 use std::alloc::Global;
@@ -10,7 +10,7 @@ use std::alloc::Global;
 /// One generation: what was kept as it began, the log since, how many symbols that holds, and the length of its history.
 #[derive(Drop)]
 pub struct Generation {
-    pub(crate) opening: Lines,
+    pub(crate) opening: DeviceStates,
     pub(crate) log: Log,
     pub(crate) length: u64,
     pub(crate) symbols: u32,
@@ -29,7 +29,7 @@ pub fn turns_due(symbols: u32, limit: u32, more: u32) -> bool
 pub fn prepared(
     alloc: Global,
     turns: bool,
-    now: &Lines,
+    now: &DeviceStates,
     log: &mut Log,
     bytes: usize,
 ) -> Result<Option<Generation>, NoMemory>

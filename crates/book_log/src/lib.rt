@@ -6,17 +6,17 @@
 
 mod addition;
 mod device_log;
+mod device_stage;
+mod device_state;
+mod device_states;
 mod gather;
 mod generation;
 mod laws;
-mod line;
-mod lines;
 mod log;
-mod stage;
 
 pub use addition::Addition;
 pub use device_log::DeviceLog;
+pub use device_stage::DeviceStage;
 pub use laws::{
     history_goes_on, later_history_is_decided, stops_stand_in_the_log, turns_forget_no_device,
 };
-pub use stage::Stage;

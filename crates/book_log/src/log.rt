@@ -10,7 +10,7 @@ use std::marker::Model;
 
 /// What came of a device: so many bytes at one stamp, a pulse edge, its end or its loss. It takes 24 bytes.
 #[derive(Clone, Copy, Debug, PartialEq, Eq)]
-pub enum Event {
+pub enum LogEvent {
     Fed {
         device: u8,
         count: u16,
@@ -29,16 +29,16 @@ pub enum Event {
 /// A log by its pieces: what came, in order, and the bytes of all pieces joined.
 #[derive(Drop)]
 pub struct Log {
-    events: Vec<Event>,
+    events: Vec<LogEvent>,
     bytes: Vec<u8>,
 }
 
 impl Model for Log {
     ghost use Rattle.std.specs.Prelude.{◌≡◌, ◌-◌, length};
     ghost use Rattle.std.specs.Vec.{vec_len, vec_capacity};
-    ghost use Rattle.book_log.specs.Pieces.{Held, byte_count, entries_of};
+    ghost use Rattle.book_log.specs.Pieces.{LogView, byte_count, entries_of};
 
-    ghost Value = { Held };
+    ghost Value = { LogView };
 
     ghost view = { λ l. record { entries = entries_of l.events.items l.bytes.items; room = vec_capacity l.events - vec_len l.events; spare = vec_capacity l.bytes - vec_len l.bytes } };
 
@@ -88,7 +88,8 @@ impl Log {
     {
         let count = bytes.len() as u16;
         extend_reserved(&mut self.bytes, bytes);
-        self.events.push_reserved(Event::Fed { device, count, at });
+        self.events
+            .push_reserved(LogEvent::Fed { device, count, at });
     }
 
     /// Adds a pulse edge, for which there is room. Takes no memory.
@@ -98,7 +99,7 @@ impl Log {
         ensures { Keeps self.old self.new (edged device edge.now) }
     {
         let Edge { kind, seq, at } = *edge;
-        self.events.push_reserved(Event::Edged {
+        self.events.push_reserved(LogEvent::Edged {
             device,
             kind,
             seq,
@@ -112,7 +113,7 @@ impl Log {
         requires { 0 < self.old.room }
         ensures { Keeps self.old self.new (ended device) }
     {
-        self.events.push_reserved(Event::Ended(device));
+        self.events.push_reserved(LogEvent::Ended(device));
     }
 
     /// Adds a device's loss, for which there is room. Takes no memory.
@@ -121,6 +122,6 @@ impl Log {
         requires { 0 < self.old.room }
         ensures { Keeps self.old self.new (lost device) }
     {
-        self.events.push_reserved(Event::Lost(device));
+        self.events.push_reserved(LogEvent::Lost(device));
     }
 }

@@ -7,8 +7,8 @@ use Rattle.gps_command.specs.Policies.{policy_at, policy_with}
 use Rattle.gps_command.specs.declared.request.RawCommand.{RawCommand}
 use Rattle.gps_report.specs.declared.policy.Policy.{Policy}
 use Rattle.watch_policy.specs.Policies.{opening_policy}
-use Rattle.book_replies.specs.Knowledge.{Knowledge}
-use Rattle.book_replies.specs.Laws.{GoesOn, HasPolicyAfter, OneForEach}
+use Rattle.book_replies.specs.ReplyDataView.{ReplyDataView}
+use Rattle.book_replies.specs.Laws.{AnswersJoin, HasPolicyAfter, OneForEach}
 use Rattle.book_replies.specs.Replies.{answer_of, answered}
 use Rattle.book_replies.specs.declared.answering.Answer.{Answer}
 
@@ -17,14 +17,14 @@ unfolding answered
 one_for_each known names policy [] = refl
 one_for_each known names policy (request ∷ requests) = ap suc (one_for_each known names (policy_with policy request) requests)
 
-pub goes_on : GoesOn
+pub goes_on : AnswersJoin
 unfolding answered
 goes_on known names policy [] then = refl
 goes_on known names policy (request ∷ first) then =
     ap (λ rest. answer_of known names policy request ∷ rest) (goes_on known names (policy_with policy request) first then)
 
 -- the policy of the k-th answer is the first after its request and all before it
-policy_of : (known : Knowledge) (names : List (List ℕ)) (policy : Policy) (requests : List RawCommand) (k : ℕ) (other : Answer)
+policy_of : (known : ReplyDataView) (names : List (List ℕ)) (policy : Policy) (requests : List RawCommand) (k : ℕ) (other : Answer)
     → k < length requests
     → (slice_index_or (answered known names policy requests) k other).policy ≡ fold policy_with policy (take (suc k) requests)
 unfolding answered

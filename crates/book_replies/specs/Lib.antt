@@ -1,3 +1,3 @@
-pub mod Knowledge
+pub mod ReplyDataView
 pub mod Laws
 pub mod Replies

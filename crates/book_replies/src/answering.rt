@@ -3,7 +3,7 @@ ghost use Rattle.json_line.specs.Json.{line_end};
 ghost use Rattle.json_line.specs.Lines.{devices, watch};
 ghost use Rattle.book_replies.specs.Replies.{answer_of, answered, opening_reply};
 
-use crate::Known;
+use crate::ReplyData;
 use gps_command::{Command, RawCommand, ReadFault, command_of};
 use gps_fixed::{Bytes, NoMemory};
 use gps_report::{Names, Policy};
@@ -27,7 +27,7 @@ pub fn opening_reply(alloc: Global) -> Result<Bytes, NoMemory>
 
 fn watch_reply(
     alloc: Global,
-    known: &Known,
+    known: &ReplyData,
     names: &Names,
     policy: &Policy,
 ) -> Result<Bytes, NoMemory>
@@ -41,7 +41,12 @@ fn watch_reply(
     Ok(reply)
 }
 
-fn watched(alloc: Global, known: &Known, names: &Names, policy: Policy) -> Result<Answer, NoMemory>
+fn watched(
+    alloc: Global,
+    known: &ReplyData,
+    names: &Names,
+    policy: Policy,
+) -> Result<Answer, NoMemory>
     requires { length names.now ≡ length known.now.firsts }
     ensures policy { IfOk result (λ answer. answer.policy ≡ policy) }
     ensures reply { IfOk result (λ answer. answer.reply
@@ -53,7 +58,7 @@ fn watched(alloc: Global, known: &Known, names: &Names, policy: Policy) -> Resul
 
 fn answer_to(
     alloc: Global,
-    known: &Known,
+    known: &ReplyData,
     names: &Names,
     policy: Policy,
     request: &RawCommand,
@@ -90,7 +95,7 @@ fn answer_to(
 #[tactic(auto, unfolding(crate::specs::Replies::answered))]
 pub fn answers(
     alloc: Global,
-    known: &Known,
+    known: &ReplyData,
     names: &Names,
     policy: &Policy,
     requests: &[RawCommand],

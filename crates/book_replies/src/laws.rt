@@ -1,13 +1,13 @@
 //! The laws of answers, as contracts of functions that do nothing.
 
-ghost use Rattle.book_replies.specs.Laws.{GoesOn, HasPolicyAfter, OneForEach};
+ghost use Rattle.book_replies.specs.Laws.{AnswersJoin, HasPolicyAfter, OneForEach};
 
 /// Each request has one answer, and the answers go on over joined requests, with the policy that the first
 /// ones left.
 #[tactic(auto, using(crate::proofs::Joined::one_for_each, crate::proofs::Joined::goes_on))]
 pub fn answers_go_on()
     ensures each { OneForEach }
-    ensures joined { GoesOn }
+    ensures joined { AnswersJoin }
 {}
 
 /// The policy of each answer is that after its request and all before it.

@@ -3,9 +3,9 @@
 #![tactic(auto)]
 
 mod answering;
-mod known;
 mod laws;
+mod reply_data;
 
 pub use answering::{Answer, answers, opening_reply};
-pub use known::Known;
 pub use laws::{answers_go_on, policies_are_those_after};
+pub use reply_data::ReplyData;

@@ -4,28 +4,28 @@ use Rattle.std.specs.List.{AllZip}
 use Rattle.std.proofs.lemmas.List.Elements.{All-cons, All-head, All-map, All-push, All-set, All-tail}
 use Rattle.session_core.specs.declared.mark.Close.{Close}
 use Rattle.session_core.specs.declared.mark.Mark.{Mark}
-use Rattle.session_core.specs.Shown.{Shown, fresh, last_place, opening_policy, turned_marks}
+use Rattle.session_core.specs.SessionView.{SessionView, fresh, last_place, opening_policy, turned_marks}
 use Rattle.session_core.specs.Stretches.{answer_stretch}
 use Rattle.session_core.specs.Holding.{Selection, Holding}
 use Rattle.session_core.proofs.Gaining as gaining
 use Rattle.gps_report.specs.declared.report.Report.{Report}
 use Rattle.gps_report.specs.declared.policy.Policy.{Policy}
 use Rattle.book_replies.specs.declared.answering.Answer.{Answer}
-use Rattle.book_replies.specs.Knowledge.{Knowledge}
+use Rattle.book_replies.specs.ReplyDataView.{ReplyDataView}
 use Rattle.book_replies.specs.Replies.{answered, opening_reply}
 use Rattle.session_core.specs.Naming.{OutletName}
-use Rattle.book_sessions.specs.Attendance.{Attendance, opened, renewed}
+use Rattle.book_sessions.specs.MemberView.{MemberView, opened, renewed}
 use Rattle.book_sessions.specs.Answering.{Inputs, mark_at}
 use Rattle.book_sessions.specs.Roster.{Changes, Closes, IsAfterAll, Shuts, ShutsBy}
 use Rattle.book_sessions.specs.Spreading.{ReportsBy, Spreads}
 use Rattle.book_sessions.proofs.Zips.{zip_set, zip_weaker}
 
-pub after_zip : (place : ℕ) (xs ys : List Attendance) → AllZip (λ a b. b.session.marks ≡ a.session.marks) xs ys → IsAfterAll place xs → IsAfterAll place ys
+pub after_zip : (place : ℕ) (xs ys : List MemberView) → AllZip (λ a b. b.session.marks ≡ a.session.marks) xs ys → IsAfterAll place xs → IsAfterAll place ys
 after_zip place [] [] zip after = after
 after_zip place [] (y ∷ ys) zip after = absurd zip
 after_zip place (x ∷ xs) [] zip after = absurd zip
 after_zip place (x ∷ xs) (y ∷ ys) zip after =
-    let Fits : Attendance → Type 0 = λ a. last_place 0 a.session.marks ≤ place in
+    let Fits : MemberView → Type 0 = λ a. last_place 0 a.session.marks ≤ place in
     let Q : List Mark → Type 0 = λ m. last_place 0 m ≤ place in
     All-cons Fits y ys (subst Q (sym zip.0) (All-head Fits x xs after)) (after_zip place xs ys zip.1 (All-tail Fits x xs after))
 
@@ -34,50 +34,50 @@ last_added place later from [] [] low fits = fits
 last_added place later from [] (answer ∷ answers) low fits = last_added place later place [] answers low low
 last_added place later from (mark ∷ marks) answers low fits = last_added place later mark.place marks answers low fits
 
-pub after_input : (exact : Bool) (known : Knowledge) (names : List (List ℕ)) (place s : ℕ) (piece : List ℕ) (old new : List Attendance)
+pub after_input : (exact : Bool) (known : ReplyDataView) (names : List (List ℕ)) (place s : ℕ) (piece : List ℕ) (old new : List MemberView)
     → Changes s (Inputs exact known names place piece) old new → s < length old → (later : ℕ) → place ≤ later → IsAfterAll later old → IsAfterAll later new
 after_input exact known names place s piece old new changed within later low after =
     let next = changed.0 in
-    let Fits : Attendance → Type 0 = λ a. last_place 0 a.session.marks ≤ later in
+    let Fits : MemberView → Type 0 = λ a. last_place 0 a.session.marks ≤ later in
     let inputs = changed.2 next in
     let Q : List Mark → Type 0 = λ m. last_place 0 m ≤ later in
-    let P : List Attendance → Type 0 = λ l. IsAfterAll later l in
+    let P : List MemberView → Type 0 = λ l. IsAfterAll later l in
     let x = get_or old s next in
     subst P (sym changed.1) (All-set Fits old s next
     (subst Q (sym inputs.puts.marks) (last_added place later 0 x.session.marks (take inputs.count (answered known names x.session.policy inputs.requests)) low (after s next within))) after)
 
-pub after_close : (place s : ℕ) (why : Close) (old new : List Attendance) → Changes s (Closes place why) old new → (later : ℕ) → IsAfterAll later old → IsAfterAll later new
+pub after_close : (place s : ℕ) (why : Close) (old new : List MemberView) → Changes s (Closes place why) old new → (later : ℕ) → IsAfterAll later old → IsAfterAll later new
 after_close place s why old new changed later after =
-    let P : List Attendance → Type 0 = λ l. IsAfterAll later l in
+    let P : List MemberView → Type 0 = λ l. IsAfterAll later l in
     subst P (sym changed.1) (after_zip later old (set old s changed.0)
-    (zip_set (λ a b. b.session.marks ≡ a.session.marks) (λ a. refl) old s changed.0 (λ free. ap (λ (a : Attendance). a.session.marks) (changed.2 free).becomes)) after)
+    (zip_set (λ a b. b.session.marks ≡ a.session.marks) (λ a. refl) old s changed.0 (λ free. ap (λ (a : MemberView). a.session.marks) (changed.2 free).becomes)) after)
 
-pub after_admit : (place : ℕ) (name : OutletName) (cap : ℕ) (old new : List Attendance) → new ≡ old ++ opened name cap place ∷ []
+pub after_admit : (place : ℕ) (name : OutletName) (cap : ℕ) (old new : List MemberView) → new ≡ old ++ opened name cap place ∷ []
     → (later : ℕ) → place ≤ later → IsAfterAll later old → IsAfterAll later new
 after_admit place name cap old new pushed later low after =
-    let Fits : Attendance → Type 0 = λ a. last_place 0 a.session.marks ≤ later in
-    let P : List Attendance → Type 0 = λ l. IsAfterAll later l in
+    let Fits : MemberView → Type 0 = λ a. last_place 0 a.session.marks ≤ later in
+    let P : List MemberView → Type 0 = λ l. IsAfterAll later l in
     subst P (sym pushed) (All-push Fits old (opened name cap place) after low)
 
-shuts_marks : (place : ℕ) (why : Close) (a b : Attendance) → Shuts place why a b → b.session.marks ≡ a.session.marks
+shuts_marks : (place : ℕ) (why : Close) (a b : MemberView) → Shuts place why a b → b.session.marks ≡ a.session.marks
 shuts_marks place why a b shuts = by a.session.closing shuts
   where
     by : (c : Option (ℕ × Close)) → ShutsBy c place why a b → b.session.marks ≡ a.session.marks
-    by None closes = ap (λ (x : Attendance). x.session.marks) closes.becomes
-    by (Some closing) same = ap (λ (x : Attendance). x.session.marks) same
+    by None closes = ap (λ (x : MemberView). x.session.marks) closes.becomes
+    by (Some closing) same = ap (λ (x : MemberView). x.session.marks) same
 
-pub after_shut : (place : ℕ) (why : Close) (old new : List Attendance) → AllZip (Shuts place why) old new → (later : ℕ) → IsAfterAll later old → IsAfterAll later new
+pub after_shut : (place : ℕ) (why : Close) (old new : List MemberView) → AllZip (Shuts place why) old new → (later : ℕ) → IsAfterAll later old → IsAfterAll later new
 after_shut place why old new zip later after =
     after_zip later old new (zip_weaker (Shuts place why) (λ a b. b.session.marks ≡ a.session.marks) (shuts_marks place why) old new zip) after
 
-reports_marks : (exact : Bool) (lines : Selection) (first : ℕ) (reports : List Report) (a b : Attendance) → Spreads exact lines first reports a b → b.session.marks ≡ a.session.marks
+reports_marks : (exact : Bool) (lines : Selection) (first : ℕ) (reports : List Report) (a b : MemberView) → Spreads exact lines first reports a b → b.session.marks ≡ a.session.marks
 reports_marks exact lines first reports a b spreads = by a.session.closing spreads.session
   where
     by : (c : Option (ℕ × Close)) → ReportsBy c exact lines first reports a.session b.session → b.session.marks ≡ a.session.marks
     by None reported = reported.stays.marks
-    by (Some closing) unreported = ap (λ (s : Shown). s.marks) unreported.same
+    by (Some closing) unreported = ap (λ (s : SessionView). s.marks) unreported.same
 
-pub after_spread : (exact : Bool) (lines : Selection) (first : ℕ) (reports : List Report) (old new : List Attendance) → AllZip (Spreads exact lines first reports) old new
+pub after_spread : (exact : Bool) (lines : Selection) (first : ℕ) (reports : List Report) (old new : List MemberView) → AllZip (Spreads exact lines first reports) old new
     → (later : ℕ) → IsAfterAll later old → IsAfterAll later new
 after_spread exact lines first reports old new zip later after =
     after_zip later old new (zip_weaker (Spreads exact lines first reports) (λ a b. b.session.marks ≡ a.session.marks) (reports_marks exact lines first reports) old new zip) after
@@ -86,10 +86,10 @@ renewed_first : (policy : Policy) (c : Option (ℕ × Close)) → last_place 0 (
 renewed_first policy None = omega arith
 renewed_first policy (Some closing) = omega arith
 
-pub after_turn : (old new : List Attendance) → new ≡ map renewed old → IsAfterAll 0 new
+pub after_turn : (old new : List MemberView) → new ≡ map renewed old → IsAfterAll 0 new
 after_turn old new turned_is =
-    let Fits : Attendance → Type 0 = λ a. last_place 0 a.session.marks ≤ 0 in
-    let P : List Attendance → Type 0 = λ l. IsAfterAll 0 l in
+    let Fits : MemberView → Type 0 = λ a. last_place 0 a.session.marks ≤ 0 in
+    let P : List MemberView → Type 0 = λ l. IsAfterAll 0 l in
     subst P (sym turned_is) (All-map Fits renewed old (λ k free within. let a = get_or old k free in renewed_first a.session.policy a.session.closing))
 
 -- the first item of a session
@@ -99,11 +99,11 @@ opening_holds name cap place lines history at =
     (gaining.answered lines place opening_policy opening_reply history (fresh name cap []) [] refl at (gaining.fresh_agrees lines history name cap [])).holding
 
 -- a session that has its marks
-pub after_set : (place n : ℕ) (xs : List Attendance) (x next : Attendance) → IsAfterAll place xs → n < length xs → x ≡ get_or xs n x → next.session.marks ≡ x.session.marks
+pub after_set : (place n : ℕ) (xs : List MemberView) (x next : MemberView) → IsAfterAll place xs → n < length xs → x ≡ get_or xs n x → next.session.marks ≡ x.session.marks
     → IsAfterAll place (set xs n next)
 after_set place n xs x next after within got marks =
-    let Fits : Attendance → Type 0 = λ a. last_place 0 a.session.marks ≤ place in
-    let P : Attendance → Type 0 = Fits in
+    let Fits : MemberView → Type 0 = λ a. last_place 0 a.session.marks ≤ place in
+    let P : MemberView → Type 0 = Fits in
     let here : Fits x = subst P (sym got) (after n x within) in
     let Q : List Mark → Type 0 = λ m. last_place 0 m ≤ place in
     All-set Fits xs n next (subst Q (sym marks) here) after

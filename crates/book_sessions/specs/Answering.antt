@@ -1,11 +1,11 @@
--- How a session's requests are answered: in order, until the session is closed. This project's own.
+-- How a session's requests are answered: in order, until the session is closed.
 use Rattle.std.specs.Prelude.{◌≡◌, ◌≤◌, ◌<◌, ◌↔◌, ℕ, zero, suc, ◌+◌, ◌-◌, ◌^◌, Bool, true, false, ◌||◌, nat_le, List, [], ◌∷◌, ◌++◌, length, take, map, Option, Some, None}
 use Rattle.std.specs.List.{list_any}
 use Rattle.gps_command.specs.declared.request.RawCommand.{RawCommand}
 use Rattle.gps_command.specs.Kept as input
 use Rattle.gps_report.specs.declared.report.Report.{Report}
 use Rattle.book_replies.specs.declared.answering.Answer.{Answer}
-use Rattle.book_replies.specs.Knowledge.{Knowledge}
+use Rattle.book_replies.specs.ReplyDataView.{ReplyDataView}
 use Rattle.book_replies.specs.Replies.{answered}
 use Rattle.session_core.specs.declared.mark.Close.{Close}
 use Rattle.session_core.specs.declared.mark.Close.TheVariants.{TooManyRequests, Overrun}
@@ -13,13 +13,13 @@ use Rattle.session_core.specs.declared.mark.Mark.{Mark}
 use Rattle.session_core.specs.declared.outlet.Push.{Push}
 use Rattle.session_core.specs.declared.outlet.Push.TheVariants.{Full}
 use Rattle.session_core.specs.Pushing.{MatchPush}
-use Rattle.session_core.specs.Shown.{Shown, closed_at, last_policy, one_more, replied}
+use Rattle.session_core.specs.SessionView.{SessionView, closed_at, last_policy, one_more, replied}
 use Rattle.session_core.specs.Stretches.{Stretch, answer_stretch}
-use Rattle.session_core.specs.Holding.{Selection, Holding, Gains}
-use Rattle.book_sessions.specs.Attendance.{Attendance}
+use Rattle.session_core.specs.Holding.{Selection, Holding, SessionGains}
+use Rattle.book_sessions.specs.MemberView.{MemberView}
 
 -- what the outlet of a session may answer to a push
-pub record MayAnswer (exact : Bool) (s : Shown) (push : Push) : Type 0 where
+pub record MayAnswer (exact : Bool) (s : SessionView) (push : Push) : Type 0 where
   pub full : push ≡ Full → s.cap ≤ length s.kept
   pub exactly : exact ≡ true → (push ≡ Full) ↔ (s.cap ≤ length s.kept)
 
@@ -30,23 +30,23 @@ abbrev pub Either : Bool → Type 0 → Type 0 → Type 0
 Either true one other = one
 Either false one other = other
 
-abbrev pub ended : ℕ → Close → Attendance → Attendance
+abbrev pub ended : ℕ → Close → MemberView → MemberView
 ended place why a = record a { session = closed_at place why a.session }
 
-abbrev pub put : ℕ → Answer → Attendance → Attendance
+abbrev pub put : ℕ → Answer → MemberView → MemberView
 put place answer a = record a {
   session = replied place answer.policy answer.reply a.session;
   watched = a.watched || answer.policy.enable;
 }
 
 -- These answers are put in order. After 65,536 answered requests the next one closes the session; so does an outlet that is full.
-abbrev pub Answers : Bool → ℕ → Attendance → List Answer → Attendance → Type 0
-Answers exact place old [] new = new ≡ old
-Answers exact place old (answer ∷ more) new =
+abbrev pub PutsAnswers : Bool → ℕ → MemberView → List Answer → MemberView → Type 0
+PutsAnswers exact place old [] new = new ≡ old
+PutsAnswers exact place old (answer ∷ more) new =
     Either (nat_le most_requests old.session.requests)
     (new ≡ ended place TooManyRequests old)
     ((push : Push) × MayAnswer exact old.session push
-    × MatchPush push (Answers exact place (put place answer old) more new) (new ≡ ended place Overrun old))
+    × MatchPush push (PutsAnswers exact place (put place answer old) more new) (new ≡ ended place Overrun old))
 
 -- the number of items after so many more; it stays at its greatest value
 abbrev pub raised : ℕ → ℕ → ℕ
@@ -63,18 +63,18 @@ abbrev pub enables : Answer → Bool
 enables answer = answer.policy.enable
 
 -- why so much was not put
-abbrev pub Causes : Shown → Close → Type 0
+abbrev pub Causes : SessionView → Close → Type 0
 Causes s TooManyRequests = most_requests ≤ s.requests
 Causes s Overrun = (s.requests < most_requests) × (s.cap ≤ length s.kept)
 Causes s _ = ⊥
 
 -- where the session is closed now, some answers were not put, else all were
-abbrev pub Stops : ℕ → ℕ → Shown → Option (ℕ × Close) → Type 0
+abbrev pub Stops : ℕ → ℕ → SessionView → Option (ℕ × Close) → Type 0
 Stops place left s None = left ≡ 0
 Stops place left s (Some closing) = (0 < left) × (closing.0 ≡ place) × Causes s closing.1
 
 -- exactly these answers were put, at this place
-pub record Puts (place : ℕ) (old new : Attendance) (answers : List Answer) : Type 0 where
+pub record Puts (place : ℕ) (old new : MemberView) (answers : List Answer) : Type 0 where
   pub kept : new.session.kept ≡ old.session.kept ++ map (λ answer. answer.reply) answers
   pub marks : new.session.marks ≡ old.session.marks ++ map (mark_at place) answers
   pub policy : new.session.policy ≡ last_policy old.session.policy (map (mark_at place) answers)
@@ -84,10 +84,10 @@ pub record Puts (place : ℕ) (old new : Attendance) (answers : List Answer) : T
   pub name : new.session.name ≡ old.session.name
   pub cap : new.session.cap ≡ old.session.cap
   pub gains : (lines : Selection) (history : List Report) (stretches : List Stretch) → length history ≡ place → Holding lines history old.session stretches
-      → Gains lines history history old.session new.session stretches (stretches ++ map (stretch_at place) answers) (map (λ answer. answer.reply) answers)
+      → SessionGains lines history history old.session new.session stretches (stretches ++ map (stretch_at place) answers) (map (λ answer. answer.reply) answers)
 
 -- a piece of input at one place: its requests are answered by what is known, until the session is closed
-pub record Inputs (exact : Bool) (known : Knowledge) (names : List (List ℕ)) (place : ℕ) (piece : List ℕ) (old new : Attendance) : Type 0 where
+pub record Inputs (exact : Bool) (known : ReplyDataView) (names : List (List ℕ)) (place : ℕ) (piece : List ℕ) (old new : MemberView) : Type 0 where
   pub requests : List RawCommand
   -- these are the requests that the piece ends, behind all input before it
   pub gains : (bytes : List ℕ) → input.StandsFor old.cutter bytes → input.Gains bytes piece requests

@@ -1,4 +1,4 @@
-pub mod Attendance
+pub mod MemberView
 pub mod Answering
 pub mod Roster
 pub mod Spreading

@@ -1,16 +1,16 @@
--- How reports come to a session: each line that its policy selects, until its outlet is full. This project's own.
+-- How reports come to a session: each line that its policy selects, until its outlet is full.
 use Rattle.std.specs.Prelude.{◌≡◌, ℕ, ◌+◌, Bool, List, [], ◌∷◌, ◌++◌, length, map, not, Option, Some, None, is_some}
-use Rattle.gps_command.specs.Kept.{Kept}
+use Rattle.gps_command.specs.Kept.{CommandCutterView}
 use Rattle.gps_report.specs.declared.policy.Policy.{Policy}
 use Rattle.gps_report.specs.declared.report.Report.{Report}
 use Rattle.session_core.specs.declared.mark.Close.{Close}
 use Rattle.session_core.specs.declared.mark.Close.TheVariants.{Overrun}
 use Rattle.session_core.specs.declared.outlet.Push.{Push}
 use Rattle.session_core.specs.Pushing.{MatchPush}
-use Rattle.session_core.specs.Shown.{Shown, closed_at, given}
+use Rattle.session_core.specs.SessionView.{SessionView, closed_at, given}
 use Rattle.session_core.specs.Stretches.{Stretch}
-use Rattle.session_core.specs.Holding.{Selection, Holding, Gains}
-use Rattle.book_sessions.specs.Attendance.{Attendance, cutter_left}
+use Rattle.session_core.specs.Holding.{Selection, Holding, SessionGains}
+use Rattle.book_sessions.specs.MemberView.{MemberView, cutter_left}
 use Rattle.book_sessions.specs.Answering.{MayAnswer, raised}
 
 -- a line that is due to a session, at the place of its report
@@ -22,7 +22,7 @@ abbrev pub due_at : ℕ → List ℕ → Due
 due_at place line = record { place = place; line = line }
 
 -- what was given up is what a session kept that was open
-abbrev pub cutter_by : Option (ℕ × Close) → Option (ℕ × Close) → Kept → Kept
+abbrev pub cutter_by : Option (ℕ × Close) → Option (ℕ × Close) → CommandCutterView → CommandCutterView
 cutter_by None now cutter = cutter_left now cutter
 cutter_by (Some closing) now cutter = cutter
 
@@ -32,13 +32,13 @@ due lines policy place [] = []
 due lines policy place (report ∷ reports) = map (due_at place) (lines policy report) ++ due lines policy (place + 1) reports
 
 -- each is put, in order, until the outlet is full, which closes the session
-abbrev pub Takes : Bool → List Due → Shown → Shown → Type 0
-Takes exact [] old new = new ≡ old
-Takes exact (d ∷ more) old new = (push : Push) × MayAnswer exact old push
-    × MatchPush push (Takes exact more (given d.line old) new) (new ≡ closed_at d.place Overrun old)
+abbrev pub TakesDue : Bool → List Due → SessionView → SessionView → Type 0
+TakesDue exact [] old new = new ≡ old
+TakesDue exact (d ∷ more) old new = (push : Push) × MayAnswer exact old push
+    × MatchPush push (TakesDue exact more (given d.line old) new) (new ≡ closed_at d.place Overrun old)
 
 -- what reports leave as it is
-pub record Stays (old new : Shown) : Type 0 where
+pub record Stays (old new : SessionView) : Type 0 where
   pub name : new.name ≡ old.name
   pub cap : new.cap ≡ old.cap
   pub marks : new.marks ≡ old.marks
@@ -46,38 +46,38 @@ pub record Stays (old new : Shown) : Type 0 where
   pub requests : new.requests ≡ old.requests
 
 -- these lines were put: over any history before the reports, what is kept gains what the items gain
-pub record Gets (lines : Selection) (first : ℕ) (reports : List Report) (old new : Shown) (more : List (List ℕ)) : Type 0 where
+pub record Gets (lines : Selection) (first : ℕ) (reports : List Report) (old new : SessionView) (more : List (List ℕ)) : Type 0 where
   pub kept : new.kept ≡ old.kept ++ more
   pub items : new.items ≡ raised old.items (length more)
   pub gains : (history : List Report) (stretches : List Stretch) → length history ≡ first → Holding lines history old stretches
-      → Gains lines history (history ++ reports) old new stretches stretches more
+      → SessionGains lines history (history ++ reports) old new stretches stretches more
 
 -- an open session takes what is due
-pub record Reported (exact : Bool) (lines : Selection) (first : ℕ) (reports : List Report) (old new : Shown) : Type 0 where
-  pub takes : Takes exact (due lines old.policy first reports) old new
+pub record Reported (exact : Bool) (lines : Selection) (first : ℕ) (reports : List Report) (old new : SessionView) : Type 0 where
+  pub takes : TakesDue exact (due lines old.policy first reports) old new
   pub more : List (List ℕ)
   pub gets : Gets lines first reports old new more
   pub stays : Stays old new
 
 -- a closed one stays as it is
-pub record Unreported (lines : Selection) (first : ℕ) (reports : List Report) (old new : Shown) : Type 0 where
+pub record Unreported (lines : Selection) (first : ℕ) (reports : List Report) (old new : SessionView) : Type 0 where
   pub same : new ≡ old
   pub holding : (history : List Report) (stretches : List Stretch) → length history ≡ first → Holding lines history old stretches
       → Holding lines (history ++ reports) new stretches
 
-abbrev pub ReportsBy : Option (ℕ × Close) → Bool → Selection → ℕ → List Report → Shown → Shown → Type 0
+abbrev pub ReportsBy : Option (ℕ × Close) → Bool → Selection → ℕ → List Report → SessionView → SessionView → Type 0
 ReportsBy None exact lines first reports old new = Reported exact lines first reports old new
 ReportsBy (Some closing) exact lines first reports old new = Unreported lines first reports old new
 
 -- a session after these reports
-abbrev pub Reports : Bool → Selection → ℕ → List Report → Shown → Shown → Type 0
+abbrev pub Reports : Bool → Selection → ℕ → List Report → SessionView → SessionView → Type 0
 Reports exact lines first reports old new = ReportsBy old.closing exact lines first reports old new
 
 -- a session of a roster after these reports: one that is closed now keeps nothing of its input
-pub record Spreads (exact : Bool) (lines : Selection) (first : ℕ) (reports : List Report) (old new : Attendance) : Type 0 where
+pub record Spreads (exact : Bool) (lines : Selection) (first : ℕ) (reports : List Report) (old new : MemberView) : Type 0 where
   pub session : Reports exact lines first reports old.session new.session
   pub cutter : new.cutter ≡ cutter_by old.session.closing new.session.closing old.cutter
   pub watched : new.watched ≡ old.watched
 
-abbrev pub is_live : Shown → Bool
+abbrev pub is_live : SessionView → Bool
 is_live s = not (is_some s.closing)

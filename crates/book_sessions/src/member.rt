@@ -5,9 +5,9 @@ ghost use Rattle.book_replies.specs.Replies.{answered, opening_reply};
 ghost use Rattle.session_core.specs.declared.mark.Close.{Close};
 ghost use Rattle.session_core.specs.declared.outlet.Push.{Push};
 ghost use Rattle.session_core.specs.Pushing.{MatchPush};
-ghost use Rattle.session_core.specs.Shown.{last_place};
-ghost use Rattle.book_sessions.specs.Attendance.{Attendance, closed, is_open, listens, opened, renewed, rested, with_kept};
-ghost use Rattle.book_sessions.specs.Answering.{Answers, Inputs, MayAnswer, ended, put};
+ghost use Rattle.session_core.specs.SessionView.{last_place};
+ghost use Rattle.book_sessions.specs.MemberView.{MemberView, closed, is_open, listens, opened, renewed, rested, with_kept};
+ghost use Rattle.book_sessions.specs.Answering.{PutsAnswers, Inputs, MayAnswer, ended, put};
 ghost use Rattle.book_sessions.specs.Roster.{shut_at};
 ghost use Rattle.book_sessions.specs.Spreading.{Spreads};
 ghost use Rattle.book_batch.specs.Lines.{line_for};
@@ -15,7 +15,7 @@ ghost use Rattle.book_batch.specs.Sharing.{AreNamed, row_of};
 
 use crate::spreading::report_all;
 use book_batch::Row;
-use book_replies::{Known, answers, opening_reply};
+use book_replies::{ReplyData, answers, opening_reply};
 use gps_command::{CommandCutter, RawCommand};
 use gps_fixed::NoMemory;
 use gps_report::{Names, Policy, Report};
@@ -37,9 +37,9 @@ pub(crate) struct Member<O: Outlet> {
 
 impl<O: Outlet> Model for Member<O> {
     ghost use Rattle.std.specs.Prelude.{◌≡◌, ◌<◌, None, length};
-    ghost use Rattle.book_sessions.specs.Attendance.{Attendance};
+    ghost use Rattle.book_sessions.specs.MemberView.{MemberView};
 
-    ghost Value = { Attendance };
+    ghost Value = { MemberView };
 
     ghost view = { λ m. record { session = m.session; cutter = m.cutter; watched = m.watched } };
 
@@ -78,7 +78,7 @@ fn new_cutter(alloc: Global) -> CommandCutter
 
 fn replies_to(
     alloc: Global,
-    known: &Known,
+    known: &ReplyData,
     names: &Names,
     policy: &Policy,
     requests: &[RawCommand],
@@ -211,7 +211,7 @@ impl<O: Outlet> Member<O> {
         requires open { self.old.session.closing ≡ None }
         requires room { length replies.items ≤ self.old.session.spare }
         requires after { last_place 0 self.old.session.marks ≤ place }
-        ensures { Answers O.exact place self.old replies.items self.new }
+        ensures { PutsAnswers O.exact place self.old replies.items self.new }
     {
         'replies: for reply in replies {
             if self.session.requests() >= MOST_REQUESTS {
@@ -263,7 +263,7 @@ impl<O: Outlet> Member<O> {
         &mut self,
         alloc: Global,
         place: u64,
-        known: &Known,
+        known: &ReplyData,
         names: &Names,
         piece: &[u8],
     ) -> Result<bool, NoMemory>

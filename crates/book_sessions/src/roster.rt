@@ -3,14 +3,14 @@ ghost use Rattle.std.specs.List.{AllZip};
 ghost use Rattle.std.specs.Option.{option_to_list};
 ghost use Rattle.gps_report.specs.declared.report.Report.{Report};
 ghost use Rattle.session_core.specs.Holding.{Holding, Selection};
-ghost use Rattle.session_core.specs.Shown.{opening_policy};
+ghost use Rattle.session_core.specs.SessionView.{opening_policy};
 ghost use Rattle.session_core.specs.Stretches.{answer_stretch};
 ghost use Rattle.book_replies.specs.Replies.{opening_reply};
 ghost use Rattle.book_batch.specs.Lines.{line_for};
 ghost use Rattle.book_batch.specs.Sharing.{AreNamed, SharesLines, shares_of};
-ghost use Rattle.book_sessions.specs.Attendance.{Attendance, is_open, opened, renewed, with_kept};
+ghost use Rattle.book_sessions.specs.MemberView.{MemberView, is_open, opened, renewed, with_kept};
 ghost use Rattle.book_sessions.specs.Answering.{Inputs};
-ghost use Rattle.book_sessions.specs.Roster.{Changes, Closes, IsAfter, IsAfterAll, IsOpenAt, Refuses, Shuts, Turns, listening_in, live_in, was_watched};
+ghost use Rattle.book_sessions.specs.Roster.{Changes, Closes, IsAfter, IsAfterAll, IsOpenAt, Refuses, Shuts, MemberTurns, listening_in, live_in, was_watched};
 ghost use Rattle.book_sessions.specs.Spreading.{Spreads};
 
 use crate::member::Member;
@@ -19,7 +19,7 @@ use crate::walk::{
     turn_each,
 };
 use book_batch::Batch;
-use book_replies::Known;
+use book_replies::ReplyData;
 use gps_fixed::NoMemory;
 use gps_report::Names;
 use session_core::{Close, Item, Outlet, PlainOutlet, TwoEnded};
@@ -56,10 +56,10 @@ pub struct Roster<O: Outlet> {
 
 impl<O: Outlet> Model for Roster<O> {
     ghost use Rattle.std.specs.Prelude.{List};
-    ghost use Rattle.book_sessions.specs.Attendance.{Attendance};
+    ghost use Rattle.book_sessions.specs.MemberView.{MemberView};
     ghost use Rattle.book_sessions.specs.Roster.{AreListening, IsRoster};
 
-    ghost Value = { List Attendance };
+    ghost Value = { List MemberView };
 
     ghost view = { λ r. r.members.items };
 
@@ -124,7 +124,7 @@ impl<O: Outlet> Roster<O> {
     pub fn is_open(&self, s: u32) -> bool
         requires { s < length self.now }
         ensures open { result ≡ true → IsOpenAt s self.now }
-        ensures closed { result ≡ false → (free : Attendance) → (slice_index_or self.now s free).session.closing ≢ None }
+        ensures closed { result ≡ false → (free : MemberView) → (slice_index_or self.now s free).session.closing ≢ None }
     {
         self.members[s as usize].is_open()
     }
@@ -190,7 +190,7 @@ impl<O: Outlet> Roster<O> {
         &mut self,
         s: u32,
         place: u64,
-        known: &Known,
+        known: &ReplyData,
         names: &Names,
         piece: &[u8],
     ) -> Result<(), NoMemory>
@@ -267,7 +267,7 @@ impl<O: Outlet> Roster<O> {
     #[tactic(auto, using(crate::proofs::Rosters::turned_map, crate::proofs::Rosters::turned_zip))]
     pub fn turn(&mut self)
         ensures turned { self.new ≡ map renewed self.old }
-        ensures each { AllZip Turns self.old self.new }
+        ensures each { AllZip MemberTurns self.old self.new }
         ensures after { IsAfterAll 0 self.new }
     {
         turn_each(&mut self.members, &self.recent);
@@ -298,7 +298,7 @@ impl Roster<PlainOutlet> {
     /// Takes the first item that the session's outlet holds, or `None` exactly where it holds nothing. Takes no memory.
     pub fn take(&mut self, s: u32) -> Option<Item>
         requires { s < length self.old }
-        ensures item { (free : Attendance) → result ≡ slice_get (slice_index_or self.old s free).session.kept 0 }
+        ensures item { (free : MemberView) → result ≡ slice_get (slice_index_or self.old s free).session.kept 0 }
         ensures now { Changes s (λ a b. b ≡ with_kept (drop 1 a.session.kept) a) self.old self.new }
     {
         let member = &mut self.members[s as usize];
@@ -310,11 +310,11 @@ impl<O: TwoEnded> Roster<O> {
     /// Takes one item at the far end of the session's outlet and hands it on. Takes no memory.
     pub fn settle(&mut self, s: u32, far: &mut O::Far) -> Option<Item>
         requires exists { s < length self.old }
-        requires belongs { (free : Attendance) → O.belongs (O.far_name far.old) (slice_index_or self.old s free).session.name }
+        requires belongs { (free : MemberView) → O.belongs (O.far_name far.old) (slice_index_or self.old s free).session.name }
         ensures same { self.new ≡ self.old }
         ensures item { O.got far.new ≡ O.got far.old ++ option_to_list result }
-        ensures prefix { (free : Attendance) → (rest : List (List ℕ)) × ((slice_index_or self.new s free).session.kept ≡ O.got far.new ++ rest) }
-        ensures all { IfNone result ((free : Attendance) → O.got far.new ≡ (slice_index_or self.new s free).session.kept) }
+        ensures prefix { (free : MemberView) → (rest : List (List ℕ)) × ((slice_index_or self.new s free).session.kept ≡ O.got far.new ++ rest) }
+        ensures all { IfNone result ((free : MemberView) → O.got far.new ≡ (slice_index_or self.new s free).session.kept) }
         ensures far_name { O.far_name far.new ≡ O.far_name far.old }
     {
         let member = &mut self.members[s as usize];

@@ -4,11 +4,11 @@ ghost use Rattle.std.specs.List.{All, AllZip};
 ghost use Rattle.session_core.specs.declared.mark.Close.{Close};
 ghost use Rattle.session_core.specs.declared.outlet.Push.{Push};
 ghost use Rattle.session_core.specs.Pushing.{MatchPush};
-ghost use Rattle.session_core.specs.Shown.{closed_at, given, last_place};
+ghost use Rattle.session_core.specs.SessionView.{closed_at, given, last_place};
 ghost use Rattle.book_batch.specs.Lines.{line_for};
 ghost use Rattle.book_batch.specs.Sharing.{AreNamed, SharesLines, row_of, shares_of};
 ghost use Rattle.book_sessions.specs.Answering.{MayAnswer};
-ghost use Rattle.book_sessions.specs.Spreading.{Reports, Takes, due, is_live};
+ghost use Rattle.book_sessions.specs.Spreading.{Reports, TakesDue, due, is_live};
 
 use book_batch::{Batch, Row};
 use gps_report::{Names, Report};
@@ -40,7 +40,7 @@ pub(crate) fn report_all<O: Outlet>(
     requires few { first + length reports.now < 2 ^ 63 }
     requires named { AreNamed names.now reports.now }
     requires row { row ≡ row_of names.now reports.now }
-    ensures { Takes O.exact (due (line_for names.now) session.old.policy first reports.now) session.old session.new }
+    ensures { TakesDue O.exact (due (line_for names.now) session.old.policy first reports.now) session.old session.new }
 {
     let mut place = first;
     'reports: for report in reports {

@@ -5,7 +5,7 @@ ghost use Rattle.std.specs.Int.{from_bool};
 ghost use Rattle.std.specs.List.{All};
 ghost use Rattle.book_batch.specs.Lines.{line_for};
 ghost use Rattle.book_batch.specs.Sharing.{AreNamed, SharesLines, shares_of};
-ghost use Rattle.book_sessions.specs.Attendance.{Attendance, is_open, listens, renewed};
+ghost use Rattle.book_sessions.specs.MemberView.{MemberView, is_open, listens, renewed};
 ghost use Rattle.book_sessions.specs.Answering.{Inputs};
 ghost use Rattle.book_sessions.specs.Roster.{Changes, Closes, IsAfter, IsAfterAll, IsOpenAt, shut_at, was_watched};
 ghost use Rattle.book_sessions.specs.Spreading.{Spreads};
@@ -13,7 +13,7 @@ ghost use Rattle.book_sessions.specs.Walks.{Walks, passes_at};
 
 use crate::member::Member;
 use book_batch::Batch;
-use book_replies::Known;
+use book_replies::ReplyData;
 use gps_fixed::NoMemory;
 use gps_report::Names;
 use session_core::{Close, Outlet};
@@ -84,7 +84,7 @@ pub(crate) fn input_at<O: Outlet>(
     s: usize,
     alloc: Global,
     place: u64,
-    known: &Known,
+    known: &ReplyData,
     names: &Names,
     piece: &[u8],
 ) -> Result<bool, NoMemory>

@@ -8,12 +8,12 @@ use Rattle.shm_segment.specs.declared.sample.Sample.{Sample}
 use Rattle.shm_segment.specs.Publishing.{Publishing, count_of, beginning, samples_next, next_of}
 use Rattle.book_units.specs.declared.unit.UnitStep.{UnitStep}
 use Rattle.book_units.specs.declared.unit.UnitStep.TheVariants.{Stored, Empty, Spent}
-use Rattle.book_units.specs.Changes.{Gains, Turns, turned}
+use Rattle.book_units.specs.Changes.{UnitGains, UnitTurns, turned}
 use Rattle.book_units.specs.Steps.{Begins, IsReady, StoresAs, PublishesAs, Steps}
 use Rattle.book_units.specs.Units.{UnitView, RoomView, IsUnit, IsInOrder, room_view, unstored, begun_by, all_of, published_by, left_of, since_turn}
 
 -- samples that join the waiting ones come last, and none before them moves
-pub gained : (u : UnitView) (more : List Sample) → IsUnit u → Gains more u (record u { waiting = u.waiting ++ more })
+pub gained : (u : UnitView) (more : List Sample) → IsUnit u → UnitGains more u (record u { waiting = u.waiting ++ more })
 gained u more keeps =
     let reach = keeps.carry in
     let all : all_of (record u { waiting = u.waiting ++ more }) ≡ all_of u ++ more = sym (append_assoc (begun_by u.publisher) u.waiting more) in
@@ -32,16 +32,16 @@ gained u more keeps =
 -- a unit that is seen by its parts
 pub gained_seen : (v : RoomView) (p : Publishing) (waiting longer : List Sample) (from carry spare : ℕ) (more : List Sample)
     → room_view p waiting from carry spare ≡ v → IsUnit (record { publisher = p; waiting = waiting; from = from; carry = carry }) → longer ≡ waiting ++ more
-    → Gains more v.unit (record { publisher = p; waiting = longer; from = from; carry = carry })
+    → UnitGains more v.unit (record { publisher = p; waiting = longer; from = from; carry = carry })
 gained_seen v p waiting longer from carry spare more is keeps joined =
-    let at_once : Gains more (room_view p waiting from carry spare).unit (record { publisher = p; waiting = waiting ++ more; from = from; carry = carry }) =
+    let at_once : UnitGains more (room_view p waiting from carry spare).unit (record { publisher = p; waiting = waiting ++ more; from = from; carry = carry }) =
     gained (record { publisher = p; waiting = waiting; from = from; carry = carry }) more keeps in
-    let P : RoomView → Type 0 = λ w. Gains more w.unit (record { publisher = p; waiting = waiting ++ more; from = from; carry = carry }) in
-    let Q : List Sample → Type 0 = λ l. Gains more v.unit (record { publisher = p; waiting = l; from = from; carry = carry }) in
+    let P : RoomView → Type 0 = λ w. UnitGains more w.unit (record { publisher = p; waiting = waiting ++ more; from = from; carry = carry }) in
+    let Q : List Sample → Type 0 = λ l. UnitGains more v.unit (record { publisher = p; waiting = l; from = from; carry = carry }) in
     subst Q (sym joined) (subst P is at_once)
 
 -- nothing joins
-pub gained_none : (u : UnitView) → Gains [] u u
+pub gained_none : (u : UnitView) → UnitGains [] u u
 gained_none u =
     record {
       becomes = let P : List Sample → Type 0 = λ l. u ≡ record u { waiting = l } in subst P (sym (append-nil u.waiting)) refl;
@@ -51,7 +51,7 @@ gained_none u =
     }
 
 -- one after another
-pub gained_more : (x y z : UnitView) (more further : List Sample) → Gains more x y → Gains further y z → Gains (more ++ further) x z
+pub gained_more : (x y z : UnitView) (more further : List Sample) → UnitGains more x y → UnitGains further y z → UnitGains (more ++ further) x z
 gained_more x y z more further first second =
     record {
       becomes = second.becomes ∙ ap (λ (v : UnitView). record v { waiting = v.waiting ++ further }) first.becomes ∙ (let P : List Sample → Type 0 = λ l. record x { waiting = (x.waiting ++ more) ++ further } ≡ record x { waiting = l } in subst P (append_assoc x.waiting more further) refl);
@@ -78,7 +78,7 @@ in_order u keeps =
     ap (λ (l : List Sample). drop u.from l) (sym (take-append-drop (published_by u) (all_of u)) ∙ ap (λ (l : List Sample). l ++ left_of u) first) ∙ drop-append-le u.from (take (published_by u) u.publisher.samples) (left_of u) within
 
 -- a turn carries what is left
-pub turns : (u : UnitView) → Turns u (turned u)
+pub turns : (u : UnitView) → UnitTurns u (turned u)
 turns u = record { becomes = refl; all = refl; carried = take_whole (left_of u); since = refl }
   where
     take_whole : (l : List Sample) → take (length l) l ≡ l

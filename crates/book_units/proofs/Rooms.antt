@@ -12,7 +12,7 @@ use Rattle.std.proofs.lemmas.Grind.{flat_map-append}
 use Rattle.gps_report.specs.declared.report.Report.{Report}
 use Rattle.shm_segment.specs.declared.sample.Sample.{Sample}
 use Rattle.book_units.specs.declared.unit.UnitStep.{UnitStep}
-use Rattle.book_units.specs.Changes.{EachUnit, Gains, Turns, turned, turned_with_room}
+use Rattle.book_units.specs.Changes.{EachUnit, UnitGains, UnitTurns, turned, turned_with_room}
 use Rattle.book_units.specs.Samples.{samples_in, samples_of}
 use Rattle.book_units.specs.Steps.{Publishes, Steps}
 use Rattle.book_units.specs.Units.{UnitView, RoomView, UnitsView, IsUnit, IsInOrder, HasRoom, IsNew, units_view, segment_of}
@@ -78,27 +78,27 @@ spare_now rooms u more r next result within room =
 abbrev given : ℕ → ℕ → Sample → List Sample
 given v u sample = if v == u then sample ∷ [] else []
 
-pub put_gains : (rooms : List RoomView) (u : ℕ) (r next : RoomView) (sample : Sample) → u < length rooms → r ≡ get_or rooms u r → Gains (sample ∷ []) r.unit next.unit
-    → EachUnit (λ v. Gains (given v u sample)) (map unit_in rooms) (map unit_in (set rooms u next))
+pub put_gains : (rooms : List RoomView) (u : ℕ) (r next : RoomView) (sample : Sample) → u < length rooms → r ≡ get_or rooms u r → UnitGains (sample ∷ []) r.unit next.unit
+    → EachUnit (λ v. UnitGains (given v u sample)) (map unit_in rooms) (map unit_in (set rooms u next))
 put_gains rooms u r next sample within at gains =
     record {
       count = length-map (set rooms u next) unit_in ∙ length-set rooms u next ∙ sym (length-map rooms unit_in);
       each = λ v x low. each v x (eqb v u) refl;
     }
   where
-    each : (v : ℕ) (x : UnitView) (b : Bool) → eqb v u ≡ b → Gains (cond b (sample ∷ []) []) (get_or (map unit_in rooms) v x) (get_or (map unit_in (set rooms u next)) v x)
+    each : (v : ℕ) (x : UnitView) (b : Bool) → eqb v u ≡ b → UnitGains (cond b (sample ∷ []) []) (get_or (map unit_in rooms) v x) (get_or (map unit_in (set rooms u next)) v x)
     each v x true same =
         let e = eqb-true v u same in
         let long = length-map rooms unit_in in
         let before = unit_at rooms u r x within at in
         let after : get_or (map unit_in (set rooms u next)) u x ≡ next.unit = ap (λ (l : List UnitView). get_or l u x) (units_set rooms u next) ∙ get_or-set_same (map unit_in rooms) u next.unit x (omega arith) in
-        let P : ℕ → Type 0 = λ w. Gains (sample ∷ []) (get_or (map unit_in rooms) w x) (get_or (map unit_in (set rooms u next)) w x) in
-        let Q : UnitView → Type 0 = λ y. Gains (sample ∷ []) y (get_or (map unit_in (set rooms u next)) u x) in
-        let R : UnitView → Type 0 = λ y. Gains (sample ∷ []) r.unit y in
+        let P : ℕ → Type 0 = λ w. UnitGains (sample ∷ []) (get_or (map unit_in rooms) w x) (get_or (map unit_in (set rooms u next)) w x) in
+        let Q : UnitView → Type 0 = λ y. UnitGains (sample ∷ []) y (get_or (map unit_in (set rooms u next)) u x) in
+        let R : UnitView → Type 0 = λ y. UnitGains (sample ∷ []) r.unit y in
         subst P (sym e) (subst Q (sym before) (subst R (sym after) gains))
     each v x false apart =
         let kept : get_or (map unit_in (set rooms u next)) v x ≡ get_or (map unit_in rooms) v x = ap (λ (l : List UnitView). get_or l v x) (units_set rooms u next) ∙ get_or-set_other (map unit_in rooms) u v next.unit x (eqb-false v u apart) in
-        let P : UnitView → Type 0 = λ y. Gains [] (get_or (map unit_in rooms) v x) y in
+        let P : UnitView → Type 0 = λ y. UnitGains [] (get_or (map unit_in rooms) v x) y in
         subst P (sym kept) (gained_none (get_or (map unit_in rooms) v x))
 
 pub put_room : (rooms : List RoomView) (u : ℕ) (r next : RoomView) (sample : Sample) → u < length rooms → r ≡ get_or rooms u r → next.spare + 1 ≡ r.spare
@@ -124,7 +124,7 @@ published rooms u r next step within at steps =
 
 -- the samples of these reports are added, and there is room for those of the further ones
 pub record IsAdded (reports : List Report) (i : ℕ) (old new : UnitsView) : Type 0 where
-  pub gains : EachUnit (λ u. Gains (samples_of u (take i reports))) old.units new.units
+  pub gains : EachUnit (λ u. UnitGains (samples_of u (take i reports))) old.units new.units
   pub room : HasRoom new.spare (drop i reports)
 
 pub added_none : (reports : List Report) (s : UnitsView) → HasRoom s.spare reports → IsAdded reports 0 s s
@@ -143,7 +143,7 @@ next_room reports i r old s added low at u =
     omega arith
 
 pub added_more : (reports : List Report) (i : ℕ) (r : Report) (old s next : UnitsView) → IsAdded reports i old s → i < length reports → r ≡ get_or reports i r
-    → EachUnit (λ u. Gains (samples_in u r.device r.body)) s.units next.units → ((u : ℕ) → slice_index next.spare u + length (samples_in u r.device r.body) ≡ slice_index s.spare u)
+    → EachUnit (λ u. UnitGains (samples_in u r.device r.body)) s.units next.units → ((u : ℕ) → slice_index next.spare u + length (samples_in u r.device r.body) ≡ slice_index s.spare u)
     → IsAdded reports (i + 1) old next
 added_more reports i r old s next added low at gains spare =
     record {
@@ -162,30 +162,30 @@ added_more reports i r old s next added low at gains spare =
         ∙ flat_map-append (λ (q : Report). samples_in u q.device q.body) (take i reports) (r ∷ [])
         ∙ ap (λ (l : List Sample). samples_of u (take i reports) ++ l) (append-nil (samples_in u r.device r.body))
 
-    each : (u : ℕ) (x : UnitView) → u < length old.units → Gains (samples_of u (take (i + 1) reports)) (get_or old.units u x) (get_or next.units u x)
+    each : (u : ℕ) (x : UnitView) → u < length old.units → UnitGains (samples_of u (take (i + 1) reports)) (get_or old.units u x) (get_or next.units u x)
     each u x within =
         let long = added.gains.count in
-        let P : List Sample → Type 0 = λ l. Gains l (get_or old.units u x) (get_or next.units u x) in
+        let P : List Sample → Type 0 = λ l. UnitGains l (get_or old.units u x) (get_or next.units u x) in
         subst P (sym (joined u)) (gained_more (get_or old.units u x) (get_or s.units u x) (get_or next.units u x) (samples_of u (take i reports)) (samples_in u r.device r.body) (added.gains.each u x within) (gains.each u x (omega arith)))
 
-pub added_all : (reports : List Report) (i : ℕ) (old s : UnitsView) → IsAdded reports i old s → length reports ≤ i → EachUnit (λ u. Gains (samples_of u reports)) old.units s.units
+pub added_all : (reports : List Report) (i : ℕ) (old s : UnitsView) → IsAdded reports i old s → length reports ≤ i → EachUnit (λ u. UnitGains (samples_of u reports)) old.units s.units
 added_all reports i old s added past =
-    let P : List Report → Type 0 = λ l. EachUnit (λ u. Gains (samples_of u l)) old.units s.units in
+    let P : List Report → Type 0 = λ l. EachUnit (λ u. UnitGains (samples_of u l)) old.units s.units in
     subst P (take_all i reports past) added.gains
 
 -- a unit that has turned
-pub room_turned : (old new : RoomView) → Turns old.unit new.unit → new.spare ≡ old.spare → new ≡ turned_with_room old
+pub room_turned : (old new : RoomView) → UnitTurns old.unit new.unit → new.spare ≡ old.spare → new ≡ turned_with_room old
 room_turned old new turns same = λ i. record { unit = turns.becomes i; spare = same i }
 
 -- all units have turned
-pub all_turned : (rooms : List RoomView) → EachUnit (λ _. Turns) (map unit_in rooms) (map unit_in (map turned_with_room rooms))
+pub all_turned : (rooms : List RoomView) → EachUnit (λ _. UnitTurns) (map unit_in rooms) (map unit_in (map turned_with_room rooms))
 all_turned rooms =
     record {
       count = length-map (map turned_with_room rooms) unit_in ∙ length-map rooms turned_with_room ∙ sym (length-map rooms unit_in);
       each = λ u x within. each rooms u x within;
     }
   where
-    each : (rooms : List RoomView) (u : ℕ) (x : UnitView) → u < length (map unit_in rooms) → Turns (get_or (map unit_in rooms) u x) (get_or (map unit_in (map turned_with_room rooms)) u x)
+    each : (rooms : List RoomView) (u : ℕ) (x : UnitView) → u < length (map unit_in rooms) → UnitTurns (get_or (map unit_in rooms) u x) (get_or (map unit_in (map turned_with_room rooms)) u x)
     each [] u x within = absurd (omega (arith, within))
     each (r ∷ rooms) zero x within = turns r.unit
     each (r ∷ rooms) (suc u) x within = each rooms u x (omega (arith, within))
@@ -213,10 +213,10 @@ published_seen rooms s u k r next step is same within at steps =
     let Q : ℕ → Type 0 = λ n. r ≡ get_or rooms n r → Publishes u step s.units (map unit_in (set rooms n next)) in
     subst Q (sym same) (subst P is base within) at
 
-pub put_gains_seen : (rooms : List RoomView) (s : UnitsView) (u : ℕ) (r next : RoomView) (sample : Sample) → units_view rooms ≡ s → 0 < slice_index s.spare u → r ≡ get_or rooms u r → Gains (sample ∷ []) r.unit next.unit
-    → EachUnit (λ v. Gains (given v u sample)) s.units (map unit_in (set rooms u next))
+pub put_gains_seen : (rooms : List RoomView) (s : UnitsView) (u : ℕ) (r next : RoomView) (sample : Sample) → units_view rooms ≡ s → 0 < slice_index s.spare u → r ≡ get_or rooms u r → UnitGains (sample ∷ []) r.unit next.unit
+    → EachUnit (λ v. UnitGains (given v u sample)) s.units (map unit_in (set rooms u next))
 put_gains_seen rooms s u r next sample is some at gains =
-    let P : UnitsView → Type 0 = λ v. 0 < slice_index v.spare u → EachUnit (λ w. Gains (given w u sample)) v.units (map unit_in (set rooms u next)) in
+    let P : UnitsView → Type 0 = λ v. 0 < slice_index v.spare u → EachUnit (λ w. UnitGains (given w u sample)) v.units (map unit_in (set rooms u next)) in
     subst P is (λ h. put_gains rooms u r next sample (room_within rooms u h) at gains) some
 
 pub put_room_seen : (rooms : List RoomView) (s : UnitsView) (u : ℕ) (r next : RoomView) (sample : Sample) → units_view rooms ≡ s → 0 < slice_index s.spare u → r ≡ get_or rooms u r → next.spare + 1 ≡ r.spare
@@ -250,7 +250,7 @@ segment_seen rooms s u k r is same within at =
     subst Q (sym same) (subst P is base) at
 
 -- a walk in which each unit turns
-pub turned_more : (xs ys : List RoomView) (i : ℕ) (x next : RoomView) → i < length xs → ys ≡ map turned_with_room (take i xs) ++ drop i xs → x ≡ get_or ys i x → Turns x.unit next.unit → next.spare ≡ x.spare
+pub turned_more : (xs ys : List RoomView) (i : ℕ) (x next : RoomView) → i < length xs → ys ≡ map turned_with_room (take i xs) ++ drop i xs → x ≡ get_or ys i x → UnitTurns x.unit next.unit → next.spare ≡ x.spare
     → set ys i next ≡ map turned_with_room (take (i + 1) xs) ++ drop (i + 1) xs
 turned_more xs ys i x next low so_far at turns same =
     ap (λ (r : RoomView). set ys i r) (room_turned x next turns same) ∙ map_over_more turned_with_room xs ys i x low so_far at
@@ -259,10 +259,10 @@ pub turned_all : (xs ys : List RoomView) (i : ℕ) → length xs ≤ i → ys �
 turned_all xs ys i past so_far =
     so_far ∙ ap (λ (l : List RoomView). map turned_with_room l ++ drop i xs) (take_all i xs past) ∙ ap (λ (l : List RoomView). map turned_with_room xs ++ l) (drop_all i xs past) ∙ append-nil (map turned_with_room xs)
 
-pub turned_units : (rooms next : List RoomView) (s : UnitsView) → units_view rooms ≡ s → next ≡ map turned_with_room rooms → EachUnit (λ _. Turns) s.units (map unit_in next)
+pub turned_units : (rooms next : List RoomView) (s : UnitsView) → units_view rooms ≡ s → next ≡ map turned_with_room rooms → EachUnit (λ _. UnitTurns) s.units (map unit_in next)
 turned_units rooms next s is turned =
-    let P : UnitsView → Type 0 = λ v. EachUnit (λ _. Turns) v.units (map unit_in next) in
-    let Q : List RoomView → Type 0 = λ l. EachUnit (λ _. Turns) (map unit_in rooms) (map unit_in l) in
+    let P : UnitsView → Type 0 = λ v. EachUnit (λ _. UnitTurns) v.units (map unit_in next) in
+    let Q : List RoomView → Type 0 = λ l. EachUnit (λ _. UnitTurns) (map unit_in rooms) (map unit_in l) in
     subst P is (subst Q (sym turned) (all_turned rooms))
 
 pub turned_room : (rooms next : List RoomView) (s : UnitsView) → units_view rooms ≡ s → next ≡ map turned_with_room rooms → map room_in next ≡ s.spare

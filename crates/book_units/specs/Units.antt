@@ -1,4 +1,4 @@
--- What contracts see of a unit: what its publisher has published, what waits, and where the last turn was. This project's own.
+-- What contracts see of a unit: what its publisher has published, what waits, and where the last turn was.
 use Rattle.std.specs.Prelude.{◌≡◌, ℕ, ◌+◌, ◌*◌, ◌≤◌, List, [], ◌∷◌, ◌++◌, length, take, drop, map, slice_index}
 use Rattle.std.specs.List.{All}
 use Rattle.gps_report.specs.declared.report.Report.{Report}

@@ -1,7 +1,7 @@
 ghost use Rattle.std.specs.Prelude.{◌≡◌, ◌≢◌, ◌+◌, ◌<◌, ◌≤◌, [], ◌∷◌, length, IfOk, OnOk};
 ghost use Rattle.std.specs.Arc.{arc_value};
 ghost use Rattle.shm_segment.specs.Publishing.{noticed};
-ghost use Rattle.book_units.specs.Changes.{Gains, Turns};
+ghost use Rattle.book_units.specs.Changes.{UnitGains, UnitTurns};
 ghost use Rattle.book_units.specs.Steps.{BearsOut, Steps, StoresAs, state_of};
 ghost use Rattle.book_units.specs.Units.{IsNew, IsUnit, left_of, published_by};
 
@@ -102,7 +102,7 @@ impl Unit {
     /// Lets a sample wait behind the others. Takes no memory.
     pub(crate) fn add(&mut self, sample: Sample)
         requires { 0 < self.old.spare }
-        ensures gains { Gains (sample ∷ []) self.old.unit self.new.unit }
+        ensures gains { UnitGains (sample ∷ []) self.old.unit self.new.unit }
         ensures room { self.new.spare + 1 ≡ self.old.spare }
         ensures kept { IsUnit self.new.unit }
     {
@@ -137,7 +137,7 @@ impl Unit {
 
     /// Carries the sample that is begun and not published, and then the waiting ones. Takes no memory.
     pub(crate) fn turn(&mut self)
-        ensures turns { Turns self.old.unit self.new.unit }
+        ensures turns { UnitTurns self.old.unit self.new.unit }
         ensures room { self.new.spare ≡ self.old.spare }
         ensures kept { IsUnit self.new.unit }
     {

@@ -2,7 +2,7 @@ ghost use Rattle.std.specs.Prelude.{◌≡◌, ℕ, ◌+◌, ◌*◌, ◌<◌, �
 ghost use Rattle.std.specs.Arc.{arc_value};
 ghost use Rattle.std.specs.List.{All, AllZip};
 ghost use Rattle.shm_segment.specs.Publishing.{noticed};
-ghost use Rattle.book_units.specs.Changes.{AreTurned, EachUnit, Gains, Turns, turned};
+ghost use Rattle.book_units.specs.Changes.{AreTurned, EachUnit, UnitGains, UnitTurns, turned};
 ghost use Rattle.book_units.specs.Samples.{sample_of, samples_in, samples_of};
 ghost use Rattle.book_units.specs.Steps.{BearsOut, Publishes, state_of};
 ghost use Rattle.book_units.specs.Units.{UnitView, HasRoom, HasRoomAt, IsInOrder, IsNew, IsUnit, segment_of};
@@ -109,7 +109,7 @@ impl Units {
     #[tactic(auto, using(crate::proofs::Rooms::added_none, crate::proofs::Rooms::next_room, crate::proofs::Rooms::added_more, crate::proofs::Rooms::added_all))]
     pub fn add_all(&mut self, reports: &[Report])
         requires { HasRoom self.old.spare reports.now }
-        ensures { EachUnit (λ u. Gains (samples_of u reports.now)) self.old.units self.new.units }
+        ensures { EachUnit (λ u. UnitGains (samples_of u reports.now)) self.old.units self.new.units }
     {
         for report in reports {
             self.add(report);
@@ -118,7 +118,7 @@ impl Units {
 
     fn add(&mut self, report: &Report)
         requires { (u : ℕ) → length (samples_in u report.now.device report.now.body) ≤ slice_index self.old.spare u }
-        ensures gains { EachUnit (λ u. Gains (samples_in u report.now.device report.now.body)) self.old.units self.new.units }
+        ensures gains { EachUnit (λ u. UnitGains (samples_in u report.now.device report.now.body)) self.old.units self.new.units }
         ensures room { (u : ℕ) → slice_index self.new.spare u + length (samples_in u report.now.device report.now.body) ≡ slice_index self.old.spare u }
     {
         let serial = 2 * usize::from(report.device);
@@ -131,7 +131,7 @@ impl Units {
 
     fn put(&mut self, u: usize, sample: Sample)
         requires { 0 < slice_index self.old.spare u }
-        ensures gains { EachUnit (λ v. Gains (if v == u then sample ∷ [] else [])) self.old.units self.new.units }
+        ensures gains { EachUnit (λ v. UnitGains (if v == u then sample ∷ [] else [])) self.old.units self.new.units }
         ensures room { (v : ℕ) → slice_index self.new.spare v + length (if v == u then sample ∷ [] else []) ≡ slice_index self.old.spare v }
     {
         let unit = &mut self.units[u];
@@ -141,7 +141,7 @@ impl Units {
     /// Carries, at each unit, the sample that is begun and not published, and then the waiting ones. Takes no memory.
     pub fn turn(&mut self)
         ensures turned { self.new.units ≡ map turned self.old.units }
-        ensures turns { EachUnit (λ _. Turns) self.old.units self.new.units }
+        ensures turns { EachUnit (λ _. UnitTurns) self.old.units self.new.units }
         ensures room { self.new.spare ≡ self.old.spare }
     {
         turn_all(self.units.as_mut_slice());
@@ -160,7 +160,8 @@ impl Units {
     /// Shares the unit's segment, and then makes a seat for a monitor of it.
     pub fn monitor_seat(&mut self, u: u8) -> Result<(Arc<Segment>, MonitorSeat), NoMemory>
         requires { u < length self.old.units }
-        ensures part { IfOk result (λ r. (x : UnitView) → (arc_value r.0 ≡ segment_of (slice_index_or self.old.units u x)) × (r.1 ≡ segment_of (slice_index_or self.old.units u x))) }
+        ensures part { IfOk result (λ r. (x : UnitView) → (arc_value r.0 ≡ segment_of (slice_index_or self.old.units u x))
+            × (r.1 ≡ segment_of (slice_index_or self.old.units u x))) }
         ensures unchanged { self.new ≡ self.old }
     {
         let unit = &mut self.units[usize::from(u)];

@@ -13,58 +13,58 @@ use Rattle.packet_cut.specs.Standing.{StandsFor as BytesStand}
 use Rattle.packet_cut.proofs.StreamLaws.{rest_gain}
 use Rattle.epoch_core.specs.declared.heard.Heard.{Heard}
 use Rattle.epoch_core.specs.Epochs.{reports}
-use Rattle.epoch_core.specs.Kept.{Kept as KeptEpochs, StandsFor as NotesStand}
+use Rattle.epoch_core.specs.Kept.{EpochsKept, StandsFor as NotesStand}
 use Rattle.epoch_core.specs.Steps.{kept_after, kept_caused}
 use Rattle.epoch_core.proofs.Told.{gained as note_gained, left_over}
 use Rattle.pps_edges.specs.Pulse.{StandsFor as EdgesStand, is_assert, paired, pps_of}
 use Rattle.pps_edges.proofs.Pasts.{goes_on}
 use Rattle.device_core.specs.Stream.{bytes_in, heard, notes_of, notes_in, packets_in}
 use Rattle.device_core.specs.Reports.{all_told, device_close, device_gain, device_reports, gained, last_toff, reports_from, told}
-use Rattle.device_core.specs.Standing.{Kept, StandsFor}
+use Rattle.device_core.specs.Standing.{DeviceKept, StandsFor}
 use Rattle.device_core.proofs.Streams.{beyond_is, byte_gains, edges_after, last_toff-append, packets_after, reports-append, stream_after}
 use Rattle.device_core.proofs.Devices.{stands_edge}
 
-abbrev all_out : KeptEpochs → List Packet → List Body
+abbrev all_out : EpochsKept → List Packet → List Body
 all_out kept [] = []
 all_out kept (packet ∷ more) = PacketBody packet ∷ kept_caused kept (heard packet) ++ all_out (kept_after kept (heard packet)) more
 
-abbrev all_caused : KeptEpochs → List Packet → List Body
+abbrev all_caused : EpochsKept → List Packet → List Body
 all_caused kept [] = []
 all_caused kept (packet ∷ more) = kept_caused kept (heard packet) ++ all_caused (kept_after kept (heard packet)) more
 
-abbrev all_after : KeptEpochs → List Packet → KeptEpochs
+abbrev all_after : EpochsKept → List Packet → EpochsKept
 all_after kept [] = kept
 all_after kept (packet ∷ more) = all_after (kept_after kept (heard packet)) more
 
 grows : (before : List Packet) (packet : Packet) → notes_of (before ++ packet ∷ []) ≡ notes_of before ++ heard packet ∷ []
 grows before packet = map-append heard before (packet ∷ [])
 
-reports_grow : (before : List Packet) (packet : Packet) (kept : KeptEpochs) → NotesStand kept (notes_of before)
+reports_grow : (before : List Packet) (packet : Packet) (kept : EpochsKept) → NotesStand kept (notes_of before)
     → reports (notes_of (before ++ packet ∷ [])) ≡ reports (notes_of before) ++ kept_caused kept (heard packet)
 reports_grow before packet kept s = ap reports (grows before packet) ∙ (note_gained kept (notes_of before) (heard packet) s).0
 
-stands_on : (before : List Packet) (packet : Packet) (kept : KeptEpochs) → NotesStand kept (notes_of before) → NotesStand (kept_after kept (heard packet)) (notes_of (before ++ packet ∷ []))
+stands_on : (before : List Packet) (packet : Packet) (kept : EpochsKept) → NotesStand kept (notes_of before) → NotesStand (kept_after kept (heard packet)) (notes_of (before ++ packet ∷ []))
 stands_on before packet kept s =
     let P : List Heard → Type 0 = λ notes. NotesStand (kept_after kept (heard packet)) notes in
     subst P (sym (grows before packet)) ((note_gained kept (notes_of before) (heard packet) s).1)
 
-told_is : (before : List Packet) (packet : Packet) (kept : KeptEpochs) → NotesStand kept (notes_of before) → told before packet ≡ PacketBody packet ∷ kept_caused kept (heard packet)
+told_is : (before : List Packet) (packet : Packet) (kept : EpochsKept) → NotesStand kept (notes_of before) → told before packet ≡ PacketBody packet ∷ kept_caused kept (heard packet)
 told_is before packet kept s =
     ap (λ c. PacketBody packet ∷ c) (beyond_is (reports (notes_of before)) (kept_caused kept (heard packet)) (reports (notes_of (before ++ packet ∷ []))) (reports_grow before packet kept s))
 
-all_told_is : (before packets : List Packet) (kept : KeptEpochs) → NotesStand kept (notes_of before) → all_told before packets ≡ all_out kept packets
+all_told_is : (before packets : List Packet) (kept : EpochsKept) → NotesStand kept (notes_of before) → all_told before packets ≡ all_out kept packets
 all_told_is before [] kept s = refl
 all_told_is before (packet ∷ more) kept s =
     ap (λ t. t ++ all_told (before ++ packet ∷ []) more) (told_is before packet kept s)
     ∙ ap (λ t. (PacketBody packet ∷ kept_caused kept (heard packet)) ++ t) (all_told_is (before ++ packet ∷ []) more (kept_after kept (heard packet)) (stands_on before packet kept s))
 
-all_stand : (before packets : List Packet) (kept : KeptEpochs) → NotesStand kept (notes_of before) → NotesStand (all_after kept packets) (notes_of (before ++ packets))
+all_stand : (before packets : List Packet) (kept : EpochsKept) → NotesStand kept (notes_of before) → NotesStand (all_after kept packets) (notes_of (before ++ packets))
 all_stand before [] kept s = let P : List Packet → Type 0 = λ p. NotesStand kept (notes_of p) in subst P (sym (append-nil before)) s
 all_stand before (packet ∷ more) kept s =
     let P : List Packet → Type 0 = λ p. NotesStand (all_after kept (packet ∷ more)) (notes_of p) in
     subst P (append_assoc before (packet ∷ []) more) (all_stand (before ++ packet ∷ []) more (kept_after kept (heard packet)) (stands_on before packet kept s))
 
-all_reports : (before packets : List Packet) (kept : KeptEpochs) → NotesStand kept (notes_of before) → reports (notes_of (before ++ packets)) ≡ reports (notes_of before) ++ all_caused kept packets
+all_reports : (before packets : List Packet) (kept : EpochsKept) → NotesStand kept (notes_of before) → reports (notes_of (before ++ packets)) ≡ reports (notes_of before) ++ all_caused kept packets
 all_reports before [] kept s = ap (λ p. reports (notes_of p)) (append-nil before) ∙ sym (append-nil (reports (notes_of before)))
 all_reports before (packet ∷ more) kept s =
     ap (λ p. reports (notes_of p)) (sym (append_assoc before (packet ∷ []) more))
@@ -73,18 +73,18 @@ all_reports before (packet ∷ more) kept s =
     ∙ append_assoc (reports (notes_of before)) (kept_caused kept (heard packet)) (all_caused (kept_after kept (heard packet)) more)
 
 -- one symbol
-abbrev out_of : Kept → Symbol → List Body
+abbrev out_of : DeviceKept → Symbol → List Body
 out_of kept (Byte at b) = all_out kept.epochs (packets_of (kept.bytes ++ (at, b) ∷ []))
 out_of kept (EdgeSymbol edge) = option_to_list (option_map (λ pair. Pps pair) (cond (is_assert edge.kind) (paired edge kept.edge kept.toff) None))
 
-abbrev after_of : Kept → Symbol → Kept
+abbrev after_of : DeviceKept → Symbol → DeviceKept
 after_of kept (Byte at b) =
     let packets = packets_of (kept.bytes ++ (at, b) ∷ []) in
     record { bytes = rest_of (kept.bytes ++ (at, b) ∷ []); epochs = all_after kept.epochs packets; edge = kept.edge; toff = option_or (last_toff (all_caused kept.epochs packets)) kept.toff }
 after_of kept (EdgeSymbol edge) =
     record { bytes = kept.bytes; epochs = kept.epochs; edge = cond (is_assert edge.kind) (Some edge) kept.edge; toff = kept.toff }
 
-gained_is : (kept : Kept) (s : List Symbol) (x : Symbol) → StandsFor kept s → gained s x ≡ out_of kept x
+gained_is : (kept : DeviceKept) (s : List Symbol) (x : Symbol) → StandsFor kept s → gained s x ≡ out_of kept x
 unfolding pps_of
 gained_is kept s (Byte at b) stands =
     byte_gains s at b
@@ -94,7 +94,7 @@ gained_is kept s (EdgeSymbol edge) stands =
     ap (λ o. option_to_list (option_map (λ pair. Pps pair) (cond (is_assert edge.kind) (paired edge o (last_toff (reports (notes_in s)))) None))) (sym stands.edges)
     ∙ ap (λ t. option_to_list (option_map (λ pair. Pps pair) (cond (is_assert edge.kind) (paired edge kept.edge t) None))) (sym stands.toff)
 
-stands_byte : (kept : Kept) (s : List Symbol) (x : Symbol) → StandsFor kept s → StandsFor (after_of kept x) (s ++ x ∷ [])
+stands_byte : (kept : DeviceKept) (s : List Symbol) (x : Symbol) → StandsFor kept s → StandsFor (after_of kept x) (s ++ x ∷ [])
 stands_byte kept s (Byte at b) stands =
     let packets = packets_of (kept.bytes ++ (at, b) ∷ []) in
     let all = packets_after s at (b ∷ []) kept.bytes packets stands.bytes refl in
@@ -113,7 +113,7 @@ stands_byte kept s (Byte at b) stands =
 stands_byte kept s (EdgeSymbol edge) stands =
     stands_edge kept edge (cond (is_assert edge.kind) (Some edge) kept.edge) (λ past e. ap (cond (is_assert edge.kind) (Some edge)) e ∙ sym (goes_on past edge)) s stands
 
-reports_decided : (t : List Symbol) (kept : Kept) (s r : List Symbol) → StandsFor kept s → StandsFor kept r → reports_from s t ≡ reports_from r t
+reports_decided : (t : List Symbol) (kept : DeviceKept) (s r : List Symbol) → StandsFor kept s → StandsFor kept r → reports_from s t ≡ reports_from r t
 unfolding reports_from
 reports_decided [] kept s r one two = refl
 reports_decided (x ∷ t) kept s r one two =
@@ -123,10 +123,10 @@ reports_decided (x ∷ t) kept s r one two =
 gain_is : (s t : List Symbol) → device_gain s t ≡ reports_from s t
 gain_is s t = beyond_is (device_reports s) (reports_from s t) (device_reports (s ++ t)) (reports-append [] s t)
 
-pub gain_decided : (kept : Kept) (s r t : List Symbol) → StandsFor kept s → StandsFor kept r → device_gain s t ≡ device_gain r t
+pub gain_decided : (kept : DeviceKept) (s r t : List Symbol) → StandsFor kept s → StandsFor kept r → device_gain s t ≡ device_gain r t
 gain_decided kept s r t one two = gain_is s t ∙ reports_decided t kept s r one two ∙ sym (gain_is r t)
 
-pub close_decided : (t : List Symbol) (kept : Kept) (s r : List Symbol) → StandsFor kept s → StandsFor kept r → device_close (s ++ t) ≡ device_close (r ++ t)
+pub close_decided : (t : List Symbol) (kept : DeviceKept) (s r : List Symbol) → StandsFor kept s → StandsFor kept r → device_close (s ++ t) ≡ device_close (r ++ t)
 close_decided [] kept s r one two =
     ap device_close (append-nil s) ∙ sym (left_over kept.epochs (notes_in s) one.notes) ∙ left_over kept.epochs (notes_in r) two.notes ∙ ap device_close (sym (append-nil r))
 close_decided (x ∷ t) kept s r one two =

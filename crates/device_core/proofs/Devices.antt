@@ -13,28 +13,28 @@ use Rattle.packet_cut.specs.Standing.{StandsFor as BytesStand, IsCut, Shift, app
 use Rattle.packet_cut.proofs.StreamLaws.{rest_gain}
 use Rattle.epoch_core.specs.Epochs.{epochs, reports}
 use Rattle.epoch_core.specs.Days.{dated}
-use Rattle.epoch_core.specs.Kept.{Kept as KeptEpochs, StandsFor as NotesStand}
+use Rattle.epoch_core.specs.Kept.{EpochsKept, StandsFor as NotesStand}
 use Rattle.pps_edges.specs.Pulse.{StandsFor as EdgesStand, pps_of}
 use Rattle.device_core.specs.Stream.{bytes_in, edges_in, piece, packets_in, notes_of}
 use Rattle.device_core.specs.Reports.{last_toff, pulse_of, reports_from, Gains, device_reports}
-use Rattle.device_core.specs.Standing.{Held, Kept, StandsFor}
+use Rattle.device_core.specs.Standing.{DeviceView, DeviceKept, StandsFor}
 use Rattle.device_core.specs.declared.draft.Draft.{Draft}
 use Rattle.device_core.specs.Drafts.{FitsDraft, IsSound, back_of, bytes_now, edge_now, now_of, toff_now}
 use Rattle.device_core.specs.Going.{TookAll}
 use Rattle.device_core.proofs.Streams.{gains_piece, packets_after, stream_after, edges_after, bytes_join, edges_join, reports-append}
 
-pub stands_new : (bytes : List Stamped) (kept : KeptEpochs) (edge : Option Edge) → BytesStand bytes [] → NotesStand kept [] → EdgesStand edge []
+pub stands_new : (bytes : List Stamped) (kept : EpochsKept) (edge : Option Edge) → BytesStand bytes [] → NotesStand kept [] → EdgesStand edge []
     → StandsFor (record { bytes = bytes; epochs = kept; edge = edge; toff = None }) []
 unfolding reports parts_from epochs dated
 stands_new bytes kept edge b n e = record { bytes = b; notes = n; edges = e; toff = refl }
 
-pub gains_fed : (kept : Kept) (now : KeptEpochs) (next : Option Pair) (at : Moment) (bytes : List ℕ) (packets : List Packet) (shift : Shift) (out : List Body)
+pub gains_fed : (kept : DeviceKept) (now : EpochsKept) (next : Option Pair) (at : Moment) (bytes : List ℕ) (packets : List Packet) (shift : Shift) (out : List Body)
     → IsCut kept.bytes at bytes packets shift → TookAll kept.epochs now kept.toff next packets out
     → (stream : List Symbol) → StandsFor kept stream → Gains stream (piece at bytes) out
 gains_fed kept now next at bytes packets shift out cut took stream stands =
     gains_piece stream at bytes kept.bytes packets out stands.bytes cut.packets_are (took.told_all (packets_in stream) stands.notes)
 
-pub stands_fed : (kept : Kept) (now : KeptEpochs) (next : Option Pair) (at : Moment) (bytes : List ℕ) (packets : List Packet) (shift : Shift) (out : List Body)
+pub stands_fed : (kept : DeviceKept) (now : EpochsKept) (next : Option Pair) (at : Moment) (bytes : List ℕ) (packets : List Packet) (shift : Shift) (out : List Body)
     → IsCut kept.bytes at bytes packets shift → TookAll kept.epochs now kept.toff next packets out
     → (stream : List Symbol) → StandsFor kept stream
     → StandsFor (record { bytes = applied shift kept.bytes; epochs = now; edge = kept.edge; toff = next }) (stream ++ piece at bytes)
@@ -58,7 +58,7 @@ edges_more stream edge = sym (edges_join stream (EdgeSymbol edge ∷ []))
 bytes_same : (stream : List Symbol) (edge : Edge) → bytes_in stream ≡ bytes_in (stream ++ EdgeSymbol edge ∷ [])
 bytes_same stream edge = sym (append-nil (bytes_in stream)) ∙ sym (bytes_join stream (EdgeSymbol edge ∷ []))
 
-pub gains_edge : (kept : Kept) (edge : Edge) (pulse : Option Pair) (out : List Body)
+pub gains_edge : (kept : DeviceKept) (edge : Edge) (pulse : Option Pair) (out : List Body)
     → ((past : List Edge) → EdgesStand kept.edge past → pulse ≡ pps_of past kept.toff edge)
     → out ≡ option_to_list (option_map (λ pair. Pps pair) pulse)
     → (stream : List Symbol) → StandsFor kept stream → Gains stream (EdgeSymbol edge ∷ []) out
@@ -70,7 +70,7 @@ gains_edge kept edge pulse out paired made stream stands =
     reports-append [] stream (EdgeSymbol edge ∷ [])
     ∙ ap (λ r. device_reports stream ++ r) (append-nil (pulse_of stream edge) ∙ sym told)
 
-pub stands_edge : (kept : Kept) (edge : Edge) (next : Option Edge)
+pub stands_edge : (kept : DeviceKept) (edge : Edge) (next : Option Edge)
     → ((past : List Edge) → EdgesStand kept.edge past → EdgesStand next (past ++ edge ∷ []))
     → (stream : List Symbol) → StandsFor kept stream
     → StandsFor (record { bytes = kept.bytes; epochs = kept.epochs; edge = next; toff = kept.toff }) (stream ++ EdgeSymbol edge ∷ [])
@@ -86,22 +86,22 @@ stands_edge kept edge next goes stream stands =
     }
 
 -- without an open draft, what is kept is what the fields hold
-pub settled_is : (draft : Option Draft) (bytes : List Stamped) (epochs : KeptEpochs) (back : Option KeptEpochs) (edge : Option Edge) (toff : Option Pair) (held : Held) (before : Kept)
+pub committed_is : (draft : Option Draft) (bytes : List Stamped) (epochs : EpochsKept) (back : Option EpochsKept) (edge : Option Edge) (toff : Option Pair) (held : DeviceView) (before : DeviceKept)
     → IsSound draft bytes back toff
     → record { now = now_of draft bytes epochs edge toff; back = back_of draft bytes back edge toff } ≡ held → held ≡ record { now = before; back = None }
     → before ≡ record { bytes = bytes; epochs = epochs; edge = edge; toff = toff }
-settled_is None bytes epochs back edge toff held before sound is settled = sym (ap (λ h. h.now) (is ∙ settled))
-settled_is (Some draft) bytes epochs None edge toff held before sound is settled = absurd (let h : false ≡ true = sound.0.0 in cc)
-settled_is (Some draft) bytes epochs (Some back) edge toff held before sound is settled =
-    absurd (let h : Some (record { bytes = bytes; epochs = back; edge = edge; toff = toff }) ≡ None = ap (λ h. h.back) (is ∙ settled) in cc)
+committed_is None bytes epochs back edge toff held before sound is committed = sym (ap (λ h. h.now) (is ∙ committed))
+committed_is (Some draft) bytes epochs None edge toff held before sound is committed = absurd (let h : false ≡ true = sound.0.0 in cc)
+committed_is (Some draft) bytes epochs (Some back) edge toff held before sound is committed =
+    absurd (let h : Some (record { bytes = bytes; epochs = back; edge = edge; toff = toff }) ≡ None = ap (λ h. h.back) (is ∙ committed) in cc)
 
 -- a device without an open draft, made of copies of its fields
 
-pub copied : (draft : Option Draft) (bytes : List Stamped) (epochs : KeptEpochs) (edge : Option Edge) (toff : Option Pair)
+pub copied : (draft : Option Draft) (bytes : List Stamped) (epochs : EpochsKept) (edge : Option Edge) (toff : Option Pair)
     → record { bytes = bytes_now draft bytes; epochs = epochs; edge = edge_now draft edge; toff = toff_now draft toff } ≡ now_of draft bytes epochs edge toff
 copied None bytes epochs edge toff = refl
 copied (Some draft) bytes epochs edge toff = refl
 
-pub fits : (draft : Option Draft) (bytes : List Stamped) (back : Option KeptEpochs) (toff : Option Pair) → IsSound draft bytes back toff → FitsDraft draft bytes
+pub fits : (draft : Option Draft) (bytes : List Stamped) (back : Option EpochsKept) (toff : Option Pair) → IsSound draft bytes back toff → FitsDraft draft bytes
 fits None bytes back toff sound = tt
 fits (Some draft) bytes back toff sound = sound.0.1

@@ -11,7 +11,7 @@ use Rattle.gps_report.specs.declared.report.Body.{Body}
 use Rattle.gps_report.specs.declared.report.Body.TheVariants.{Packet as PacketBody}
 use Rattle.epoch_core.specs.declared.heard.Heard.{Heard}
 use Rattle.epoch_core.specs.Epochs.{reports, leaves_a_second, Gains as NotesGain}
-use Rattle.epoch_core.specs.Kept.{Kept as KeptEpochs, StandsFor as NotesStand}
+use Rattle.epoch_core.specs.Kept.{EpochsKept, StandsFor as NotesStand}
 use Rattle.device_core.specs.Stream.{note_in, heard, notes_of}
 use Rattle.device_core.specs.Reports.{told, all_told, last_toff}
 use Rattle.device_core.specs.Going.{TookOne, TookAll}
@@ -27,7 +27,7 @@ notes_grow before packet note is =
     map-append heard before (packet ∷ []) ∙ ap (λ n. notes_of before ++ heard_as n packet.at ∷ []) (sym is)
 
 -- what the epochs' own contract says of the note of a packet is what it takes for the packet to be taken
-pub took_one : (old now : KeptEpochs) (toff next : Option Pair) (packet : Packet) (note : Note) (caused bodies more : List Body)
+pub took_one : (old now : EpochsKept) (toff next : Option Pair) (packet : Packet) (note : Note) (caused bodies more : List Body)
     → note ≡ note_in packet.kind packet.bytes
     → ((notes : List Heard) → NotesStand old notes → NotesGain notes (heard_as note packet.at) caused)
     → ((notes : List Heard) → NotesStand old notes → NotesStand now (notes ++ heard_as note packet.at ∷ []))
@@ -46,7 +46,7 @@ took_one old now toff next packet note caused bodies more is gains stands low ne
   low = λ before_low. newer_low caused toff next newest low before_low;
 }
 
-pub took_none : (old : KeptEpochs) (toff : Option Pair) (bodies : List Body) → bodies ≡ [] → TookAll old old toff toff [] bodies
+pub took_none : (old : EpochsKept) (toff : Option Pair) (bodies : List Body) → bodies ≡ [] → TookAll old old toff toff [] bodies
 took_none old toff bodies none = record {
   told_all = λ before s. none;
   stands = λ before s. let P : List Packet → Type 0 = λ packets. NotesStand old (notes_of packets) in subst P (sym (append-nil before)) s;
@@ -54,7 +54,7 @@ took_none old toff bodies none = record {
   low = λ l. l;
 }
 
-pub took_more : (old now next : KeptEpochs) (toff at_now at_next : Option Pair) (done : List Packet) (packet : Packet) (bodies more : List Body)
+pub took_more : (old now next : EpochsKept) (toff at_now at_next : Option Pair) (done : List Packet) (packet : Packet) (bodies more : List Body)
     → TookAll old now toff at_now done bodies → TookOne now next at_now at_next packet bodies more → TookAll old next toff at_next (done ++ packet ∷ []) more
 took_more old now next toff at_now at_next done packet bodies more all one = record {
   told_all = λ before s.

@@ -1,13 +1,13 @@
--- A device with an open draft: a call was made, and can still be undone. This project's own.
+-- A device with an open draft: a call was made, and can still be undone.
 use Rattle.std.specs.Prelude.{◌≡◌, Bool, true, List, Option, Some, None, is_some, option_map, unwrap_or}
 use Rattle.gps_report.specs.declared.edge.Edge.{Edge}
 use Rattle.gps_report.specs.declared.fix.Pair.{Pair}
 use Rattle.packet_cut.specs.Packets.{Stamped}
 use Rattle.packet_cut.specs.Standing.{Shift, Fits, applied}
-use Rattle.epoch_core.specs.Kept.{Kept as KeptEpochs}
+use Rattle.epoch_core.specs.Kept.{EpochsKept}
 use Rattle.epoch_core.specs.Epochs.{is_before_the_last}
 use Rattle.device_core.specs.declared.draft.Draft.{Draft}
-use Rattle.device_core.specs.Standing.{Held, Kept}
+use Rattle.device_core.specs.Standing.{DeviceView, DeviceKept}
 
 -- the whole second after a serial time is a stamp as well
 abbrev pub is_low : Option Pair → Bool
@@ -23,24 +23,24 @@ FitsBytes None bytes = Unit {0}
 FitsBytes (Some shift) bytes = Fits shift bytes
 
 -- what is kept, with the draft
-abbrev pub now_of : Option Draft → List Stamped → KeptEpochs → Option Edge → Option Pair → Kept
+abbrev pub now_of : Option Draft → List Stamped → EpochsKept → Option Edge → Option Pair → DeviceKept
 now_of None bytes epochs edge toff = record { bytes = bytes; epochs = epochs; edge = edge; toff = toff }
 now_of (Some draft) bytes epochs edge toff = record { bytes = changed draft.change bytes; epochs = epochs; edge = draft.pulses; toff = draft.toff }
 
 -- what is kept without the draft, where there is one
-abbrev pub back_of : Option Draft → List Stamped → Option KeptEpochs → Option Edge → Option Pair → Option Kept
+abbrev pub back_of : Option Draft → List Stamped → Option EpochsKept → Option Edge → Option Pair → Option DeviceKept
 back_of None bytes back edge toff = None
 back_of (Some draft) bytes back edge toff = option_map (λ epochs. record { bytes = bytes; epochs = epochs; edge = edge; toff = toff }) back
 
-abbrev pub IsDraft : Option Draft → List Stamped → Option KeptEpochs → Type 0
+abbrev pub IsDraft : Option Draft → List Stamped → Option EpochsKept → Type 0
 IsDraft None bytes back = back ≡ None
 IsDraft (Some draft) bytes back = (is_some back ≡ true) × FitsBytes draft.change bytes × (is_low draft.toff ≡ true)
 
-abbrev pub IsSound : Option Draft → List Stamped → Option KeptEpochs → Option Pair → Type 0
+abbrev pub IsSound : Option Draft → List Stamped → Option EpochsKept → Option Pair → Type 0
 IsSound draft bytes back toff = IsDraft draft bytes back × (is_low toff ≡ true)
 
 -- what is kept where an open draft is taken back
-abbrev pub back_or : Held → Kept
+abbrev pub back_or : DeviceView → DeviceKept
 back_or held = unwrap_or held.back held.now
 
 -- what an open draft makes of each of these, and that it fits the bytes

@@ -1,5 +1,5 @@
 -- The reports of a device's stream, symbol by symbol: each packet that a byte completes and then what its note causes, and the pulse of each
--- edge that marks a second. This project's own.
+-- edge that marks a second.
 use Rattle.std.specs.Prelude.{◌≡◌, List, [], ◌∷◌, ◌++◌, Option, Some, None, drop, length, option_map, option_to_list}
 use Rattle.std.specs.Option.{option_or}
 use Rattle.gps_report.specs.declared.edge.Edge.{Edge}

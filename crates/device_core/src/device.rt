@@ -10,7 +10,7 @@ use crate::packets::take_packets;
 use epoch_core::Epochs;
 use gps_fixed::{NoMemory, Stamp};
 use gps_report::{Body, Edge, Pair, Symbol};
-use packet_cut::{Change, Cut, Cutter};
+use packet_cut::{Cutter, CutterChange, PacketCut};
 use pps_edges::Pulses;
 use std::alloc::Global;
 use std::marker::Model;
@@ -19,7 +19,7 @@ use std::mem;
 /// One device: what its bytes and edges have come to.
 ///
 /// It keeps the bytes that are pending, the running epoch, the last assert edge and the last serial time. A call may be made as a draft,
-/// which changes the device and can be undone without memory until it is settled; each further call settles an open draft first.
+/// which changes the device and can be undone without memory until it is committed; each further call commits an open draft first.
 #[derive(Drop)]
 pub struct Device {
     alloc: Global,
@@ -31,10 +31,10 @@ pub struct Device {
 }
 
 impl Model for Device {
-    ghost use Rattle.device_core.specs.Standing.{Held};
+    ghost use Rattle.device_core.specs.Standing.{DeviceView};
     ghost use Rattle.device_core.specs.Drafts.{IsSound, back_of, now_of};
 
-    ghost Value = { Held };
+    ghost Value = { DeviceView };
 
     ghost view = { λ d. record { now = now_of d.draft d.cutter d.epochs.now d.pulses d.toff; back = back_of d.draft d.cutter d.epochs.back d.pulses d.toff } };
 
@@ -46,7 +46,7 @@ impl Device {
     #[tactic(auto, using(crate::proofs::Devices::stands_new))]
     pub fn new(alloc: Global) -> Device
         ensures stands { StandsFor result.now [] }
-        ensures settled { result.back ≡ None }
+        ensures committed { result.back ≡ None }
     {
         Device {
             alloc,
@@ -59,7 +59,7 @@ impl Device {
     }
 
     /// Makes an open draft final. Takes no memory.
-    pub fn settle(&mut self)
+    pub fn commit(&mut self)
         ensures { self.new ≡ record { now = self.old.now; back = None } }
     {
         let draft = mem::replace(&mut self.draft, None);
@@ -72,7 +72,7 @@ impl Device {
             if let Some(change) = change {
                 self.cutter.put(change);
             }
-            self.epochs.settle();
+            self.epochs.commit();
             self.pulses = pulses;
             self.toff = toff;
         }
@@ -89,9 +89,9 @@ impl Device {
         ensures back { OnOk result (self.new.back ≡ Some self.old.now) }
         ensures err { OnErr result (self.new ≡ record { now = self.old.now; back = None }) }
     {
-        self.settle();
-        let Cut { packets, change } = self.cutter.cut(at, bytes)?;
-        self.epochs.mark();
+        self.commit();
+        let PacketCut { packets, change } = self.cutter.cut(at, bytes)?;
+        self.epochs.checkpoint();
         match take_packets(self.alloc, &mut self.epochs, packets, self.toff) {
             Ok((out, toff)) => {
                 self.draft = Some(Draft {
@@ -127,10 +127,10 @@ impl Device {
         ensures back { OnOk result (self.new.back ≡ Some self.old.now) }
         ensures err { OnErr result (self.new ≡ record { now = self.old.now; back = None }) }
     {
-        self.settle();
+        self.commit();
         let mut pulses = self.pulses;
         let out = pulse_reported(self.alloc, pulses.take(edge, self.toff))?;
-        self.epochs.mark();
+        self.epochs.checkpoint();
         self.draft = Some(Draft {
             change: None,
             pulses,
@@ -148,8 +148,8 @@ impl Device {
         ensures back { OnOk result (self.new.back ≡ Some self.old.now) }
         ensures err { OnErr result (self.new ≡ record { now = self.old.now; back = None }) }
     {
-        self.settle();
-        self.epochs.mark();
+        self.commit();
+        self.epochs.checkpoint();
         match self.epochs.finish() {
             Ok(out) => {
                 self.draft = Some(Draft {
@@ -172,11 +172,11 @@ impl Device {
         ensures gains { IfOk result (λ out. (stream : List SymbolValue) → StandsFor self.old.now stream → Gains stream (piece at bytes.now) out.items) }
         ensures few { IfOk result (λ out. length out.items ≤ 2055 + length bytes.now) }
         ensures stands { OnOk result ((stream : List SymbolValue) → StandsFor self.old.now stream → StandsFor self.new.now (stream ++ piece at bytes.now)) }
-        ensures settled { self.new.back ≡ None }
+        ensures committed { self.new.back ≡ None }
         ensures err { OnErr result (self.new.now ≡ self.old.now) }
     {
         let out = self.draft_feed(at, bytes)?;
-        self.settle();
+        self.commit();
         Ok(out)
     }
 
@@ -185,11 +185,11 @@ impl Device {
         ensures gains { IfOk result (λ out. (stream : List SymbolValue) → StandsFor self.old.now stream → Gains stream (Symbol.Edge edge ∷ []) out.items) }
         ensures few { IfOk result (λ out. length out.items ≤ 1) }
         ensures stands { OnOk result ((stream : List SymbolValue) → StandsFor self.old.now stream → StandsFor self.new.now (stream ++ Symbol.Edge edge ∷ [])) }
-        ensures settled { self.new.back ≡ None }
+        ensures committed { self.new.back ≡ None }
         ensures err { OnErr result (self.new.now ≡ self.old.now) }
     {
         let out = self.draft_edge(edge)?;
-        self.settle();
+        self.commit();
         Ok(out)
     }
 
@@ -199,11 +199,11 @@ impl Device {
         ensures closed { OnOk result (self.new.now ≡ with_nothing_running self.old.now) }
         ensures gains { IfOk result (λ out. (stream : List SymbolValue) → StandsFor self.old.now stream → out.items ≡ device_close stream) }
         ensures few { IfOk result (λ out. length out.items ≤ 2) }
-        ensures settled { self.new.back ≡ None }
+        ensures committed { self.new.back ≡ None }
         ensures err { OnErr result (self.new.now ≡ self.old.now) }
     {
         let out = self.draft_finish()?;
-        self.settle();
+        self.commit();
         Ok(out)
     }
 
@@ -236,7 +236,11 @@ fn cutter_now(alloc: Global, cutter: &Cutter, draft: &Option<Draft>) -> Result<C
     }
 }
 
-fn changed(alloc: Global, cutter: &Cutter, change: &Option<Change>) -> Result<Cutter, NoMemory>
+fn changed(
+    alloc: Global,
+    cutter: &Cutter,
+    change: &Option<CutterChange>,
+) -> Result<Cutter, NoMemory>
     requires { FitsBytes change.now cutter.now }
     ensures { IfOk result (λ copy. copy ≡ changed change.now cutter.now) }
 {

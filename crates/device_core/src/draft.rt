@@ -1,11 +1,11 @@
 use gps_report::Pair;
-use packet_cut::Change;
+use packet_cut::CutterChange;
 use pps_edges::Pulses;
 
-/// What an open draft will make of the device; the epochs have gone on already, and have a mark to go back to.
+/// What an open draft will make of the device; the epochs have gone on already, and have a checkpoint to go back to.
 #[derive(Drop)]
 pub struct Draft {
-    pub(crate) change: Option<Change>,
+    pub(crate) change: Option<CutterChange>,
     pub(crate) pulses: Pulses,
     pub(crate) toff: Option<Pair>,
 }

@@ -4,7 +4,7 @@ ghost use Rattle.std.specs.Prelude.{◌≡◌, ◌++◌, List};
 ghost use Rattle.gps_report.specs.declared.edge.Symbol.{Symbol};
 ghost use Rattle.gps_report.specs.declared.report.Body.{Body};
 ghost use Rattle.device_core.specs.Reports.{device_close, device_gain, device_reports, reports_from};
-ghost use Rattle.device_core.specs.Standing.{Kept, StandsFor};
+ghost use Rattle.device_core.specs.Standing.{DeviceKept, StandsFor};
 
 /// More of a stream takes no report away and changes none.
 pub fn reports_are_a_beginning()
@@ -18,8 +18,8 @@ pub fn reports_go_on()
 
 /// What more of a stream adds, and what is left at its end, are the same for all streams that one device stands for.
 pub fn later_reports_are_decided()
-    ensures gain { (kept : Kept) (stream other more : List Symbol) → StandsFor kept stream → StandsFor kept other
+    ensures gain { (kept : DeviceKept) (stream other more : List Symbol) → StandsFor kept stream → StandsFor kept other
         → device_gain stream more ≡ device_gain other more }
-    ensures close { (kept : Kept) (stream other more : List Symbol) → StandsFor kept stream → StandsFor kept other
+    ensures close { (kept : DeviceKept) (stream other more : List Symbol) → StandsFor kept stream → StandsFor kept other
         → device_close (stream ++ more) ≡ device_close (other ++ more) }
 {}

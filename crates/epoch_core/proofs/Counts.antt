@@ -3,13 +3,13 @@ use Rattle.std.proofs.Common.{◌≡◌, ℕ, ◌+◌, ◌<◌, ◌≤◌, inl, 
 use Rattle.std.specs.List.{list_any, list_all, IsDistinct}
 use Rattle.std.proofs.lemmas.Bool.{and_parts, or_cases}
 use Rattle.std.proofs.lemmas.List.{length-map}
-use Rattle.epoch_core.proofs.Sameness.{satellite_key_below, seen_key_below}
+use Rattle.epoch_core.proofs.Sameness.{satellite_key_below, used_ids_key_below}
 use Rattle.std.proofs.lemmas.Map.Steps.{length-le_from_distinct_below}
 use Rattle.gps_report.specs.declared.satellite.Satellite.{Satellite}
 use Rattle.gps_report.specs.Fits.{is_satellite}
-use Rattle.epoch_core.specs.declared.seen.Seen.{Seen}
-use Rattle.epoch_core.specs.Keys.{satellite_key, seen_key}
-use Rattle.epoch_core.specs.Tidy.{is_seen, IsTidy}
+use Rattle.epoch_core.specs.declared.used_id.UsedId.{UsedId}
+use Rattle.epoch_core.specs.Keys.{satellite_key, used_id_key}
+use Rattle.epoch_core.specs.Tidy.{is_used_id, IsTidy}
 
 below : {X : Type 0} (key : X → ℕ) (fits : X → Bool) (n : ℕ) → ((x : X) → fits x ≡ true → key x < n) → (xs : List X) → list_all fits xs ≡ true → (q : ℕ) → list_any (nat_eq q) (map key xs) ≡ true → q < n
 below key fits n small [] all q h = absurd (cc)
@@ -25,7 +25,7 @@ few_of key fits n small xs all d =
     let l = length-le_from_distinct_below (map key xs) n d (below key fits n small xs all) in
     omega (arith, length-map xs key)
 
-pub few_kept : (sats : List Satellite) (seen : List Seen) (n m : ℕ) → IsTidy sats seen → IsDistinct nat_eq (map satellite_key sats) → IsDistinct nat_eq (map seen_key seen) → n ≡ length sats → m ≡ length seen → n + m ≤ 155_446
-few_kept sats seen n m tidy d e a b =
+pub few_kept : (sats : List Satellite) (used_ids : List UsedId) (n m : ℕ) → IsTidy sats used_ids → IsDistinct nat_eq (map satellite_key sats) → IsDistinct nat_eq (map used_id_key used_ids) → n ≡ length sats → m ≡ length used_ids → n + m ≤ 155_446
+few_kept sats used_ids n m tidy d e a b =
     let l = few_of satellite_key is_satellite 150_451 satellite_key_below sats tidy.sats_fit d in
-    let k = few_of seen_key is_seen 4_995 seen_key_below seen tidy.seen_fit e in omega arith
+    let k = few_of used_id_key is_used_id 4_995 used_ids_key_below used_ids tidy.used_ids_fit e in omega arith

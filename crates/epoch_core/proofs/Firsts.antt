@@ -7,8 +7,8 @@ use Rattle.std.proofs.lemmas.List.{append_assoc, append-nil}
 use Rattle.std.proofs.lemmas.List.Elements.{filter-append}
 use Rattle.std.proofs.lemmas.Cmp.{nat_eq_equiv}
 use Rattle.gps_report.specs.declared.satellite.Satellite.{Satellite}
-use Rattle.epoch_core.specs.declared.seen.Seen.{Seen}
-use Rattle.epoch_core.specs.Satellites.{firsts, same_satellite, same_seen, same_number, system_of, speaks_of, marked}
+use Rattle.epoch_core.specs.declared.used_id.UsedId.{UsedId}
+use Rattle.epoch_core.specs.Satellites.{firsts, same_satellite, same_used_id, same_number, system_of, speaks_of, marked}
 use Rattle.epoch_core.specs.Steps.{added, all_added}
 
 -- a test whose elements all stay is not changed by the filter
@@ -115,8 +115,8 @@ satellite_equiv =
     and_equiv (λ (s : Satellite). s) (λ (s : Satellite). s.signal) (λ (s t : Satellite). same_number (system_of s) (system_of t) && nat_eq s.prn t.prn) same_number
     (and_equiv system_of (λ (s : Satellite). s.prn) same_number nat_eq number_equiv nat_eq_equiv) number_equiv
 
-pub seen_equiv : IsEquivalence same_seen
-seen_equiv = and_equiv (λ (a : Seen). a.system) (λ (a : Seen). a.id) same_number nat_eq number_equiv nat_eq_equiv
+pub used_ids_equiv : IsEquivalence same_used_id
+used_ids_equiv = and_equiv (λ (a : UsedId). a.system) (λ (a : UsedId). a.id) same_number nat_eq number_equiv nat_eq_equiv
 
 same_number_is : (a b : Option ℕ) → same_number a b ≡ true → a ≡ b
 same_number_is None None h = refl
@@ -124,18 +124,18 @@ same_number_is None (Some m) h = absurd (cc)
 same_number_is (Some n) None h = absurd (cc)
 same_number_is (Some n) (Some m) h = ap Some (eqb-true n m h)
 
-speaks_alike : (s : Satellite) (a b : Seen) → same_seen a b ≡ true → speaks_of s a ≡ speaks_of s b
+speaks_alike : (s : Satellite) (a b : UsedId) → same_used_id a b ≡ true → speaks_of s a ≡ speaks_of s b
 speaks_alike s a b h =
     let p = and_parts (same_number a.system b.system) (nat_eq a.id b.id) h in
     ap (λ v. nat_eq v s.prn && (is_none a.system || is_none (system_of s) || same_number a.system (system_of s))) (eqb-true a.id b.id p.1)
     ∙ ap (λ v. nat_eq b.id s.prn && (is_none v || is_none (system_of s) || same_number v (system_of s))) (same_number_is a.system b.system p.0)
 
-pub marked_alike : (seen : List Seen) (s : Satellite) → marked seen s ≡ marked (firsts same_seen seen) s
+pub marked_alike : (used_ids : List UsedId) (s : Satellite) → marked used_ids s ≡ marked (firsts same_used_id used_ids) s
 unfolding marked
-marked_alike seen s =
-    ap (λ v. record s { used = s.used || v }) (sym (any_firsts same_seen (speaks_of s) (speaks_alike s) seen))
+marked_alike used_ids s =
+    ap (λ v. record s { used = s.used || v }) (sym (any_firsts same_used_id (speaks_of s) (speaks_alike s) used_ids))
 
-pub all_marked_alike : (seen : List Seen) → (sats : List Satellite) → map (marked seen) sats ≡ map (marked (firsts same_seen seen)) sats
-all_marked_alike seen [] = refl
-all_marked_alike seen (s ∷ sats) =
-    ap (λ v. v ∷ map (marked seen) sats) (marked_alike seen s) ∙ ap (λ v. marked (firsts same_seen seen) s ∷ v) (all_marked_alike seen sats)
+pub all_marked_alike : (used_ids : List UsedId) → (sats : List Satellite) → map (marked used_ids) sats ≡ map (marked (firsts same_used_id used_ids)) sats
+all_marked_alike used_ids [] = refl
+all_marked_alike used_ids (s ∷ sats) =
+    ap (λ v. v ∷ map (marked used_ids) sats) (marked_alike used_ids s) ∙ ap (λ v. marked (firsts same_used_id used_ids) s ∷ v) (all_marked_alike used_ids sats)

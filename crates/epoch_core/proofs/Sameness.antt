@@ -7,11 +7,11 @@ use Rattle.epoch_core.proofs.Added.{added_made, added_front}
 use Rattle.std.proofs.lemmas.List.Folds.{list_all-append}
 use Rattle.gps_report.specs.declared.satellite.Satellite.{Satellite}
 use Rattle.gps_report.specs.Fits.{is_satellite, is_sentence_satellite, is_frame_satellite, where_given, is_id, is_named_system}
-use Rattle.epoch_core.specs.declared.seen.Seen.{Seen}
-use Rattle.epoch_core.specs.Satellites.{same_satellite, same_seen, same_number, system_of, seen_by}
+use Rattle.epoch_core.specs.declared.used_id.UsedId.{UsedId}
+use Rattle.epoch_core.specs.Satellites.{same_satellite, same_used_id, same_number, system_of, used_id_by}
 use Rattle.epoch_core.specs.Steps.{added, all_added}
-use Rattle.epoch_core.specs.Keys.{by_key, satellite_key, seen_key, system_place, system_number, signal_place}
-use Rattle.epoch_core.specs.Tidy.{is_seen}
+use Rattle.epoch_core.specs.Keys.{by_key, satellite_key, used_id_key, system_place, system_number, signal_place}
+use Rattle.epoch_core.specs.Tidy.{is_used_id}
 
 -- ---- lists whose elements all fit
 
@@ -82,22 +82,22 @@ pub system_place_named : (o : Option ℕ) → where_given is_named_system o ≡ 
 system_place_named None h = omega arith
 system_place_named (Some g) h = grind (arith, nat_tests)
 
-seen_apart : (p q i j : ℕ) → 1 ≤ i → i ≤ 999 → 1 ≤ j → j ≤ 999 → p * 999 + (i - 1) ≡ q * 999 + (j - 1) → (p ≡ q) × (i ≡ j)
-seen_apart p q i j a b c d e = let place : p ≡ q = omega arith in (place, omega arith)
+used_ids_apart : (p q i j : ℕ) → 1 ≤ i → i ≤ 999 → 1 ≤ j → j ≤ 999 → p * 999 + (i - 1) ≡ q * 999 + (j - 1) → (p ≡ q) × (i ≡ j)
+used_ids_apart p q i j a b c d e = let place : p ≡ q = omega arith in (place, omega arith)
 
 within_id : (n : ℕ) → is_id n ≡ true → (1 ≤ n) × (n ≤ 999)
 within_id n h = let p = and_parts (nat_le 1 n) (nat_le n 999) h in (leb-true 1 n p.0, leb-true n 999 p.1)
 
-seen_same : (a b : Seen) → is_seen a ≡ true → is_seen b ≡ true → by_key seen_key a b ≡ same_seen a b
-unfolding seen_key
-seen_same a b f g =
+used_ids_same : (a b : UsedId) → is_used_id a ≡ true → is_used_id b ≡ true → by_key used_id_key a b ≡ same_used_id a b
+unfolding used_id_key
+used_ids_same a b f g =
     let fa = and_parts (is_id a.id) (where_given is_named_system a.system) f in
     let fb = and_parts (is_id b.id) (where_given is_named_system b.system) g in
     let ia = within_id a.id fa.0 in
     let ib = within_id b.id fb.0 in
-    both_ways (by_key seen_key a b) (same_seen a b)
+    both_ways (by_key used_id_key a b) (same_used_id a b)
     (λ h.
-    let e = seen_apart (system_place a.system) (system_place b.system) a.id b.id ia.0 ia.1 ib.0 ib.1 (eqb-true _ _ h) in
+    let e = used_ids_apart (system_place a.system) (system_place b.system) a.id b.id ia.0 ia.1 ib.0 ib.1 (eqb-true _ _ h) in
     and_from (same_number a.system b.system) (nat_eq a.id b.id)
     (is_same_number a.system b.system (system_place_is a.system b.system (system_place_named a.system fa.1) e.0)) (eq-eqb a.id b.id e.1))
     (λ h.
@@ -201,7 +201,7 @@ near_apart s t n m a b e =
     parts : (p q i j k l : ℕ) → k ≤ 16 → l ≤ 16 → 1 ≤ i → i ≤ 999 → 1 ≤ j → j ≤ 999 → (p * 999 + (i - 1)) * 17 + k ≡ (q * 999 + (j - 1)) * 17 + l → (p ≡ q) × (i ≡ j) × (k ≡ l)
     parts p q i j k l a b c d e f h =
         let same : p * 999 + (i - 1) ≡ q * 999 + (j - 1) = seventeen (p * 999 + (i - 1)) (q * 999 + (j - 1)) k l a b h in
-        let r = seen_apart p q i j c d e f same in (r.0, r.1, let z : k ≡ l = omega arith in z)
+        let r = used_ids_apart p q i j c d e f same in (r.0, r.1, let z : k ≡ l = omega arith in z)
 
 same_from_parts : (s t : Satellite) → system_of s ≡ system_of t → s.prn ≡ t.prn → s.signal ≡ t.signal → same_satellite s t ≡ true
 same_from_parts s t e i g =
@@ -245,9 +245,9 @@ satellite_same s t f g =
     same_key : (a b : Option ℕ) (i j : ℕ) (x y : Option ℕ) → a ≡ b → i ≡ j → x ≡ y → key_by a i x ≡ key_by b j y
     same_key a b i j x y e h k = ap (λ v. key_by v i x) e ∙ ap (λ v. key_by b v x) h ∙ ap (λ v. key_by b j v) k
 
-pub seen_key_below : (a : Seen) → is_seen a ≡ true → seen_key a < 4_995
-unfolding seen_key
-seen_key_below a f =
+pub used_ids_key_below : (a : UsedId) → is_used_id a ≡ true → used_id_key a < 4_995
+unfolding used_id_key
+used_ids_key_below a f =
     let p = and_parts (is_id a.id) (where_given is_named_system a.system) f in
     let i = within_id a.id p.0 in
     let l = system_place_named a.system p.1 in omega arith
@@ -269,27 +269,27 @@ sats_added kept now xs h f e = e ∙ all_added_same is_satellite (by_key satelli
 pub sats_fit : (kept now xs : List Satellite) → list_all is_satellite kept ≡ true → list_all is_satellite xs ≡ true → now ≡ all_added (by_key satellite_key) kept xs → list_all is_satellite now ≡ true
 sats_fit kept now xs h f e = ap (list_all is_satellite) e ∙ all_added_fit is_satellite (by_key satellite_key) kept xs h f
 
-ids_fit : (ids : List ℕ) (system : Option ℕ) → list_all is_id ids ≡ true → where_given is_named_system system ≡ true → list_all is_seen (map (seen_by system) ids) ≡ true
+ids_fit : (ids : List ℕ) (system : Option ℕ) → list_all is_id ids ≡ true → where_given is_named_system system ≡ true → list_all is_used_id (map (used_id_by system) ids) ≡ true
 ids_fit [] system f n = refl
 ids_fit (i ∷ ids) system f n =
     let p = and_parts (is_id i) (list_all is_id ids) f in
     and_from (is_id i && where_given is_named_system system) _ (and_from (is_id i) (where_given is_named_system system) p.0 n) (ids_fit ids system p.1 n)
 
-pub seen_added : (kept now : List Seen) (ids : List ℕ) (system : Option ℕ) → list_all is_seen kept ≡ true → list_all is_id ids ≡ true → where_given is_named_system system ≡ true → now ≡ all_added (by_key seen_key) kept (map (seen_by system) ids) → now ≡ all_added same_seen kept (map (seen_by system) ids)
-seen_added kept now ids system h f n e = e ∙ all_added_same is_seen (by_key seen_key) same_seen seen_same kept (map (seen_by system) ids) h (ids_fit ids system f n)
+pub used_ids_added : (kept now : List UsedId) (ids : List ℕ) (system : Option ℕ) → list_all is_used_id kept ≡ true → list_all is_id ids ≡ true → where_given is_named_system system ≡ true → now ≡ all_added (by_key used_id_key) kept (map (used_id_by system) ids) → now ≡ all_added same_used_id kept (map (used_id_by system) ids)
+used_ids_added kept now ids system h f n e = e ∙ all_added_same is_used_id (by_key used_id_key) same_used_id used_ids_same kept (map (used_id_by system) ids) h (ids_fit ids system f n)
 
-pub seen_fit : (kept now : List Seen) (ids : List ℕ) (system : Option ℕ) → list_all is_seen kept ≡ true → list_all is_id ids ≡ true → where_given is_named_system system ≡ true → now ≡ all_added (by_key seen_key) kept (map (seen_by system) ids) → list_all is_seen now ≡ true
-seen_fit kept now ids system h f n e = ap (list_all is_seen) e ∙ all_added_fit is_seen (by_key seen_key) kept (map (seen_by system) ids) h (ids_fit ids system f n)
+pub used_ids_fit : (kept now : List UsedId) (ids : List ℕ) (system : Option ℕ) → list_all is_used_id kept ≡ true → list_all is_id ids ≡ true → where_given is_named_system system ≡ true → now ≡ all_added (by_key used_id_key) kept (map (used_id_by system) ids) → list_all is_used_id now ≡ true
+used_ids_fit kept now ids system h f n e = ap (list_all is_used_id) e ∙ all_added_fit is_used_id (by_key used_id_key) kept (map (used_id_by system) ids) h (ids_fit ids system f n)
 
 get_or_any : {X : Type 0} → (xs : List X) (i : ℕ) (d e : X) → i < length xs → get_or xs i d ≡ get_or xs i e
 get_or_any [] i d e h = absurd (omega arith)
 get_or_any (x ∷ xs) zero d e h = refl
 get_or_any (x ∷ xs) (suc i) d e h = let l : i < length xs = omega arith in get_or_any xs i d e l
 
-pub ids_next : (kept now new : List Seen) (ids : List ℕ) (system : Option ℕ) (i : ℕ) → now ≡ all_added (by_key seen_key) kept (map (seen_by system) (take i ids)) → i < length ids → new ≡ added (by_key seen_key) now (seen_by system (get_or ids i 0)) → new ≡ all_added (by_key seen_key) kept (map (seen_by system) (take (i + 1) ids))
+pub ids_next : (kept now new : List UsedId) (ids : List ℕ) (system : Option ℕ) (i : ℕ) → now ≡ all_added (by_key used_id_key) kept (map (used_id_by system) (take i ids)) → i < length ids → new ≡ added (by_key used_id_key) now (used_id_by system (get_or ids i 0)) → new ≡ all_added (by_key used_id_key) kept (map (used_id_by system) (take (i + 1) ids))
 ids_next kept now new ids system i so_far within one =
-    added_made (seen_by system) (by_key seen_key) kept now new ids i (get_or ids i 0) so_far within (get_or_any ids i 0 (get_or ids i 0) within) one
+    added_made (used_id_by system) (by_key used_id_key) kept now new ids i (get_or ids i 0) so_far within (get_or_any ids i 0 (get_or ids i 0) within) one
 
-pub ids_front : (kept now failed new : List Seen) (ids : List ℕ) (system : Option ℕ) (n : ℕ) → now ≡ all_added (by_key seen_key) kept (map (seen_by system) ids) → failed ≡ now → n ≡ length kept → new ≡ take n failed → new ≡ kept
+pub ids_front : (kept now failed new : List UsedId) (ids : List ℕ) (system : Option ℕ) (n : ℕ) → now ≡ all_added (by_key used_id_key) kept (map (used_id_by system) ids) → failed ≡ now → n ≡ length kept → new ≡ take n failed → new ≡ kept
 ids_front kept now failed new ids system n so_far e len back =
-    added_front (by_key seen_key) kept failed new (map (seen_by system) ids) n (e ∙ so_far) len back
+    added_front (by_key used_id_key) kept failed new (map (used_id_by system) ids) n (e ∙ so_far) len back

@@ -10,10 +10,10 @@ use Rattle.gps_report.specs.declared.satellite.Satellite.{Satellite}
 use Rattle.gps_report.specs.Fits.{Fits, is_tod, where_given}
 use Rattle.epoch_core.specs.declared.days.Days.{Days}
 use Rattle.epoch_core.specs.declared.heard.Heard.{Heard}
-use Rattle.epoch_core.specs.declared.seen.Seen.{Seen}
+use Rattle.epoch_core.specs.declared.used_id.UsedId.{UsedId}
 use Rattle.epoch_core.specs.Days.{Dated, carried, dated, day_known, given_day, is_known_day, last_tod}
 use Rattle.epoch_core.specs.Past.{latest, earliest}
-use Rattle.epoch_core.specs.Satellites.{all_sats, all_seen, firsts, same_satellite, seen_in}
+use Rattle.epoch_core.specs.Satellites.{all_sats, all_used_ids, firsts, same_satellite, used_ids_in}
 use Rattle.epoch_core.specs.Steps.{days_after}
 use Rattle.epoch_core.proofs.Low.{days_known}
 
@@ -32,9 +32,9 @@ pub sats_next : (xs : List Dated) (i : ℕ) (d : Dated) (out more : List Satelli
     → out ≡ all_sats (reverse (take i xs)) → more ≡ out ++ d.note.sats → more ≡ all_sats (reverse (take (i + 1) xs))
 sats_next xs i d out more l e h k = k ∙ ap (λ v. v ++ d.note.sats) h ∙ ap all_sats (sym (past_next xs i d l e))
 
-pub seen_next : (xs : List Dated) (i : ℕ) (d : Dated) (out more : List Seen) → i < length xs → d ≡ get_or xs i d
-    → out ≡ all_seen (reverse (take i xs)) → more ≡ out ++ seen_in d.note → more ≡ all_seen (reverse (take (i + 1) xs))
-seen_next xs i d out more l e h k = k ∙ ap (λ v. v ++ seen_in d.note) h ∙ ap all_seen (sym (past_next xs i d l e))
+pub used_ids_next : (xs : List Dated) (i : ℕ) (d : Dated) (out more : List UsedId) → i < length xs → d ≡ get_or xs i d
+    → out ≡ all_used_ids (reverse (take i xs)) → more ≡ out ++ used_ids_in d.note → more ≡ all_used_ids (reverse (take (i + 1) xs))
+used_ids_next xs i d out more l e h k = k ∙ ap (λ v. v ++ used_ids_in d.note) h ∙ ap all_used_ids (sym (past_next xs i d l e))
 
 -- what the filter of an earlier element leaves of one that other earlier ones may have left out
 left_out : {X : Type 0} (same : X → X → Bool) (y x : X) (b : Bool) → same y x ≡ b → (a : Bool)

@@ -13,11 +13,11 @@ use Rattle.epoch_core.specs.Days.{Dated, dated, day_known, last_tod}
 use Rattle.epoch_core.specs.Quantities.{said, breaks, stamped, timed}
 use Rattle.epoch_core.specs.Fixes.{fix_of}
 use Rattle.epoch_core.specs.Past.{latest, earliest}
-use Rattle.epoch_core.specs.Satellites.{firsts, same_satellite, same_seen, all_sats, all_seen, seen_in, satellites}
+use Rattle.epoch_core.specs.Satellites.{firsts, same_satellite, same_used_id, all_sats, all_used_ids, used_ids_in, satellites}
 use Rattle.epoch_core.specs.Epochs.{is_eoe, has_ended, joined, epochs, sky_of, closing, toff_of, toffs, all_closed, all_told, running, reports, left, Gains}
-use Rattle.epoch_core.specs.Kept.{Ran, Kept, ran_of, kept_of, StandsFor}
+use Rattle.epoch_core.specs.Kept.{Ran, EpochsKept, ran_of, kept_of, StandsFor}
 use Rattle.epoch_core.specs.Steps.{days_after, retimed, said_grown, all_added, nothing_ran, ran_grown, ran_sky, ran_closing, toff_told, ran_told, ran_next, ran_before, ran_caused, dated_after, kept_after, kept_caused}
-use Rattle.epoch_core.proofs.Firsts.{firsts_all, satellite_equiv, seen_equiv, all_marked_alike}
+use Rattle.epoch_core.proofs.Firsts.{firsts_all, satellite_equiv, used_ids_equiv, all_marked_alike}
 
 -- ---- the running epoch grows
 
@@ -34,11 +34,11 @@ said_more d epoch =
 ran_more : (d : Dated) (epoch : List Dated) → ran_of (d ∷ epoch) ≡ ran_grown (ran_of epoch) d
 unfolding ran_of ran_grown
 ran_more d epoch =
-    ap (λ v. record { said = v; sats = firsts same_satellite (all_sats (d ∷ epoch)); seen = firsts same_seen (all_seen (d ∷ epoch)) }) (said_more d epoch)
-    ∙ ap (λ v. record { said = said_grown (said epoch) d.note d.first (stamped d); sats = v; seen = firsts same_seen (all_seen (d ∷ epoch)) })
+    ap (λ v. record { said = v; sats = firsts same_satellite (all_sats (d ∷ epoch)); used_ids = firsts same_used_id (all_used_ids (d ∷ epoch)) }) (said_more d epoch)
+    ∙ ap (λ v. record { said = said_grown (said epoch) d.note d.first (stamped d); sats = v; used_ids = firsts same_used_id (all_used_ids (d ∷ epoch)) })
     (firsts_all same_satellite satellite_equiv (all_sats epoch) d.note.sats)
-    ∙ ap (λ v. record { said = said_grown (said epoch) d.note d.first (stamped d); sats = all_added same_satellite (firsts same_satellite (all_sats epoch)) d.note.sats; seen = v })
-    (firsts_all same_seen seen_equiv (all_seen epoch) (seen_in d.note))
+    ∙ ap (λ v. record { said = said_grown (said epoch) d.note d.first (stamped d); sats = all_added same_satellite (firsts same_satellite (all_sats epoch)) d.note.sats; used_ids = v })
+    (firsts_all same_used_id used_ids_equiv (all_used_ids epoch) (used_ids_in d.note))
 
 ran_none : ran_of [] ≡ nothing_ran
 unfolding ran_of nothing_ran
@@ -48,7 +48,7 @@ closes : (epoch : List Dated) → closing epoch ≡ ran_closing (ran_of epoch)
 unfolding closing ran_closing ran_of sky_of ran_sky satellites
 closes epoch =
     ap (λ v. cond (said epoch).has_fix (Tpv (fix_of (said epoch)) ∷ []) [] ++ cond (said epoch).has_sky (SkyBody (record { time = (said epoch).time; pdop = (said epoch).pdop; hdop = (said epoch).hdop; vdop = (said epoch).vdop; sats = v }) ∷ []) [])
-    (all_marked_alike (all_seen epoch) (firsts same_satellite (all_sats epoch)))
+    (all_marked_alike (all_used_ids epoch) (firsts same_satellite (all_sats epoch)))
 
 -- ---- the serial time
 
@@ -172,7 +172,7 @@ keeps past h =
     let d : Dated = dated_after (kept_of past) h in
     ap (λ v. record { ran = v; day = d.day; last_tod = last_tod (h ∷ past) }) (runs d (epochs (dated past)))
 
-pub gained : (kept : Kept) (notes : List Heard) (h : Heard) → StandsFor kept notes → Gains notes h (kept_caused kept h) × StandsFor (kept_after kept h) (notes ++ h ∷ [])
+pub gained : (kept : EpochsKept) (notes : List Heard) (h : Heard) → StandsFor kept notes → Gains notes h (kept_caused kept h) × StandsFor (kept_after kept h) (notes ++ h ∷ [])
 unfolding kept_of kept_caused reports dated epochs day_known days_after
 gained kept notes h stands =
     let past : List Heard = reverse notes in
@@ -182,7 +182,7 @@ gained kept notes h stands =
       ap (λ k. kept_after k h) stands ∙ sym (keeps past h) ∙ ap kept_of (sym turned),
     )
 
-pub left_over : (kept : Kept) (notes : List Heard) → StandsFor kept notes → ran_closing kept.ran ≡ left notes
+pub left_over : (kept : EpochsKept) (notes : List Heard) → StandsFor kept notes → ran_closing kept.ran ≡ left notes
 unfolding left kept_of
 left_over kept notes stands =
     ap (λ k. ran_closing k.ran) stands ∙ sym (closes (running (epochs (dated (reverse notes)))))

@@ -1,5 +1,5 @@
 -- The day that is known at each note of a device: the day that the note gives, else the day before it, one more past midnight.
--- This project's own.
+--
 use Rattle.std.specs.Prelude.{ℕ, ◌+◌, ◌-◌, Bool, false, cond, List, [], ◌∷◌, Option, None, Some, nat_lt, nat_le, option_map, unsigned_abs}
 use Rattle.std.specs.Option.{option_or, option_and_then}
 use Rattle.gps_fixed.specs.Moment.{Moment}

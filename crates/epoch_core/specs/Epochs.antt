@@ -1,5 +1,5 @@
 -- The epochs of a device's notes, and the reports that they give. A note begins an epoch where it is the first, where the note before it
--- ends one (UBX-NAV-EOE), or where its tag is another than the last of its variant in the running epoch. This project's own.
+-- ends one (UBX-NAV-EOE), or where its tag is another than the last of its variant in the running epoch.
 use Rattle.std.specs.Prelude.{ℤ, pos, negsuc, nat_le, Bool, true, false, ◌||◌, cond, List, [], ◌∷◌, ◌++◌, reverse, option_map, option_to_list, unwrap_or, ◌≡◌}
 use Rattle.gps_report.specs.declared.note.NoteKind.{NoteKind}
 use Rattle.gps_report.specs.declared.note.NoteKind.TheVariants.{Eoe}

@@ -1,4 +1,4 @@
--- The Fix that an epoch's quantities make, and its mode. This project's own.
+-- The Fix that an epoch's quantities make, and its mode.
 use Rattle.std.specs.Prelude.{ℕ, Bool, false, ◌||◌, not, cond, Option, None, Some, nat_eq, is_none, is_some, unwrap_or}
 use Rattle.gps_report.specs.declared.fix.Fix.{Fix}
 use Rattle.epoch_core.specs.declared.said.Said.{Said}

@@ -1,10 +1,10 @@
--- Numbers that tell satellites, and used ids, apart: equal numbers for equal ones. This project's own.
+-- Numbers that tell satellites, and used ids, apart: equal numbers for equal ones.
 use Rattle.std.specs.Prelude.{ℕ, ◌+◌, ◌-◌, ◌*◌, ◌<◌, Bool, false, ◌&&◌, cond, List, Option, None, Some, nat_eq, nat_le, map, length, ◌≡◌}
 use Rattle.std.specs.List.{slice_get, IsDistinct}
 use Rattle.std.specs.Ordering.{nat_cmp}
 use Rattle.std.specs.BTreeMap.{BTreeMap, get}
 use Rattle.gps_report.specs.declared.satellite.Satellite.{Satellite}
-use Rattle.epoch_core.specs.declared.seen.Seen.{Seen}
+use Rattle.epoch_core.specs.declared.used_id.UsedId.{UsedId}
 use Rattle.epoch_core.specs.Satellites.{system_of}
 
 -- the place of a system that sentences name, with 5 for all others
@@ -28,8 +28,8 @@ satellite_key s =
     (84_915 + (system_number (system_of s) * 256 + (s.prn - 100 * system_number (system_of s))))
 
 -- 4,995 numbers
-unfoldable pub seen_key : Seen → ℕ
-seen_key a = system_place a.system * 999 + (a.id - 1)
+unfoldable pub used_id_key : UsedId → ℕ
+used_id_key a = system_place a.system * 999 + (a.id - 1)
 
 -- up to so many elements are searched one by one
 abbrev pub few : ℕ

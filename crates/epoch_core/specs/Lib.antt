@@ -8,4 +8,4 @@ pub mod Kept
 pub mod Steps
 pub mod Keys
 pub mod Tidy
-pub mod Marks
+pub mod Checkpoints

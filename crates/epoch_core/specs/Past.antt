@@ -1,4 +1,4 @@
--- A past is a list that has the latest first. These are the words for "the last that gives" and "the first that gives". This project's own.
+-- A past is a list that has the latest first. These are the words for "the last that gives" and "the first that gives".
 use Rattle.std.specs.Prelude.{List, [], ◌∷◌, Option, None}
 use Rattle.std.specs.Option.{option_or}
 

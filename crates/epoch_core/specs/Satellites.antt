@@ -6,7 +6,7 @@ use Rattle.gps_report.specs.declared.note.Note.{Note}
 use Rattle.gps_report.specs.declared.note.NoteKind.{NoteKind}
 use Rattle.gps_report.specs.declared.note.NoteKind.TheVariants.{Gsa}
 use Rattle.gps_report.specs.declared.satellite.Satellite.{Satellite}
-use Rattle.epoch_core.specs.declared.seen.Seen.{Seen}
+use Rattle.epoch_core.specs.declared.used_id.UsedId.{UsedId}
 use Rattle.epoch_core.specs.Days.{Dated}
 
 -- of equal elements the first, in order
@@ -27,37 +27,37 @@ system_of s = option_map (λ g. g.0) s.gnss
 abbrev pub same_satellite : Satellite → Satellite → Bool
 same_satellite s t = same_number (system_of s) (system_of t) && nat_eq s.prn t.prn && same_number s.signal t.signal
 
-abbrev pub same_seen : Seen → Seen → Bool
-same_seen a b = same_number a.system b.system && nat_eq a.id b.id
+abbrev pub same_used_id : UsedId → UsedId → Bool
+same_used_id a b = same_number a.system b.system && nat_eq a.id b.id
 
 abbrev pub is_gsa : NoteKind → Bool
 is_gsa Gsa = true
 is_gsa _ = false
 
-abbrev pub seen_by : Option ℕ → ℕ → Seen
-seen_by system id = record { id = id; system = system }
+abbrev pub used_id_by : Option ℕ → ℕ → UsedId
+used_id_by system id = record { id = id; system = system }
 
 -- the ids that a GSA calls used, with its system
-abbrev pub seen_in : Note → List Seen
-seen_in note = cond (is_gsa note.kind) (map (seen_by note.system) note.used) []
+abbrev pub used_ids_in : Note → List UsedId
+used_ids_in note = cond (is_gsa note.kind) (map (used_id_by note.system) note.used) []
 
 abbrev pub all_sats : List Dated → List Satellite
 all_sats [] = []
 all_sats (d ∷ past) = all_sats past ++ d.note.sats
 
-abbrev pub all_seen : List Dated → List Seen
-all_seen [] = []
-all_seen (d ∷ past) = all_seen past ++ seen_in d.note
+abbrev pub all_used_ids : List Dated → List UsedId
+all_used_ids [] = []
+all_used_ids (d ∷ past) = all_used_ids past ++ used_ids_in d.note
 
 -- the id is the satellite's, and where both name a system, it is the same
-abbrev pub speaks_of : Satellite → Seen → Bool
+abbrev pub speaks_of : Satellite → UsedId → Bool
 speaks_of s a = nat_eq a.id s.prn && (is_none a.system || is_none (system_of s) || same_number a.system (system_of s))
 
-abbrev pub is_used : List Seen → Satellite → Bool
-is_used seen s = s.used || list_any (speaks_of s) seen
+abbrev pub is_used : List UsedId → Satellite → Bool
+is_used used_ids s = s.used || list_any (speaks_of s) used_ids
 
-unfoldable pub marked : List Seen → Satellite → Satellite
-marked seen s = record s { used = is_used seen s }
+unfoldable pub marked : List UsedId → Satellite → Satellite
+marked used_ids s = record s { used = is_used used_ids s }
 
 unfoldable pub satellites : List Dated → List Satellite
-satellites epoch = map (marked (all_seen epoch)) (firsts same_satellite (all_sats epoch))
+satellites epoch = map (marked (all_used_ids epoch)) (firsts same_satellite (all_sats epoch))

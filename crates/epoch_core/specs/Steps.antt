@@ -1,5 +1,5 @@
 -- One note further: what is kept after it, and what it causes, from what was kept before it. The code does these steps; that they are the
--- epochs of the whole list is proved from `Epochs` and `Kept`. This project's own.
+-- epochs of the whole list is proved from `Epochs` and `EpochsKept`.
 use Rattle.std.specs.Prelude.{ℕ, Bool, ◌||◌, cond, List, [], ◌∷◌, ◌++◌, Option, None, Some, is_some, map}
 use Rattle.std.specs.List.{list_any}
 use Rattle.std.specs.Option.{option_or}
@@ -14,9 +14,9 @@ use Rattle.epoch_core.specs.declared.said.Said.{Said}
 use Rattle.epoch_core.specs.Days.{Dated, carried, given_day}
 use Rattle.epoch_core.specs.Quantities.{said, breaks, stamped, tod_tag, itow_tag, is_fix_kind, is_sky_kind}
 use Rattle.epoch_core.specs.Fixes.{fix_of}
-use Rattle.epoch_core.specs.Satellites.{same_satellite, same_seen, seen_in, marked}
+use Rattle.epoch_core.specs.Satellites.{same_satellite, same_used_id, used_ids_in, marked}
 use Rattle.epoch_core.specs.Epochs.{is_eoe, toff_of}
-use Rattle.epoch_core.specs.Kept.{Ran, Kept}
+use Rattle.epoch_core.specs.Kept.{Ran, EpochsKept}
 
 unfoldable pub days_after : Days → Note → Days
 days_after days note = record {
@@ -60,13 +60,13 @@ all_added same kept [] = kept
 all_added same kept (x ∷ xs) = all_added same (added same kept x) xs
 
 unfoldable pub nothing_ran : Ran
-nothing_ran = record { said = said []; sats = []; seen = [] }
+nothing_ran = record { said = said []; sats = []; used_ids = [] }
 
 unfoldable pub ran_grown : Ran → Dated → Ran
 ran_grown r d = record {
   said = said_grown r.said d.note d.first (stamped d);
   sats = all_added same_satellite r.sats d.note.sats;
-  seen = all_added same_seen r.seen (seen_in d.note);
+  used_ids = all_added same_used_id r.used_ids (used_ids_in d.note);
 }
 
 unfoldable pub ran_sky : Ran → Sky
@@ -75,7 +75,7 @@ ran_sky r = record {
   pdop = r.said.pdop;
   hdop = r.said.hdop;
   vdop = r.said.vdop;
-  sats = map (marked r.seen) r.sats;
+  sats = map (marked r.used_ids) r.sats;
 }
 
 unfoldable pub ran_closing : Ran → List Body
@@ -98,18 +98,18 @@ ran_before r d = cond (breaks d.note.tag r.said) nothing_ran r
 unfoldable pub ran_caused : Ran → Dated → List Body
 ran_caused r d = cond (breaks d.note.tag r.said) (ran_closing r) [] ++ ran_told (ran_before r d) d
 
-abbrev pub days_kept : Kept → Days
+abbrev pub days_kept : EpochsKept → Days
 days_kept kept = record { day = kept.day; last_tod = kept.last_tod }
 
-abbrev pub dated_after : Kept → Heard → Dated
+abbrev pub dated_after : EpochsKept → Heard → Dated
 dated_after kept h = record { note = h.note; first = h.first; day = (days_after (days_kept kept) h.note).day }
 
-unfoldable pub kept_after : Kept → Heard → Kept
+unfoldable pub kept_after : EpochsKept → Heard → EpochsKept
 kept_after kept h = record {
   ran = ran_next (ran_before kept.ran (dated_after kept h)) (dated_after kept h);
   day = (days_after (days_kept kept) h.note).day;
   last_tod = (days_after (days_kept kept) h.note).last_tod;
 }
 
-unfoldable pub kept_caused : Kept → Heard → List Body
+unfoldable pub kept_caused : EpochsKept → Heard → List Body
 kept_caused kept h = ran_caused kept.ran (dated_after kept h)

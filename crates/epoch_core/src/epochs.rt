@@ -5,11 +5,11 @@ ghost use Rattle.epoch_core.specs.declared.heard.Heard.{Heard};
 ghost use Rattle.epoch_core.specs.Days.{is_known_day};
 ghost use Rattle.epoch_core.specs.Epochs.{Gains, left, leaves_a_second, is_eoe as eoe};
 ghost use Rattle.epoch_core.specs.Quantities.{breaks};
-ghost use Rattle.epoch_core.specs.Kept.{Ran, Kept, Held, StandsFor};
+ghost use Rattle.epoch_core.specs.Kept.{Ran, EpochsKept, EpochsView, StandsFor};
 ghost use Rattle.epoch_core.specs.Steps.{nothing_ran, kept_caused, kept_after, ran_closing, ran_grown, ran_before, ran_caused};
 
+use crate::checkpoint::{Checkpoint, set_aside};
 use crate::days::Days;
-use crate::mark::{Mark, set_aside};
 use crate::running::{Running, is_eoe};
 use gps_fixed::{NoMemory, Stamp};
 use gps_report::{Body, Note, NoteKind};
@@ -19,29 +19,29 @@ use std::mem;
 
 /// The running epoch of one receiver, with the day and the last time of day; nothing of closed epochs.
 ///
-/// It may keep a mark, and goes back to it without memory.
+/// It may keep a checkpoint, and goes back to it without memory.
 #[derive(Debug, Drop)]
 pub struct Epochs {
     alloc: Global,
     days: Days,
     running: Running,
-    mark: Option<Mark>,
+    checkpoint: Option<Checkpoint>,
 }
 
 impl Model for Epochs {
-    ghost use Rattle.epoch_core.specs.Kept.{Held};
-    ghost use Rattle.epoch_core.specs.Marks.{kept_now, back_from, IsSound};
+    ghost use Rattle.epoch_core.specs.Kept.{EpochsView};
+    ghost use Rattle.epoch_core.specs.Checkpoints.{kept_now, back_from, IsSound};
 
-    ghost Value = { Held };
+    ghost Value = { EpochsView };
 
-    ghost view = { λ e. record { now = kept_now e.days e.running; back = back_from e.mark e.running } };
+    ghost view = { λ e. record { now = kept_now e.days e.running; back = back_from e.checkpoint e.running } };
 
-    ghost invariant = { λ e. IsSound e.days e.running e.mark };
+    ghost invariant = { λ e. IsSound e.days e.running e.checkpoint };
 }
 
 impl Epochs {
     /// No note was heard. Takes no memory.
-    #[tactic(auto, unfolding(crate::specs::Marks::back_from, crate::specs::Marks::HoldsMark), using(crate::proofs::Renewed::stands_new))]
+    #[tactic(auto, unfolding(crate::specs::Checkpoints::back_from, crate::specs::Checkpoints::HoldsCheckpoint), using(crate::proofs::Renewed::stands_new))]
     pub fn new(alloc: Global) -> Epochs
         ensures stands { StandsFor result.now [] }
         ensures unmarked { result.back ≡ None }
@@ -53,47 +53,47 @@ impl Epochs {
                 last_tod: None,
             },
             running: Running::new(alloc),
-            mark: None,
+            checkpoint: None,
         }
     }
 
-    /// Puts a running epoch in the place of the one that ran; that one stands aside where there is a mark.
-    #[tactic(auto, using(crate::proofs::Renewed::back_stays, crate::proofs::Renewed::mark_stays))]
+    /// Puts a running epoch in the place of the one that ran; that one stands aside where there is a checkpoint.
+    #[tactic(auto, using(crate::proofs::Renewed::back_stays, crate::proofs::Renewed::checkpoint_stays))]
     fn renew(&mut self, fresh: Running)
         ensures { self.new ≡ record { now = record self.old.now { ran = fresh }; back = self.old.back } }
     {
         let old = mem::replace(&mut self.running, fresh);
-        set_aside(&mut self.mark, old);
+        set_aside(&mut self.checkpoint, old);
     }
 
-    /// Notes the present state as the mark, in place of an earlier one. Takes no memory.
-    #[tactic(auto, unfolding(crate::specs::Marks::back_from, crate::specs::Marks::HoldsMark), using(crate::proofs::Grown::at_now, crate::proofs::Grown::within_now))]
-    pub fn mark(&mut self)
+    /// Notes the present state as the checkpoint, in place of an earlier one. Takes no memory.
+    #[tactic(auto, unfolding(crate::specs::Checkpoints::back_from, crate::specs::Checkpoints::HoldsCheckpoint), using(crate::proofs::Grown::at_now, crate::proofs::Grown::within_now))]
+    pub fn checkpoint(&mut self)
         ensures { self.new ≡ record { now = self.old.now; back = Some self.old.now } }
     {
-        self.mark = Some(Mark {
+        self.checkpoint = Some(Checkpoint {
             days: self.days,
             point: self.running.point(),
             aside: None,
         });
     }
 
-    /// Drops the mark. Takes no memory.
-    #[tactic(auto, unfolding(crate::specs::Marks::back_from, crate::specs::Marks::HoldsMark))]
-    pub fn settle(&mut self)
+    /// Drops the checkpoint. Takes no memory.
+    #[tactic(auto, unfolding(crate::specs::Checkpoints::back_from, crate::specs::Checkpoints::HoldsCheckpoint))]
+    pub fn commit(&mut self)
         ensures { self.new ≡ record { now = self.old.now; back = None } }
     {
-        self.mark = None;
+        self.checkpoint = None;
     }
 
-    /// Goes back to the mark, where there is one, and drops it. Takes no memory.
-    #[tactic(auto, unfolding(crate::specs::Marks::back_from, crate::specs::Marks::HoldsMark))]
+    /// Goes back to the checkpoint, where there is one, and drops it. Takes no memory.
+    #[tactic(auto, unfolding(crate::specs::Checkpoints::back_from, crate::specs::Checkpoints::HoldsCheckpoint))]
     pub fn undo(&mut self)
         ensures { self.new ≡ record { now = unwrap_or self.old.back self.old.now; back = None } }
     {
-        let mark = mem::replace(&mut self.mark, None);
-        if let Some(mark) = mark {
-            let Mark { days, point, aside } = mark;
+        let checkpoint = mem::replace(&mut self.checkpoint, None);
+        if let Some(checkpoint) = checkpoint {
+            let Checkpoint { days, point, aside } = checkpoint;
             if let Some(old) = aside {
                 self.running = old;
             }
@@ -108,7 +108,14 @@ impl Epochs {
         requires fits { Fits note.now }
         requires day { where_given is_known_day day ≡ true }
         requires begins { breaks note.now.tag self.old.now.ran.said ≡ true }
-        ensures ok { OnOk result (self.new ≡ record { now = record self.old.now { ran = ran_grown (ran_before self.old.now.ran (record { note = note.now; first = first; day = day })) (record { note = note.now; first = first; day = day }) }; back = self.old.back }) }
+        ensures ok { OnOk result (self.new
+            ≡ record {
+              now = record self.old.now {
+                ran = ran_grown (ran_before self.old.now.ran (record { note = note.now; first = first; day = day }))
+                    (record { note = note.now; first = first; day = day });
+              };
+              back = self.old.back;
+            }) }
         ensures told { IfOk result (λ out. out.items ≡ ran_caused self.old.now.ran (record { note = note.now; first = first; day = day })) }
         ensures err { OnErr result (self.new ≡ self.old) }
     {
@@ -121,12 +128,19 @@ impl Epochs {
     }
 
     /// A note of the running epoch, or the first of all.
-    #[tactic(auto, unfolding(crate::specs::Steps::ran_caused, crate::specs::Steps::ran_before), using(crate::proofs::Renewed::back_grown, crate::proofs::Renewed::mark_grown))]
+    #[tactic(auto, unfolding(crate::specs::Steps::ran_caused, crate::specs::Steps::ran_before), using(crate::proofs::Renewed::back_grown, crate::proofs::Renewed::checkpoint_grown))]
     fn go_on(&mut self, note: &Note, first: Stamp, day: Option<u32>) -> Result<Vec<Body>, NoMemory>
         requires fits { Fits note.now }
         requires day { where_given is_known_day day ≡ true }
         requires begins { breaks note.now.tag self.old.now.ran.said ≡ false }
-        ensures ok { OnOk result (self.new ≡ record { now = record self.old.now { ran = ran_grown (ran_before self.old.now.ran (record { note = note.now; first = first; day = day })) (record { note = note.now; first = first; day = day }) }; back = self.old.back }) }
+        ensures ok { OnOk result (self.new
+            ≡ record {
+              now = record self.old.now {
+                ran = ran_grown (ran_before self.old.now.ran (record { note = note.now; first = first; day = day }))
+                    (record { note = note.now; first = first; day = day });
+              };
+              back = self.old.back;
+            }) }
         ensures told { IfOk result (λ out. out.items ≡ ran_caused self.old.now.ran (record { note = note.now; first = first; day = day })) }
         ensures err { OnErr result (self.new ≡ self.old) }
     {
@@ -138,7 +152,14 @@ impl Epochs {
     fn tell(&mut self, note: &Note, first: Stamp, day: Option<u32>) -> Result<Vec<Body>, NoMemory>
         requires fits { Fits note.now }
         requires day { where_given is_known_day day ≡ true }
-        ensures ok { OnOk result (self.new ≡ record { now = record self.old.now { ran = ran_grown (ran_before self.old.now.ran (record { note = note.now; first = first; day = day })) (record { note = note.now; first = first; day = day }) }; back = self.old.back }) }
+        ensures ok { OnOk result (self.new
+            ≡ record {
+              now = record self.old.now {
+                ran = ran_grown (ran_before self.old.now.ran (record { note = note.now; first = first; day = day }))
+                    (record { note = note.now; first = first; day = day });
+              };
+              back = self.old.back;
+            }) }
         ensures told { IfOk result (λ out. out.items ≡ ran_caused self.old.now.ran (record { note = note.now; first = first; day = day })) }
         ensures err { OnErr result (self.new ≡ self.old) }
     {
@@ -178,13 +199,15 @@ impl Epochs {
     /// The reports that one more note causes: the Tpv and the Sky of an epoch that it closes by beginning another, a Toff
     /// where it is the first of its epoch with a time of day at which the day is known, then the Tpv and the Sky of an epoch
     /// that it ends. `first` is the stamp of the first byte of its packet. The whole second after each Toff's reference is a
-    /// stamp as well. A refusal changes nothing; the mark stays.
+    /// stamp as well. A refusal changes nothing; the checkpoint stays.
     #[tactic(auto, using(crate::proofs::Told::gained))]
     pub fn take(&mut self, note: &Note, first: Stamp) -> Result<Vec<Body>, NoMemory>
         requires { Fits note.now }
-        ensures gains { IfOk result (λ out. (notes : List Heard) → StandsFor self.old.now notes → Gains notes (record { note = note.now; first = first }) out.items) }
-        ensures stands { OnOk result ((notes : List Heard) → StandsFor self.old.now notes → StandsFor self.new.now (notes ++ record { note = note.now; first = first } ∷ [])) }
-        ensures mark { OnOk result (self.new.back ≡ self.old.back) }
+        ensures gains { IfOk result (λ out. (notes : List Heard) → StandsFor self.old.now notes
+            → Gains notes (record { note = note.now; first = first }) out.items) }
+        ensures stands { OnOk result ((notes : List Heard) → StandsFor self.old.now notes
+            → StandsFor self.new.now (notes ++ record { note = note.now; first = first } ∷ [])) }
+        ensures checkpoint { OnOk result (self.new.back ≡ self.old.back) }
         ensures low { IfOk result (λ out. list_all leaves_a_second out.items ≡ true) }
         ensures few { IfOk result (λ out. length out.items ≤ 5) }
         ensures err { OnErr result (self.new ≡ self.old) }
@@ -193,7 +216,7 @@ impl Epochs {
         Ok(out)
     }
 
-    /// Closes the running epoch, as at the device's end; then no epoch runs. A refusal changes nothing; the mark stays.
+    /// Closes the running epoch, as at the device's end; then no epoch runs. A refusal changes nothing; the checkpoint stays.
     #[tactic(auto, using(crate::proofs::Told::left_over, crate::proofs::Low::few_closing))]
     pub fn finish(&mut self) -> Result<Vec<Body>, NoMemory>
         ensures gains { IfOk result (λ out. (notes : List Heard) → StandsFor self.old.now notes → out.items ≡ left notes) }
@@ -207,8 +230,8 @@ impl Epochs {
         Ok(out)
     }
 
-    /// Another that stands for the same notes, without the mark.
-    #[tactic(auto, unfolding(crate::specs::Marks::back_from, crate::specs::Marks::HoldsMark))]
+    /// Another that stands for the same notes, without the checkpoint.
+    #[tactic(auto, unfolding(crate::specs::Checkpoints::back_from, crate::specs::Checkpoints::HoldsCheckpoint))]
     pub fn copy(&self) -> Result<Epochs, NoMemory>
         ensures { IfOk result (λ e. e ≡ record { now = self.now.now; back = None }) }
     {
@@ -217,14 +240,14 @@ impl Epochs {
             alloc: self.alloc,
             days: self.days,
             running,
-            mark: None,
+            checkpoint: None,
         })
     }
 
     /// The number of satellites and used ids of the running epoch, each once: at most 84,915 satellites that sentences name,
     /// 65,536 others of frames, and 4,995 ids with their system. Takes no memory.
     pub fn kept(&self) -> u32
-        ensures exact { result ≡ length self.now.now.ran.sats + length self.now.now.ran.seen }
+        ensures exact { result ≡ length self.now.now.ran.sats + length self.now.now.ran.used_ids }
         ensures bound { result ≤ 155_446 }
     {
         self.running.kept()

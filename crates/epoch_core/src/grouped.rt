@@ -3,8 +3,8 @@ ghost use Rattle.std.specs.List.{All};
 ghost use Rattle.gps_report.specs.Fits.{Fits};
 ghost use Rattle.epoch_core.specs.Epochs.{all_told, begins as begins_after, closing, epochs, has_ended as ended, left, reports, running, toffs};
 
+use crate::dated_note::{DatedNote, all_dated};
 use crate::heard::Heard;
-use crate::known::{Known, all_known};
 use crate::whole::{begins, has_ended, push_closing, push_toffs};
 use gps_fixed::NoMemory;
 use gps_report::{Body, fits};
@@ -35,11 +35,12 @@ pub fn all_fit(notes: &[Heard]) -> bool
 fn close_before(
     alloc: Global,
     out: &mut Vec<Body>,
-    epoch: &[Known],
-    next: &Known,
+    epoch: &[DatedNote],
+    next: &DatedNote,
 ) -> Result<bool, NoMemory>
     ensures begins { IfOk result (λ b. b ≡ begins_after next.now (reverse epoch.now)) }
-    ensures out { OnOk result (out.new.items ≡ cond (begins_after next.now (reverse epoch.now)) (out.old.items ++ toffs (reverse epoch.now) ++ closing (reverse epoch.now)) out.old.items) }
+    ensures out { OnOk result (out.new.items
+        ≡ cond (begins_after next.now (reverse epoch.now)) (out.old.items ++ toffs (reverse epoch.now) ++ closing (reverse epoch.now)) out.old.items) }
 {
     let closes = begins(next, epoch);
     if closes {
@@ -51,8 +52,9 @@ fn close_before(
 
 /// The reports with those of the last epoch, which is closed only where it has ended.
 #[tactic(auto, using(crate::proofs::Bounds::nothing_closes))]
-fn finished(alloc: Global, mut reports: Vec<Body>, last: &[Known]) -> Result<Grouped, NoMemory>
-    ensures reports { IfOk result (λ g. g.reports.items ≡ reports.items ++ toffs (reverse last.now) ++ cond (ended (reverse last.now)) (closing (reverse last.now)) []) }
+fn finished(alloc: Global, mut reports: Vec<Body>, last: &[DatedNote]) -> Result<Grouped, NoMemory>
+    ensures reports { IfOk result (λ g. g.reports.items ≡ reports.items ++ toffs (reverse last.now)
+        ++ cond (ended (reverse last.now)) (closing (reverse last.now)) []) }
     ensures left { IfOk result (λ g. g.left.items ≡ closing (cond (ended (reverse last.now)) [] (reverse last.now))) }
 {
     let mut left = Vec::new(alloc);
@@ -65,7 +67,7 @@ fn finished(alloc: Global, mut reports: Vec<Body>, last: &[Known]) -> Result<Gro
 }
 
 /// Goes along the notes with the place where the running epoch begins: each epoch is a part of the list.
-fn group_known(alloc: Global, notes: &[Known]) -> Result<Grouped, NoMemory>
+fn group_known(alloc: Global, notes: &[DatedNote]) -> Result<Grouped, NoMemory>
     ensures reports { IfOk result (λ g. g.reports.items ≡ all_told (epochs (reverse notes.now))) }
     ensures left { IfOk result (λ g. g.left.items ≡ closing (running (epochs (reverse notes.now)))) }
 {
@@ -89,6 +91,6 @@ pub fn group_all(alloc: Global, notes: &[Heard]) -> Result<Grouped, NoMemory>
     ensures reports { IfOk result (λ g. g.reports.items ≡ reports notes.now) }
     ensures left { IfOk result (λ g. g.left.items ≡ left notes.now) }
 {
-    let known = all_known(alloc, notes)?;
+    let known = all_dated(alloc, notes)?;
     group_known(alloc, known.as_slice())
 }

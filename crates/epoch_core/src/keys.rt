@@ -1,9 +1,9 @@
 ghost use Rattle.std.specs.Prelude.{◌≡◌, ◌≤◌};
-ghost use Rattle.epoch_core.specs.Keys.{satellite_key, seen_key, system_place as place_of_system, signal_place as place_of_signal, system_number as number_of_system};
+ghost use Rattle.epoch_core.specs.Keys.{satellite_key, used_id_key, system_place as place_of_system, signal_place as place_of_signal, system_number as number_of_system};
 
 use crate::once::Keyed;
 use crate::running::system_of;
-use crate::seen::Seen;
+use crate::used_id::UsedId;
 use gps_report::Satellite;
 
 /// So many satellites can be told apart that sentences name: five systems, the absent one among them, 999 numbers and
@@ -60,10 +60,10 @@ impl Keyed for Satellite {
     }
 }
 
-impl Keyed for Seen {
-    ghost key = { seen_key };
+impl Keyed for UsedId {
+    ghost key = { used_id_key };
 
-    #[tactic(auto, unfolding(crate::specs::Keys::seen_key))]
+    #[tactic(auto, unfolding(crate::specs::Keys::used_id_key))]
     fn key(&self) -> u64 {
         let id = u64::from(self.id);
         system_place(self.system) * 999 + id.saturating_sub(1)

@@ -4,20 +4,20 @@
 //! An epoch gives its serial time, then a fix and a sky once it is closed.
 #![tactic(auto)]
 
+mod checkpoint;
+mod dated_note;
 mod days;
 mod epochs;
 mod fixes;
 mod grouped;
 mod heard;
 mod keys;
-mod known;
 mod laws;
-mod mark;
 mod once;
 mod point;
 mod running;
 mod said;
-mod seen;
+mod used_id;
 mod whole;
 
 pub use epochs::Epochs;

@@ -5,5 +5,5 @@ use crate::said::Said;
 pub struct Point {
     pub said: Said,
     pub sats: usize,
-    pub seen: usize,
+    pub used_ids: usize,
 }

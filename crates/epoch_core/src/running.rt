@@ -3,20 +3,20 @@ ghost use Rattle.std.specs.List.{list_all, list_any};
 ghost use Rattle.gps_report.specs.Fits.{Fits, is_tod, is_id, is_satellite, is_named_system, where_given};
 ghost use Rattle.epoch_core.specs.Days.{is_known_day};
 ghost use Rattle.epoch_core.specs.Quantities.{serial_time as serial_time_of, breaks as breaks_from};
-ghost use Rattle.epoch_core.specs.Satellites.{is_used as used_by, marked as marked_by, speaks_of as speaks, is_gsa as gsa, seen_by, seen_in, same_seen, same_satellite, system_of as named_system, same_number as same_numbers};
+ghost use Rattle.epoch_core.specs.Satellites.{is_used as used_by, marked as marked_by, speaks_of as speaks, is_gsa as gsa, used_id_by, used_ids_in, same_used_id, same_satellite, system_of as named_system, same_number as same_numbers};
 ghost use Rattle.epoch_core.specs.Epochs.{is_eoe as eoe};
 ghost use Rattle.epoch_core.specs.Fixes.{fix_of as fix_made};
 ghost use Rattle.epoch_core.specs.Kept.{Ran};
 ghost use Rattle.epoch_core.specs.Steps.{all_added, nothing_ran, ran_grown, ran_sky, ran_closing, ran_told, toff_told};
-ghost use Rattle.epoch_core.specs.Keys.{by_key, seen_key};
-ghost use Rattle.epoch_core.specs.Tidy.{is_seen};
-ghost use Rattle.epoch_core.specs.Marks.{point_of, ran_at};
+ghost use Rattle.epoch_core.specs.Keys.{by_key, used_id_key};
+ghost use Rattle.epoch_core.specs.Tidy.{is_used_id};
+ghost use Rattle.epoch_core.specs.Checkpoints.{point_of, ran_at};
 
 use crate::fixes::fix_of;
 use crate::once::Once;
 use crate::point::Point;
 use crate::said::{Said, serial_time};
-use crate::seen::Seen;
+use crate::used_id::UsedId;
 use gps_fixed::{NoMemory, Stamp};
 use gps_report::{Body, Note, NoteKind, Pair, Satellite, Sats, Sky, Tag};
 use std::alloc::Global;
@@ -27,7 +27,7 @@ use std::marker::Model;
 pub struct Running {
     said: Said,
     sats: Once<Satellite>,
-    seen: Once<Seen>,
+    used_ids: Once<UsedId>,
 }
 
 impl Model for Running {
@@ -36,9 +36,9 @@ impl Model for Running {
 
     ghost Value = { Ran };
 
-    ghost view = { λ r. record { said = r.said; sats = r.sats; seen = r.seen } };
+    ghost view = { λ r. record { said = r.said; sats = r.sats; used_ids = r.used_ids } };
 
-    ghost invariant = { λ r. IsTidy r.sats r.seen };
+    ghost invariant = { λ r. IsTidy r.sats r.used_ids };
 }
 
 pub fn is_gsa(kind: NoteKind) -> bool
@@ -73,31 +73,31 @@ fn agree(one: Option<u8>, other: Option<u8>) -> bool
 }
 
 /// The id is the satellite's, and where both name a system, it is the same.
-fn speaks_of(satellite: &Satellite, seen: &Seen) -> bool
-    ensures { result ≡ speaks satellite.now seen.now }
+fn speaks_of(satellite: &Satellite, used_id: &UsedId) -> bool
+    ensures { result ≡ speaks satellite.now used_id.now }
 {
-    seen.id == satellite.prn && agree(seen.system, system_of(satellite))
+    used_id.id == satellite.prn && agree(used_id.system, system_of(satellite))
 }
 
-fn is_seen_used(satellite: &Satellite, seen: &[Seen]) -> bool
-    ensures { result ≡ list_any (speaks satellite.now) seen.now }
+fn is_named_used(satellite: &Satellite, used_ids: &[UsedId]) -> bool
+    ensures { result ≡ list_any (speaks satellite.now) used_ids.now }
 {
-    seen.iter().any(|a| speaks_of(satellite, a))
+    used_ids.iter().any(|a| speaks_of(satellite, a))
 }
 
-fn is_used(satellite: &Satellite, seen: &[Seen]) -> bool
-    ensures { result ≡ used_by seen.now satellite.now }
+fn is_used(satellite: &Satellite, used_ids: &[UsedId]) -> bool
+    ensures { result ≡ used_by used_ids.now satellite.now }
 {
-    satellite.used || is_seen_used(satellite, seen)
+    satellite.used || is_named_used(satellite, used_ids)
 }
 
 /// A satellite of the sky, with its mark.
 #[tactic(auto, unfolding(crate::specs::Satellites::marked))]
-fn marked(satellite: &Satellite, seen: &[Seen]) -> Satellite
-    ensures { result ≡ marked_by seen.now satellite.now }
+fn marked(satellite: &Satellite, used_ids: &[UsedId]) -> Satellite
+    ensures { result ≡ marked_by used_ids.now satellite.now }
 {
     Satellite {
-        used: is_used(satellite, seen),
+        used: is_used(satellite, used_ids),
         ..*satellite
     }
 }
@@ -105,11 +105,14 @@ fn marked(satellite: &Satellite, seen: &[Seen]) -> Satellite
 pub fn all_marked(
     alloc: Global,
     satellites: &[Satellite],
-    seen: &[Seen],
+    used_ids: &[UsedId],
 ) -> Result<Vec<Satellite>, NoMemory>
-    ensures { IfOk result (λ v. v.items ≡ map (marked_by seen.now) satellites.now) }
+    ensures { IfOk result (λ v. v.items ≡ map (marked_by used_ids.now) satellites.now) }
 {
-    let all = satellites.iter().map(|s| marked(s, seen)).collect(alloc)?;
+    let all = satellites
+        .iter()
+        .map(|s| marked(s, used_ids))
+        .collect(alloc)?;
     Ok(all)
 }
 
@@ -149,32 +152,32 @@ fn add_satellites(sats: &mut Once<Satellite>, note: &Note) -> Result<(), NoMemor
 }
 
 /// Adds the ids that a GSA calls used. A refusal changes nothing.
-#[tactic(auto, using(crate::proofs::Sameness::seen_added, crate::proofs::Sameness::seen_fit))]
-fn add_used(seen: &mut Once<Seen>, note: &Note) -> Result<(), NoMemory>
-    requires kept { list_all is_seen seen.old ≡ true }
+#[tactic(auto, using(crate::proofs::Sameness::used_ids_added, crate::proofs::Sameness::used_ids_fit))]
+fn add_used(used_ids: &mut Once<UsedId>, note: &Note) -> Result<(), NoMemory>
+    requires kept { list_all is_used_id used_ids.old ≡ true }
     requires fits { Fits note.now }
-    ensures ok { OnOk result (seen.new ≡ all_added same_seen seen.old (seen_in note.now)) }
-    ensures fits { list_all is_seen seen.new ≡ true }
-    ensures err { OnErr result (seen.new ≡ seen.old) }
+    ensures ok { OnOk result (used_ids.new ≡ all_added same_used_id used_ids.old (used_ids_in note.now)) }
+    ensures fits { list_all is_used_id used_ids.new ≡ true }
+    ensures err { OnErr result (used_ids.new ≡ used_ids.old) }
 {
     if is_gsa(note.kind) {
-        add_ids(seen, note.used.as_slice(), note.system)
+        add_ids(used_ids, note.used.as_slice(), note.system)
     } else {
         Ok(())
     }
 }
 
 #[tactic(auto, using(crate::proofs::Sameness::ids_next, crate::proofs::Sameness::ids_front))]
-fn add_ids(seen: &mut Once<Seen>, ids: &[u32], system: Option<u8>) -> Result<(), NoMemory>
-    ensures ok { OnOk result (seen.new ≡ all_added (by_key seen_key) seen.old (map (seen_by system) ids.now)) }
-    ensures err { OnErr result (seen.new ≡ seen.old) }
+fn add_ids(used_ids: &mut Once<UsedId>, ids: &[u32], system: Option<u8>) -> Result<(), NoMemory>
+    ensures ok { OnOk result (used_ids.new ≡ all_added (by_key used_id_key) used_ids.old (map (used_id_by system) ids.now)) }
+    ensures err { OnErr result (used_ids.new ≡ used_ids.old) }
 {
-    let len = seen.len();
+    let len = used_ids.len();
     for id in ids {
-        match seen.add(Seen { id: *id, system }) {
+        match used_ids.add(UsedId { id: *id, system }) {
             Ok(()) => {}
             Err(refused) => {
-                seen.truncate(len);
+                used_ids.truncate(len);
                 return Err(refused);
             }
         }
@@ -184,20 +187,24 @@ fn add_ids(seen: &mut Once<Seen>, ids: &[u32], system: Option<u8>) -> Result<(),
 
 /// Adds the satellites and the used ids of a note. A refusal changes nothing.
 #[tactic(auto, using(crate::proofs::Added::added_front))]
-fn add_lists(sats: &mut Once<Satellite>, seen: &mut Once<Seen>, note: &Note) -> Result<(), NoMemory>
+fn add_lists(
+    sats: &mut Once<Satellite>,
+    used_ids: &mut Once<UsedId>,
+    note: &Note,
+) -> Result<(), NoMemory>
     requires sats { list_all is_satellite sats.old ≡ true }
-    requires seen { list_all is_seen seen.old ≡ true }
+    requires used_ids { list_all is_used_id used_ids.old ≡ true }
     requires fits { Fits note.now }
     ensures sats { OnOk result (sats.new ≡ all_added same_satellite sats.old note.now.sats) }
-    ensures seen { OnOk result (seen.new ≡ all_added same_seen seen.old (seen_in note.now)) }
+    ensures used_ids { OnOk result (used_ids.new ≡ all_added same_used_id used_ids.old (used_ids_in note.now)) }
     ensures sats_fit { list_all is_satellite sats.new ≡ true }
-    ensures seen_fit { list_all is_seen seen.new ≡ true }
+    ensures used_ids_fit { list_all is_used_id used_ids.new ≡ true }
     ensures sats_err { OnErr result (sats.new ≡ sats.old) }
-    ensures seen_err { OnErr result (seen.new ≡ seen.old) }
+    ensures used_ids_err { OnErr result (used_ids.new ≡ used_ids.old) }
 {
     let len = sats.len();
     add_satellites(sats, note)?;
-    match add_used(seen, note) {
+    match add_used(used_ids, note) {
         Ok(()) => Ok(()),
         Err(refused) => {
             sats.truncate(len);
@@ -215,7 +222,7 @@ impl Running {
         Running {
             said: Said::nothing(),
             sats: Once::new(alloc),
-            seen: Once::new(alloc),
+            used_ids: Once::new(alloc),
         }
     }
 
@@ -232,7 +239,7 @@ impl Running {
         Point {
             said: self.said,
             sats: self.sats.len(),
-            seen: self.seen.len(),
+            used_ids: self.used_ids.len(),
         }
     }
 
@@ -242,7 +249,7 @@ impl Running {
         ensures { self.new ≡ ran_at point.now self.old }
     {
         self.sats.truncate(point.sats);
-        self.seen.truncate(point.seen);
+        self.used_ids.truncate(point.used_ids);
         self.said = point.said;
     }
 
@@ -254,7 +261,7 @@ impl Running {
         ensures ok { OnOk result (self.new ≡ ran_grown self.old (record { note = note.now; first = first; day = day })) }
         ensures err { OnErr result (self.new ≡ self.old) }
     {
-        add_lists(&mut self.sats, &mut self.seen, note)?;
+        add_lists(&mut self.sats, &mut self.used_ids, note)?;
         self.said.grow(note, first, serial_time(note.tod, day));
         Ok(())
     }
@@ -263,7 +270,7 @@ impl Running {
     fn sky(&self, alloc: Global) -> Result<Sky, NoMemory>
         ensures { IfOk result (λ sky. sky ≡ ran_sky self.now) }
     {
-        let sats = all_marked(alloc, self.sats.as_slice(), self.seen.as_slice())?;
+        let sats = all_marked(alloc, self.sats.as_slice(), self.used_ids.as_slice())?;
         Ok(Sky {
             time: self.said.time,
             pdop: self.said.pdop,
@@ -357,22 +364,22 @@ impl Running {
         ensures { IfOk result (λ r. r ≡ self.now) }
     {
         let sats = self.sats.copy(alloc)?;
-        let seen = self.seen.copy(alloc)?;
+        let used_ids = self.used_ids.copy(alloc)?;
         Ok(Running {
             said: self.said,
             sats,
-            seen,
+            used_ids,
         })
     }
 
     /// The number of satellites and used ids.
     #[tactic(auto, using(crate::proofs::Counts::few_kept))]
     pub fn kept(&self) -> u32
-        ensures exact { result ≡ length self.now.sats + length self.now.seen }
+        ensures exact { result ≡ length self.now.sats + length self.now.used_ids }
         ensures bound { result ≤ 155_446 }
     {
         let sats = self.sats.len();
-        let seen = self.seen.len();
-        (sats + seen) as u32
+        let used_ids = self.used_ids.len();
+        (sats + used_ids) as u32
     }
 }

@@ -7,21 +7,24 @@ ghost use Rattle.std.specs.Fn.{FnReturnsAt};
 ghost use Rattle.epoch_core.specs.Days.{Dated};
 ghost use Rattle.epoch_core.specs.Past.{latest as latest_of, earliest as earliest_of};
 ghost use Rattle.epoch_core.specs.Quantities.{said as said_in, breaks as breaks_from, timed, is_fix_kind as fix_kind, is_sky_kind as sky_kind};
-ghost use Rattle.epoch_core.specs.Satellites.{all_sats as sats_in, all_seen as all_seen_in, seen_in as seen_in_note, seen_by, firsts as firsts_of, same_satellite as same, satellites as satellites_in};
+ghost use Rattle.epoch_core.specs.Satellites.{all_sats as sats_in, all_used_ids as all_used_ids_in, used_ids_in as used_ids_of_note, used_id_by, firsts as firsts_of, same_satellite as same, satellites as satellites_in};
 ghost use Rattle.epoch_core.specs.Fixes.{fix_of as fix_made};
 ghost use Rattle.epoch_core.specs.Epochs.{begins as begins_after, closing, has_ended as ended, sky_of, toffs};
 
+use crate::dated_note::DatedNote;
 use crate::fixes::fix_of;
-use crate::known::Known;
 use crate::running::{all_marked, is_eoe, is_gsa, system_of};
 use crate::said::{Said, is_fix_kind, is_sky_kind, itow_tag, tod_tag};
-use crate::seen::Seen;
+use crate::used_id::UsedId;
 use gps_fixed::{NoMemory, Stamp};
 use gps_report::{Body, Note, Pair, Satellite, Sats, Sky, Tag};
 use std::alloc::Global;
 
 /// What the last note that gives it gives.
-fn latest<'a, T: Copy, F: Fn(&Known<'a>) -> Option<T>>(epoch: &[Known<'a>], given: F) -> Option<T>
+fn latest<'a, T: Copy, F: Fn(&DatedNote<'a>) -> Option<T>>(
+    epoch: &[DatedNote<'a>],
+    given: F,
+) -> Option<T>
     requires { F.IsAlwaysCallable given }
     ensures { (h : Dated → Option T) → ((d : Dated) (r : Option T) → FnReturnsAt F.Fn given d r → r ≡ h d) → result ≡ latest_of h (reverse epoch.now) }
 {
@@ -35,7 +38,10 @@ fn latest<'a, T: Copy, F: Fn(&Known<'a>) -> Option<T>>(epoch: &[Known<'a>], give
 }
 
 /// What the first note that gives it gives.
-fn earliest<'a, T: Copy, F: Fn(&Known<'a>) -> Option<T>>(epoch: &[Known<'a>], given: F) -> Option<T>
+fn earliest<'a, T: Copy, F: Fn(&DatedNote<'a>) -> Option<T>>(
+    epoch: &[DatedNote<'a>],
+    given: F,
+) -> Option<T>
     requires { F.IsAlwaysCallable given }
     ensures { (h : Dated → Option T) → ((d : Dated) (r : Option T) → FnReturnsAt F.Fn given d r → r ≡ h d) → result ≡ earliest_of h (reverse epoch.now) }
 {
@@ -49,19 +55,19 @@ fn earliest<'a, T: Copy, F: Fn(&Known<'a>) -> Option<T>>(epoch: &[Known<'a>], gi
 }
 
 /// The time of the last note that has a time of day, where the day is known at that note.
-fn last_time(epoch: &[Known]) -> Option<Stamp>
+fn last_time(epoch: &[DatedNote]) -> Option<Stamp>
     ensures { result ≡ option_flatten (latest_of timed (reverse epoch.now)) }
 {
     latest(epoch, |known| known.timed()).flatten()
 }
 
-fn has_fix(epoch: &[Known]) -> bool
+fn has_fix(epoch: &[DatedNote]) -> bool
     ensures { result ≡ list_any (λ d. fix_kind d.note.kind) epoch.now }
 {
     epoch.iter().any(|known| is_fix_kind(known.note().kind))
 }
 
-fn has_sky(epoch: &[Known]) -> bool
+fn has_sky(epoch: &[DatedNote]) -> bool
     ensures { result ≡ list_any (λ d. sky_kind d.note.kind) epoch.now }
 {
     epoch.iter().any(|known| is_sky_kind(known.note().kind))
@@ -69,7 +75,7 @@ fn has_sky(epoch: &[Known]) -> bool
 
 /// What the notes of an epoch say.
 #[tactic(auto, unfolding(crate::specs::Quantities::said))]
-fn said(epoch: &[Known]) -> Said
+fn said(epoch: &[DatedNote]) -> Said
     ensures { result ≡ said_in (reverse epoch.now) }
 {
     Said {
@@ -96,7 +102,7 @@ fn said(epoch: &[Known]) -> Said
 }
 
 /// Whether the epoch's last note is NAV-EOE.
-pub fn has_ended(epoch: &[Known]) -> bool
+pub fn has_ended(epoch: &[DatedNote]) -> bool
     ensures { result ≡ ended (reverse epoch.now) }
 {
     match epoch.last() {
@@ -107,7 +113,7 @@ pub fn has_ended(epoch: &[Known]) -> bool
 
 /// Whether the tag differs from the last of its variant in the epoch.
 #[tactic(auto, unfolding(crate::specs::Quantities::said, crate::specs::Quantities::breaks))]
-fn differs(tag: Option<Tag>, epoch: &[Known]) -> bool
+fn differs(tag: Option<Tag>, epoch: &[DatedNote]) -> bool
     ensures { result ≡ breaks_from tag (said_in (reverse epoch.now)) }
 {
     match tag {
@@ -122,7 +128,7 @@ fn differs(tag: Option<Tag>, epoch: &[Known]) -> bool
 }
 
 /// Whether a note that follows the notes of this epoch begins another.
-pub fn begins(next: &Known, epoch: &[Known]) -> bool
+pub fn begins(next: &DatedNote, epoch: &[DatedNote]) -> bool
     ensures { result ≡ begins_after next.now (reverse epoch.now) }
 {
     has_ended(epoch) || differs(next.note().tag, epoch)
@@ -130,7 +136,7 @@ pub fn begins(next: &Known, epoch: &[Known]) -> bool
 
 /// All satellites of the epoch's notes, in order.
 #[tactic(auto, using(crate::proofs::Slices::sats_next))]
-fn all_sats(alloc: Global, epoch: &[Known]) -> Result<Vec<Satellite>, NoMemory>
+fn all_sats(alloc: Global, epoch: &[DatedNote]) -> Result<Vec<Satellite>, NoMemory>
     ensures { IfOk result (λ sats. sats.items ≡ sats_in (reverse epoch.now)) }
 {
     let mut sats = Vec::new(alloc);
@@ -140,38 +146,38 @@ fn all_sats(alloc: Global, epoch: &[Known]) -> Result<Vec<Satellite>, NoMemory>
     Ok(sats)
 }
 
-fn all_seen_by(alloc: Global, system: Option<u8>, ids: &[u32]) -> Result<Vec<Seen>, NoMemory>
-    ensures { IfOk result (λ seen. seen.items ≡ map (seen_by system) ids.now) }
+fn all_used_ids_by(alloc: Global, system: Option<u8>, ids: &[u32]) -> Result<Vec<UsedId>, NoMemory>
+    ensures { IfOk result (λ used_ids. used_ids.items ≡ map (used_id_by system) ids.now) }
 {
-    let seen = ids
+    let used_ids = ids
         .iter()
-        .map(|id| Seen { id: *id, system })
+        .map(|id| UsedId { id: *id, system })
         .collect(alloc)?;
-    Ok(seen)
+    Ok(used_ids)
 }
 
 /// The ids that a GSA calls used, with its system.
-fn seen_in(alloc: Global, note: &Note) -> Result<Vec<Seen>, NoMemory>
-    ensures { IfOk result (λ seen. seen.items ≡ seen_in_note note.now) }
+fn used_ids_in(alloc: Global, note: &Note) -> Result<Vec<UsedId>, NoMemory>
+    ensures { IfOk result (λ used_ids. used_ids.items ≡ used_ids_of_note note.now) }
 {
     if is_gsa(note.kind) {
-        all_seen_by(alloc, note.system, note.used.as_slice())
+        all_used_ids_by(alloc, note.system, note.used.as_slice())
     } else {
         Ok(Vec::new(alloc))
     }
 }
 
 /// All ids that the GSAs of the epoch call used.
-#[tactic(auto, using(crate::proofs::Slices::seen_next))]
-fn all_seen(alloc: Global, epoch: &[Known]) -> Result<Vec<Seen>, NoMemory>
-    ensures { IfOk result (λ seen. seen.items ≡ all_seen_in (reverse epoch.now)) }
+#[tactic(auto, using(crate::proofs::Slices::used_ids_next))]
+fn all_used_ids(alloc: Global, epoch: &[DatedNote]) -> Result<Vec<UsedId>, NoMemory>
+    ensures { IfOk result (λ used_ids. used_ids.items ≡ all_used_ids_in (reverse epoch.now)) }
 {
-    let mut seen = Vec::new(alloc);
+    let mut used_ids = Vec::new(alloc);
     'notes: for known in epoch {
-        let mut more = seen_in(alloc, known.note())?;
-        seen.append(&mut more)?;
+        let mut more = used_ids_in(alloc, known.note())?;
+        used_ids.append(&mut more)?;
     }
-    Ok(seen)
+    Ok(used_ids)
 }
 
 fn is_same(a: &Satellite, b: &Satellite) -> bool
@@ -213,17 +219,17 @@ fn firsts(alloc: Global, satellites: &[Satellite]) -> Result<Vec<Satellite>, NoM
 
 /// The satellites of the epoch, each once, and marked where it is used.
 #[tactic(auto, unfolding(crate::specs::Satellites::satellites))]
-fn satellites(alloc: Global, epoch: &[Known]) -> Result<Vec<Satellite>, NoMemory>
+fn satellites(alloc: Global, epoch: &[DatedNote]) -> Result<Vec<Satellite>, NoMemory>
     ensures { IfOk result (λ sats. sats.items ≡ satellites_in (reverse epoch.now)) }
 {
     let all = all_sats(alloc, epoch)?;
     let first = firsts(alloc, all.as_slice())?;
-    let seen = all_seen(alloc, epoch)?;
-    all_marked(alloc, first.as_slice(), seen.as_slice())
+    let used_ids = all_used_ids(alloc, epoch)?;
+    all_marked(alloc, first.as_slice(), used_ids.as_slice())
 }
 
 #[tactic(auto, unfolding(crate::specs::Epochs::sky_of))]
-fn sky(alloc: Global, epoch: &[Known]) -> Result<Sky, NoMemory>
+fn sky(alloc: Global, epoch: &[DatedNote]) -> Result<Sky, NoMemory>
     ensures { IfOk result (λ sky. sky ≡ sky_of (reverse epoch.now)) }
 {
     let said = said(epoch);
@@ -238,7 +244,7 @@ fn sky(alloc: Global, epoch: &[Known]) -> Result<Sky, NoMemory>
 }
 
 /// The serial time of the epoch.
-pub fn push_toffs(out: &mut Vec<Body>, epoch: &[Known]) -> Result<(), NoMemory>
+pub fn push_toffs(out: &mut Vec<Body>, epoch: &[DatedNote]) -> Result<(), NoMemory>
     ensures { OnOk result (out.new.items ≡ out.old.items ++ toffs (reverse epoch.now)) }
 {
     let said = said(epoch);
@@ -261,7 +267,7 @@ fn push_fix(out: &mut Vec<Body>, said: &Said) -> Result<(), NoMemory>
     Ok(())
 }
 
-fn push_sky(alloc: Global, out: &mut Vec<Body>, epoch: &[Known]) -> Result<(), NoMemory>
+fn push_sky(alloc: Global, out: &mut Vec<Body>, epoch: &[DatedNote]) -> Result<(), NoMemory>
     ensures { OnOk result (out.new.items ≡ out.old.items ++ cond (said_in (reverse epoch.now)).has_sky (Body.Sky (sky_of (reverse epoch.now)) ∷ []) []) }
 {
     if said(epoch).has_sky {
@@ -272,7 +278,7 @@ fn push_sky(alloc: Global, out: &mut Vec<Body>, epoch: &[Known]) -> Result<(), N
 
 /// The fix and the sky of the epoch.
 #[tactic(auto, unfolding(crate::specs::Epochs::closing))]
-pub fn push_closing(alloc: Global, out: &mut Vec<Body>, epoch: &[Known]) -> Result<(), NoMemory>
+pub fn push_closing(alloc: Global, out: &mut Vec<Body>, epoch: &[DatedNote]) -> Result<(), NoMemory>
     ensures { OnOk result (out.new.items ≡ out.old.items ++ closing (reverse epoch.now)) }
 {
     push_fix(out, &said(epoch))?;

@@ -23,14 +23,14 @@ plain_few (c ∷ d ∷ digits) h =
     grind (arith, nat_tests, few)
 
 -- one more digit of at most nineteen
-pub record Turn (ds : List ℕ) (i value : ℕ) : Type 0 where
+pub record DigitStep (ds : List ℕ) (i value : ℕ) : Type 0 where
   pub small : value < 10 ^ 18
   pub from : 48 ≤ get_or ds i 0
   pub to : get_or ds i 0 ≤ 57
   pub digits : list_all is_ascii_digit (take (i + 1) ds) ≡ true
   pub next : 10 * value + (get_or ds i 0 - 48) ≡ number (take (i + 1) ds)
 
-pub turn : (ds : List ℕ) (i value : ℕ) → list_all is_ascii_digit (take i ds) ≡ true → i ≤ 18 → i < length ds → is_ascii_digit (get_or ds i 0) ≡ true → value ≡ number (take i ds) → Turn ds i value
+pub turn : (ds : List ℕ) (i value : ℕ) → list_all is_ascii_digit (take i ds) ≡ true → i ≤ 18 → i < length ds → is_ascii_digit (get_or ds i 0) ≡ true → value ≡ number (take i ds) → DigitStep ds i value
 turn ds i value all few h d e =
     let below = number_below (take i ds) all in
     let within : length (take i ds) ≤ 18 = omega (arith, length-take i ds, few) in

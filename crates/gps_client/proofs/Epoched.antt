@@ -16,13 +16,13 @@ use Rattle.gps_report.specs.Fits.{Fits, is_dim, is_satellite, is_tod, where_give
 use Rattle.epoch_core.specs.declared.days.Days.{Days}
 use Rattle.epoch_core.specs.declared.heard.Heard.{Heard}
 use Rattle.epoch_core.specs.declared.said.Said.{Said}
-use Rattle.epoch_core.specs.declared.seen.Seen.{Seen}
+use Rattle.epoch_core.specs.declared.used_id.UsedId.{UsedId}
 use Rattle.epoch_core.specs.Days.{Dated, dated, day_known, is_known_day, last_tod}
 use Rattle.epoch_core.specs.Epochs.{all_closed, all_told, begins, closing, epochs, epochs_of, has_ended, joined, left, reports, running, sky_of, toffs}
 use Rattle.epoch_core.specs.Fixes.{fix_of, has_no_fix, mode_of}
 use Rattle.epoch_core.specs.Past.{earliest, latest}
 use Rattle.epoch_core.specs.Quantities.{said, serial_time, stamped, timed}
-use Rattle.epoch_core.specs.Satellites.{all_sats, all_seen, firsts, marked, same_satellite, satellites}
+use Rattle.epoch_core.specs.Satellites.{all_sats, all_used_ids, firsts, marked, same_satellite, satellites}
 use Rattle.epoch_core.specs.Steps.{days_after}
 use Rattle.epoch_core.proofs.Low.{days_known}
 use Rattle.gps_client.specs.History.{cut_fix, cut_sky, cut_time}
@@ -192,13 +192,13 @@ all_sats_in : (epoch : List Dated) → Good epoch → AllByRecursion IsSatellite
 all_sats_in [] all = tt
 all_sats_in (d ∷ past) all = all_both IsSatellite (all_sats past) d.note.sats (all_sats_in past all.1) (sats_of d.note.sats all.0.fits.sats all.0.ranged.sats_in)
 
-marked_in : (seen : List Seen) (s : Satellite) → IsSatellite s → IsSatellite (marked seen s)
+marked_in : (seen : List UsedId) (s : Satellite) → IsSatellite s → IsSatellite (marked seen s)
 unfolding marked
 marked_in seen s is = record { prn_in = is.prn_in; el_in = is.el_in; az_in = is.az_in; ss_in = is.ss_in; gnss_in = is.gnss_in; signal_in = is.signal_in }
 
 sky_sats_in : (epoch : List Dated) → Good epoch → AllByRecursion IsSatellite (satellites epoch)
 unfolding satellites
-sky_sats_in epoch all = all_map (marked (all_seen epoch)) IsSatellite IsSatellite (marked_in (all_seen epoch)) (firsts same_satellite (all_sats epoch)) (all_firsts IsSatellite same_satellite (all_sats epoch) (all_sats_in epoch all))
+sky_sats_in epoch all = all_map (marked (all_used_ids epoch)) IsSatellite IsSatellite (marked_in (all_used_ids epoch)) (firsts same_satellite (all_sats epoch)) (all_firsts IsSatellite same_satellite (all_sats epoch) (all_sats_in epoch all))
 
 sky_in : (epoch : List Dated) → Good epoch → IsShort (sky_of epoch).sats → IsSky (cut_sky (sky_of epoch))
 unfolding sky_of

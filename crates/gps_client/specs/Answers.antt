@@ -1,4 +1,4 @@
--- What a reader answers, beside what is read by the definitions. This project's own.
+-- What a reader answers, beside what is read by the definitions.
 use Rattle.std.specs.Prelude.{◌≡◌, ℕ, List, Option, Some, None, Result, Ok, Err}
 use Rattle.gps_client.specs.declared.fault.LineFault.{LineFault}
 use Rattle.gps_client.specs.declared.fault.LineFault.TheVariants as fault

@@ -1,4 +1,4 @@
--- The reading of each object, member by member in their order. This project's own.
+-- The reading of each object, member by member in their order.
 use Rattle.std.specs.Prelude.{ℕ, Bool, ◌&&◌, ◌==◌, List, length, take, Option, Some, None, option_map, count_by, pos, nat_le, codes, if◌then◌else◌}
 use Rattle.std.specs.Str.{bytes_eq}
 use Rattle.gps_fixed.specs.Moment.{Moment}

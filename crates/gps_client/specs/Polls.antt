@@ -1,4 +1,4 @@
--- The reports in the answer to a POLL, each with the name of its device, as they are read back. This project's own.
+-- The reports in the answer to a POLL, each with the name of its device, as they are read back.
 use Rattle.std.specs.Prelude.{ℕ, List, [], ◌∷◌, ◌++◌, Option}
 use Rattle.gps_fixed.specs.Moment.{Moment}
 use Rattle.gps_report.specs.declared.fix.Fix.{Fix}

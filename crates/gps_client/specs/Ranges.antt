@@ -1,4 +1,4 @@
--- Which values a line can say: numbers within their types, quantities with at most nine digits before the point, and times in whole milliseconds. This project's own.
+-- Which values a line can say: numbers within their types, quantities with at most nine digits before the point, and times in whole milliseconds.
 use Rattle.std.specs.Prelude.{◌≡◌, ℕ, ◌+◌, ◌^◌, ◌<◌, ◌≤◌, true, List, length, Option, ℤ, pos, negsuc, ◌≤ℤ◌, unsigned_abs, IfSome}
 use Rattle.std.specs.List.{AllByRecursion}
 use Rattle.gps_fixed.specs.Moment.{Moment, IsMoment}

@@ -1,4 +1,4 @@
--- Reading from the head of a text: what stands there, and what stands behind it. This project's own.
+-- Reading from the head of a text: what stands there, and what stands behind it.
 use Rattle.std.specs.Prelude.{ℕ, zero, suc, ◌+◌, ◌*◌, ◌%◌, ◌^◌, slice_index, Bool, true, false, not, ◌&&◌, ◌||◌, ◌==◌, unsigned_abs, List, [], ◌∷◌, length, take, drop, Option, Some, None, nat_le, nat_lt, ℤ, pos, negsuc, neg_ℤ, codes, if◌then◌else◌}
 use Rattle.std.specs.Str.{bytes_eq}
 use Rattle.std.specs.List.{prefix_len}

@@ -1,4 +1,4 @@
--- The line of a value: the objects and the line end are those that the daemon writes. This project's own.
+-- The line of a value: the objects and the line end are those that the daemon writes.
 use Rattle.std.specs.Prelude.{◌≡◌, ℕ, List, ◌++◌, Option, map}
 use Rattle.std.specs.Fmt.{decimal}
 use Rattle.gps_fixed.specs.Moment.{Moment}

@@ -13,26 +13,26 @@ use Rattle.gps_command.specs.declared.request.Quote.{Quote}
 use Rattle.gps_command.specs.declared.request.Quote.TheVariants.{Outside}
 use Rattle.gps_command.specs.declared.request.RawCommand.{RawCommand}
 use Rattle.gps_command.specs.declared.request.RawCommand.TheVariants.{Words, Long}
-use Rattle.gps_command.specs.Kept.{Kept, kept_from, kept_open, kept_skipping, quote_of}
+use Rattle.gps_command.specs.Kept.{CommandCutterView, kept_from, kept_open, kept_skipping, quote_of}
 use Rattle.gps_command.specs.Requests.{ends, is_end, is_gap, is_line_feed, line_length, long_length, open_length, quote_after, requests_from}
 use Rattle.gps_command.specs.Steps.{after_long, by_open, ends_at, next_at}
 use Rattle.gps_command.proofs.Begins.{kept-past, kept_begun, kept_ended, kept_gap, kept_long, requests-past, requests_begun, requests_ended, requests_gap, requests_long}
 use Rattle.gps_command.proofs.Opens.{line-all, line-grows, line-le, line-stays, open-grows, open-le, open-more, open-stays}
 
 -- a byte takes these requests and what is kept to those
-pub record Grows (x : ℕ) (before : List RawCommand) (old : Kept) (after : List RawCommand) (new : Kept) : Type 0 where
+pub record Grows (x : ℕ) (before : List RawCommand) (old : CommandCutterView) (after : List RawCommand) (new : CommandCutterView) : Type 0 where
   pub ended : after ≡ before ++ ends_at old.stand old.held x
   pub kept : new ≡ next_at old.stand old.held x
 
-moved : (x : ℕ) (before before1 after after1 : List RawCommand) (old old1 new new1 : Kept) → before ≡ before1 → old ≡ old1
+moved : (x : ℕ) (before before1 after after1 : List RawCommand) (old old1 new new1 : CommandCutterView) → before ≡ before1 → old ≡ old1
     → after ≡ after1 → new ≡ new1 → Grows x before1 old1 after1 new1 → Grows x before old after new
 moved x before before1 after after1 old old1 new new1 b o a n g = record {
   ended = a ∙ g.ended ∙ sym (ap (λ r. r ++ ends_at old1.stand old1.held x) b)
-      ∙ sym (ap (λ (k : Kept). before ++ ends_at k.stand k.held x) o);
-  kept = n ∙ g.kept ∙ sym (ap (λ (k : Kept). next_at k.stand k.held x) o);
+      ∙ sym (ap (λ (k : CommandCutterView). before ++ ends_at k.stand k.held x) o);
+  kept = n ∙ g.kept ∙ sym (ap (λ (k : CommandCutterView). next_at k.stand k.held x) o);
 }
 
-pushed : (x : ℕ) (r : RawCommand) (before after : List RawCommand) (old new : Kept) → Grows x before old after new
+pushed : (x : ℕ) (r : RawCommand) (before after : List RawCommand) (old new : CommandCutterView) → Grows x before old after new
     → Grows x (r ∷ before) old (r ∷ after) new
 pushed x r before after old new g = record { ended = ap (λ rs. r ∷ rs) g.ended; kept = g.kept }
 

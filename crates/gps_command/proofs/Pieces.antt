@@ -3,7 +3,7 @@ use Rattle.std.proofs.Common.{◌≡◌, ◌<◌, ◌≤◌, ◌+◌, ℕ, List,
 use Rattle.std.proofs.lemmas.List.{append-nil, drop_all}
 use Rattle.gps_command.specs.declared.cutter.Stand.{Stand}
 use Rattle.gps_command.specs.declared.request.RawCommand.{RawCommand}
-use Rattle.gps_command.specs.Kept.{Gains, Kept, StandsFor, kept_from, kept_open}
+use Rattle.gps_command.specs.Kept.{Gains, CommandCutterView, StandsFor, kept_from, kept_open}
 use Rattle.gps_command.specs.Requests.{requests, requests_from}
 use Rattle.gps_command.specs.Steps.{ended_by, ends_at, kept_after, next_at}
 use Rattle.gps_command.proofs.Growths.{Grows, grown}
@@ -16,14 +16,14 @@ unfolding kept_after
 kept_more bytes [] = ap (kept_from 0) (append-nil bytes)
 kept_more bytes (c ∷ piece) =
     ap (kept_from 0) (sym (append_assoc bytes (c ∷ []) piece)) ∙ kept_more (bytes ++ c ∷ []) piece
-    ∙ ap (λ (k : Kept). kept_after k piece) (at_start bytes c).kept
+    ∙ ap (λ (k : CommandCutterView). kept_after k piece) (at_start bytes c).kept
 
 requests_more : (bytes piece : List ℕ) → requests (bytes ++ piece) ≡ requests bytes ++ ended_by (kept_from 0 bytes) piece
 unfolding ended_by
 requests_more bytes [] = ap (requests_from 0) (append-nil bytes) ∙ sym (append-nil (requests_from 0 bytes))
 requests_more bytes (c ∷ piece) =
     ap (requests_from 0) (sym (append_assoc bytes (c ∷ []) piece)) ∙ requests_more (bytes ++ c ∷ []) piece
-    ∙ ap (λ (k : Kept). requests_from 0 (bytes ++ c ∷ []) ++ ended_by k piece) (at_start bytes c).kept
+    ∙ ap (λ (k : CommandCutterView). requests_from 0 (bytes ++ c ∷ []) ++ ended_by k piece) (at_start bytes c).kept
     ∙ ap (λ r. r ++ ended_by (next_at (kept_from 0 bytes).stand (kept_from 0 bytes).held c) piece) (at_start bytes c).ended
     ∙ append_assoc (requests_from 0 bytes) _ _
 
@@ -32,18 +32,18 @@ unfolding kept_from
 stands_for_none = refl
 
 -- the loop over a piece: what was ended so far and what the rest ends is what the piece ends
-pub record Going (old : Kept) (piece : List ℕ) (stand : Stand) (held : List ℕ) (out : List RawCommand) (rest : List ℕ) : Type 0 where
+pub record Going (old : CommandCutterView) (piece : List ℕ) (stand : Stand) (held : List ℕ) (out : List RawCommand) (rest : List ℕ) : Type 0 where
   pub ended : out ++ ended_by (record { stand = stand; held = held }) rest ≡ ended_by old piece
   pub kept : kept_after (record { stand = stand; held = held }) rest ≡ kept_after old piece
 
-pub begins : (old : Kept) (piece held : List ℕ) (out : List RawCommand) → held ≡ old.held → out ≡ [] → Going old piece old.stand held out piece
+pub begins : (old : CommandCutterView) (piece held : List ℕ) (out : List RawCommand) → held ≡ old.held → out ≡ [] → Going old piece old.stand held out piece
 begins old piece held out h o = record {
   ended = ap (λ r. r ++ ended_by (record { stand = old.stand; held = held }) piece) o
       ∙ ap (λ h. ended_by (record { stand = old.stand; held = h }) piece) h;
   kept = ap (λ h. kept_after (record { stand = old.stand; held = h }) piece) h;
 }
 
-going_on : (old : Kept) (piece : List ℕ) (stand : Stand) (held : List ℕ) (out : List RawCommand) (c : ℕ) (rest : List ℕ)
+going_on : (old : CommandCutterView) (piece : List ℕ) (stand : Stand) (held : List ℕ) (out : List RawCommand) (c : ℕ) (rest : List ℕ)
     → Going old piece stand held out (c ∷ rest)
     → Going old piece (next_at stand held c).stand (next_at stand held c).held (out ++ ends_at stand held c) rest
 unfolding ended_by kept_after
@@ -52,7 +52,7 @@ going_on old piece stand held out c rest g = record {
   kept = g.kept;
 }
 
-pub goes_on : (old : Kept) (piece : List ℕ) (stand stand1 : Stand) (held held1 : List ℕ) (out out1 : List RawCommand) (i d : ℕ)
+pub goes_on : (old : CommandCutterView) (piece : List ℕ) (stand stand1 : Stand) (held held1 : List ℕ) (out out1 : List RawCommand) (i d : ℕ)
     → i < length piece → Going old piece stand held out (drop i piece)
     → stand1 ≡ (next_at stand held (slice_index_or piece i d)).stand
     → held1 ≡ (next_at stand held (slice_index_or piece i d)).held
@@ -73,17 +73,17 @@ goes_on old piece stand stand1 held held1 out out1 i d h g s l o =
           ∙ step.kept;
     }
 
-ended_at : (old : Kept) (piece : List ℕ) (stand : Stand) (held : List ℕ) (out : List RawCommand) → Going old piece stand held out []
+ended_at : (old : CommandCutterView) (piece : List ℕ) (stand : Stand) (held : List ℕ) (out : List RawCommand) → Going old piece stand held out []
     → (bytes : List ℕ) → StandsFor old bytes
     → Gains bytes piece out × StandsFor (record { stand = stand; held = held }) (bytes ++ piece)
 unfolding ended_by kept_after
 ended_at old piece stand held out g bytes stands = (
-  requests_more bytes piece ∙ ap (λ (k : Kept). requests bytes ++ ended_by k piece) (sym stands)
+  requests_more bytes piece ∙ ap (λ (k : CommandCutterView). requests bytes ++ ended_by k piece) (sym stands)
       ∙ ap (λ r. requests bytes ++ r) (sym (sym (append-nil out) ∙ g.ended)),
-  g.kept ∙ ap (λ (k : Kept). kept_after k piece) stands ∙ sym (kept_more bytes piece),
+  g.kept ∙ ap (λ (k : CommandCutterView). kept_after k piece) stands ∙ sym (kept_more bytes piece),
 )
 
-pub ends_here : (old : Kept) (piece : List ℕ) (stand : Stand) (held : List ℕ) (out : List RawCommand) (i : ℕ) → length piece ≤ i
+pub ends_here : (old : CommandCutterView) (piece : List ℕ) (stand : Stand) (held : List ℕ) (out : List RawCommand) (i : ℕ) → length piece ≤ i
     → Going old piece stand held out (drop i piece) → (bytes : List ℕ) → StandsFor old bytes
     → Gains bytes piece out × StandsFor (record { stand = stand; held = held }) (bytes ++ piece)
 ends_here old piece stand held out i h g =
@@ -91,7 +91,7 @@ ends_here old piece stand held out i h g =
     ended_at old piece stand held out (subst P (drop_all i piece h) g)
 
 -- a piece that is the whole input
-pub all_gained : (kept : Kept) (piece : List ℕ) (out : List RawCommand) (after : Kept) → StandsFor kept []
+pub all_gained : (kept : CommandCutterView) (piece : List ℕ) (out : List RawCommand) (after : CommandCutterView) → StandsFor kept []
     → ((bytes : List ℕ) → StandsFor kept bytes → Gains bytes piece out × StandsFor after (bytes ++ piece))
     → out ≡ requests piece
 unfolding requests_from

@@ -1,4 +1,4 @@
--- A refused WATCH object as the fault of a request. This project's own.
+-- A refused WATCH object as the fault of a request.
 use Rattle.gps_report.specs.declared.policy.CommandFault.TheVariants as command
 use Rattle.watch_policy.specs.declared.change.ChangeFault.{ChangeFault}
 use Rattle.watch_policy.specs.declared.change.ChangeFault.TheVariants as change

@@ -1,4 +1,4 @@
--- The policy of a session after its first requests. This project's own.
+-- The policy of a session after its first requests.
 use Rattle.std.specs.Prelude.{ℕ, List, Some, None, Result, Ok, Err, take, fold}
 use Rattle.gps_report.specs.declared.policy.CommandFault.{CommandFault}
 use Rattle.gps_report.specs.declared.policy.Policy.{Policy}

@@ -1,4 +1,4 @@
--- The texts of requests as a set: plain bytes and whole strings. This project's own.
+-- The texts of requests as a set: plain bytes and whole strings.
 use Rattle.std.specs.Prelude.{ℕ, ◌≡◌, ◌<◌, ◌≤◌, Bool, not, true, false, ◌||◌, List, [], ◌∷◌, ◌++◌, length, take, drop, nat_eq, slice_index}
 use Rattle.std.specs.List.{list_all}
 use Rattle.std.specs.Io.BufRead.{drop_through}

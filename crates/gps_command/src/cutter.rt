@@ -29,16 +29,16 @@ pub struct CommandCutter {
 }
 
 impl Model for CommandCutter {
-    ghost use Rattle.gps_command.specs.Kept.{Kept};
+    ghost use Rattle.gps_command.specs.Kept.{CommandCutterView};
 
-    ghost Value = { Kept };
+    ghost Value = { CommandCutterView };
 
     ghost view = { λ cutter. record { stand = cutter.stand; held = cutter.held.items } };
 }
 
 /// What a piece would do: the requests that it ends, and the cutter after it.
 #[derive(Drop)]
-pub struct Cut {
+pub struct RequestCut {
     pub requests: Vec<RawCommand>,
     pub cutter: CommandCutter,
 }
@@ -106,7 +106,7 @@ impl CommandCutter {
 
     /// What [`push`](CommandCutter::push) would give for a piece, and the cutter after it; this one stays.
     #[tactic(auto, using(crate::proofs::Pieces::begins))]
-    pub fn cut(&self, piece: &[u8]) -> Result<Cut, NoMemory>
+    pub fn cut(&self, piece: &[u8]) -> Result<RequestCut, NoMemory>
         ensures gains { IfOk result (λ cut. (bytes : List ℕ) → StandsFor self.now bytes
             → Gains bytes piece.now cut.requests.items × StandsFor cut.cutter (bytes ++ piece.now)) }
     {
@@ -121,15 +121,15 @@ impl CommandCutter {
             stand,
             held,
         };
-        Ok(Cut { requests, cutter })
+        Ok(RequestCut { requests, cutter })
     }
 
     /// Puts in place what [`cut`](CommandCutter::cut) gave. Takes no memory.
-    pub fn put(&mut self, cut: Cut) -> Vec<RawCommand>
+    pub fn put(&mut self, cut: RequestCut) -> Vec<RawCommand>
         ensures requests { result.items ≡ cut.requests.items }
         ensures cutter { self.new ≡ cut.cutter }
     {
-        let Cut { requests, cutter } = cut;
+        let RequestCut { requests, cutter } = cut;
         *self = cutter;
         requests
     }

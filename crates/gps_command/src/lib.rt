@@ -11,7 +11,7 @@ mod request;
 mod whole_input;
 
 pub use command::{Command, ReadFault, command_of};
-pub use cutter::{CommandCutter, Cut};
+pub use cutter::{CommandCutter, RequestCut};
 pub use laws::{policy_goes_on, requests_go_by_the_texts};
 pub use request::RawCommand;
 pub use whole_input::requests_of;

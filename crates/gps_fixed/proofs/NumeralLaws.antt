@@ -47,14 +47,14 @@ all_take (c ∷ ds) (suc i) all =
     and_from (is_ascii_digit c) (list_all is_ascii_digit (take i ds)) parts.0 (all_take ds i parts.1)
 
 -- one more digit of a run of digits
-pub record Turn (ds : List ℕ) (i value : ℕ) : Type 0 where
+pub record DigitStep (ds : List ℕ) (i value : ℕ) : Type 0 where
   pub small : value < 10 ^ 17
   pub from : 48 ≤ get_or ds i 0
   pub to : get_or ds i 0 ≤ 57
   pub digits : list_all is_ascii_digit (take (i + 1) ds) ≡ true
   pub next : 10 * value + (get_or ds i 0 - 48) ≡ number (take (i + 1) ds)
 
-pub turn : (ds : List ℕ) (i value : ℕ) → list_all is_ascii_digit (take i ds) ≡ true → i ≤ 17 → i < length ds → is_ascii_digit (get_or ds i 0) ≡ true → value ≡ number (take i ds) → Turn ds i value
+pub turn : (ds : List ℕ) (i value : ℕ) → list_all is_ascii_digit (take i ds) ≡ true → i ≤ 17 → i < length ds → is_ascii_digit (get_or ds i 0) ≡ true → value ≡ number (take i ds) → DigitStep ds i value
 turn ds i value all few h d e =
     let digit = digit_bounds (get_or ds i 0) d in
     let below = number_below (take i ds) all in

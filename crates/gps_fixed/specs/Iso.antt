@@ -1,4 +1,4 @@
--- What an ISO 8601 text of a stamp says: the stamp in whole milliseconds that is written so. This project's own.
+-- What an ISO 8601 text of a stamp says: the stamp in whole milliseconds that is written so.
 use Rattle.std.specs.Prelude.{◌≡◌, ℕ, ◌+◌, ◌*◌, ◌/◌, ◌%◌, ◌^◌, List, slice_index}
 use Rattle.gps_fixed.specs.Moment.{Moment, IsMoment}
 use Rattle.gps_fixed.specs.Text.{iso_of}

@@ -1,4 +1,4 @@
--- What contracts see of a Stamp: whole seconds since 1970-01-01T00:00:00Z, and the nanoseconds of the second. This project's own.
+-- What contracts see of a Stamp: whole seconds since 1970-01-01T00:00:00Z, and the nanoseconds of the second.
 use Rattle.std.specs.Prelude.{ℕ, ℤ, pos, ◌≤ℤ◌, ◌<◌}
 
 pub record Moment : Type 0 where

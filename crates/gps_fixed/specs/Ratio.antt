@@ -1,4 +1,4 @@
--- A whole number times a ratio, rounded to the nearest whole number, halves upwards. This project's own.
+-- A whole number times a ratio, rounded to the nearest whole number, halves upwards.
 use Rattle.std.specs.Prelude.{ℤ, pos, ◌+ℤ◌, ◌*ℤ◌}
 use Rattle.std.specs.Int.{int_div_euclid}
 

@@ -1,4 +1,4 @@
--- How numbers and times are written: fixed point with a fixed number of decimals, and stamps as ISO 8601 writes them, with milliseconds. This project's own.
+-- How numbers and times are written: fixed point with a fixed number of decimals, and stamps as ISO 8601 writes them, with milliseconds.
 use Rattle.std.specs.Prelude.{ℕ, zero, suc, ◌+◌, ◌/◌, ◌%◌, ◌^◌, List, [], ◌∷◌, ◌++◌, ℤ, pos, negsuc, unsigned_abs, codes}
 use Rattle.std.specs.Fmt.{decimal}
 use Rattle.gps_fixed.specs.Moment.{Moment}

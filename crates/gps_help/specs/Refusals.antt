@@ -1,4 +1,4 @@
--- Which words ask for something, which command they begin with, and which word a refusal may name. This project's own.
+-- Which words ask for something, which command they begin with, and which word a refusal may name.
 use Rattle.std.specs.Prelude.{ℕ, ◌<◌, Bool, ◌||◌, is_some, IfSome, List, [], ◌∷◌, Option, Some, None, codes, if◌then◌else◌}
 use Rattle.std.specs.Str.{bytes_eq}
 use Rattle.clap.specs.Walk.{Text}

@@ -4,25 +4,25 @@ use Rattle.std.specs.Prelude.{Result, Ok, Err}
 use Rattle.std.specs.List.{list_all}
 use Rattle.std.proofs.lemmas.List.Sums.{count_by-le-length}
 use Rattle.atomic_table.specs.Seated.{TableId}
-use Rattle.book_log.specs.Logged.{Logged}
+use Rattle.book_log.specs.DeviceLogView.{DeviceLogView}
 use Rattle.book_log.specs.Standing.{has_stopped}
-use Rattle.book_sessions.specs.Attendance.{Attendance, is_open}
+use Rattle.book_sessions.specs.MemberView.{MemberView, is_open}
 use Rattle.book_sessions.specs.Roster.{live_in, most_live, most_opened}
 use Rattle.gps_lane.specs.Ends.{Putting, Taking}
-use Rattle.hub_door.specs.Admissions.{Admissions, Link, admitting, link_of}
+use Rattle.hub_door.specs.Admissions.{Admissions, SessionLanes, admitting, link_of}
 use Rattle.report_book.specs.BookView.{BookView}
 use Rattle.report_book.specs.Moves.{Admits}
 use Rattle.report_book.specs.Refusals.{RefusesWith, crowd_fault}
-use Rattle.report_book.specs.Standing.{Holds as BookHolds}
+use Rattle.report_book.specs.Standing.{BookHolds}
 use Rattle.report_book.specs.declared.fault.BookFault.{BookFault}
 use Rattle.report_book.specs.declared.fault.BookFault.TheVariants.{TooManySessions, NoMemory}
 use Rattle.serve_pieces.specs.declared.piece.Piece.{Piece}
 use Rattle.session_core.specs.Naming.{OutletName, of_table}
-use Rattle.hub_laws.specs.Keeping.{HubKeeps, Lasts}
-use Rattle.hub_laws.specs.Parts.{AreAdmitted, HubView, Terms}
-use Rattle.hub_laws.proofs.Calls.{hub_admit}
-use Rattle.hub_laws.proofs.Hubs.{map_length}
-use Rattle.hub_laws.proofs.Shutting.{ended_there, hub_shut}
+use Rattle.hub_promise.specs.Keeping.{HubKeeps, Lasts}
+use Rattle.hub_promise.specs.Parts.{AreAdmitted, HubView, Terms}
+use Rattle.hub_promise.proofs.Calls.{hub_admit}
+use Rattle.hub_promise.proofs.Hubs.{map_length}
+use Rattle.hub_promise.proofs.Shutting.{ended_there, hub_shut}
 use Rattle.gps_hub.specs.Admitting.{IsCrowded, RefusesLink, ShutIf, fault_or_memory}
 
 -- each device of a book that was shut has stopped
@@ -44,15 +44,15 @@ opened_keeps terms h lasts mid book outlet room x k mid_holds holds admits shuts
         let P : BookView × Bool → Type 0 = λ t. HubKeeps terms (opened_hub h outlet room x t.0 t.1) lasts in
         subst P (λ i. (sym same i, sym is i)) admitted
     by_shut true is shut admitted =
-        let L : Logged → Type 0 = λ l. list_all (λ line. has_stopped line.stage) l.present.lines ≡ true in
+        let L : DeviceLogView → Type 0 = λ l. list_all (λ line. has_stopped line.stage) l.present.lines ≡ true in
         let P : Bool → Type 0 = λ b. HubKeeps terms (opened_hub h outlet room x book b) lasts in
         subst P (sym is)
         (hub_shut terms (opened_hub h outlet room x mid false) lasts book admitted holds (subst L (sym admits.same.log) (shut_ended terms h lasts k is)) shut)
 
 -- the number of a new session is that of those that were admitted before it
-pub numbered : (links : List Link) (sessions : List Attendance) (inputs : List (Taking Piece)) → AreAdmitted links sessions inputs → length sessions ≡ length links
+pub numbered : (links : List SessionLanes) (sessions : List MemberView) (inputs : List (Taking Piece)) → AreAdmitted links sessions inputs → length sessions ≡ length links
 numbered links sessions inputs admitted =
-    sym (map_length (λ (a : Attendance). a.session.name) sessions) ∙ ap length admitted.outlets ∙ map_length (λ (l : Link). of_table l.outlet) links
+    sym (map_length (λ (a : MemberView). a.session.name) sessions) ∙ ap length admitted.outlets ∙ map_length (λ (l : SessionLanes). of_table l.outlet) links
 
 pub refuses_again : (X O I : Type 0) (o now : Option BookFault) (outlet : O) (input : I) (fault : BookFault) → o ≡ now → RefusesWith {X = X} o (Err (outlet, fault)) → RefusesLink {X = X} now (Err (outlet, input, fault))
 refuses_again X O I o now outlet input fault same refused = by_fault now (subst (λ (t : Option BookFault). RefusesWith {X = X} t (Err (outlet, fault))) same refused)

@@ -2,7 +2,7 @@
 use Rattle.std.proofs.Common.{◌≡◌, ◌<◌, ◌≤◌, ℕ, zero, suc, Bool, true, false, List, [], ◌∷◌, ◌++◌, length, get_or, set, Option, Some, None, refl, sym, ap, ◌∙◌, subst, inl, inr, ◌⊎◌, ⊎_elim, arith, get_or-set_same, get_or-set_other}
 use Rattle.std.specs.Prelude.{is_some, option_map, IfNone, MatchOption}
 use Rattle.std.proofs.lemmas.List.{get_or_default, set-get_or}
-use Rattle.book_sessions.specs.Attendance.{Attendance}
+use Rattle.book_sessions.specs.MemberView.{MemberView}
 use Rattle.book_sessions.specs.Roster.{IsOpenAt}
 use Rattle.gps_lane.specs.Ends.{Taking}
 use Rattle.report_book.specs.BookView.{BookView}
@@ -10,13 +10,13 @@ use Rattle.report_book.specs.Moves.{HangsUp}
 use Rattle.session_core.specs.declared.mark.Close.{Close}
 use Rattle.session_core.specs.declared.mark.Close.TheVariants.{NoMemory as CloseNoMemory}
 use Rattle.serve_pieces.specs.declared.piece.Piece.{Piece}
-use Rattle.hub_laws.specs.declared.ends.DeviceEnd.{DeviceEnd}
-use Rattle.hub_laws.specs.DaemonHub.{MayGoOn}
-use Rattle.hub_laws.specs.Parts.{HubView, Lanes, names_of, parts_of}
-use Rattle.hub_laws.specs.Steps.{with_bytes, with_edge, with_got}
+use Rattle.hub_promise.specs.declared.ends.DeviceEnd.{DeviceEnd}
+use Rattle.hub_promise.specs.DaemonHub.{MayGoOn}
+use Rattle.hub_promise.specs.Parts.{HubView, InletsView, names_of, parts_of}
+use Rattle.hub_promise.specs.Steps.{with_bytes, with_edge, with_got}
 use Rattle.gps_hub.specs.declared.pumped.Pumped.{Pumped}
 use Rattle.gps_hub.specs.declared.pumped.Pumped.TheVariants.{Fed, Empty, Waiting, Done, Refused}
-use Rattle.gps_hub.specs.Pumping.{ClosedBy, DevicePumped, GetsInput, GoesOn, GotOne, KeepsOtherInputs, KeepsOthers, Looked, LookedAt, SessionPumped, TookInput}
+use Rattle.gps_hub.specs.Pumping.{ClosedBy, DevicePumped, GetsInput, DeviceGoesOn, GotOne, KeepsOtherInputs, KeepsOthers, Looked, LookedAt, SessionPumped, TookInput}
 
 pub none_of : {X : Type 0} (o : Option X) → false ≡ is_some o → o ≡ None
 none_of None e = refl
@@ -37,12 +37,12 @@ edge_names : (piece : Piece) (o : Option (Taking Piece)) → option_map (λ (y :
 edge_names piece None = refl
 edge_names piece (Some x) = refl
 
-one_names : (x y : Lanes) → GotOne x y → names_of y ≡ names_of x
+one_names : (x y : InletsView) → GotOne x y → names_of y ≡ names_of x
 one_names x y one =
     ⊎_elim (λ (e : y ≡ with_bytes one.0 x). ap names_of e)
     (λ (e : y ≡ with_edge one.0 x). ap names_of e ∙ (λ i. record { bytes = x.bytes.lane; edges = edge_names one.0 x.edges i })) one.1
 
-pub looked_names : (r : Pumped) (x y : Lanes) (end : Option DeviceEnd) → Looked r x y end → names_of y ≡ names_of x
+pub looked_names : (r : Pumped) (x y : InletsView) (end : Option DeviceEnd) → Looked r x y end → names_of y ≡ names_of x
 looked_names Fed x y end looked = one_names x y looked
 looked_names Empty x y end looked = ap names_of looked
 looked_names (Waiting watched) x y end looked = absurd looked
@@ -52,15 +52,15 @@ looked_names (Refused fault) x y end looked = one_names x y looked.0
 set_at : {A : Type 0} (xs : List A) (d : ℕ) (x y : A) → get_or xs d x ≡ x → y ≡ x → set xs d y ≡ xs
 set_at xs d x y here same = ap (set xs d) (same ∙ sym here) ∙ set-get_or xs d x
 
-module _ (h : HubView) (d : ℕ) (book : BookView) (x y : Lanes) (was end : Option DeviceEnd) (lt : d < length h.inlets) (ends_lt : d < length h.ends) (here : get_or h.inlets d x ≡ x) (there : get_or h.ends d was ≡ was) where
+module _ (h : HubView) (d : ℕ) (book : BookView) (x y : InletsView) (was end : Option DeviceEnd) (lt : d < length h.inlets) (ends_lt : d < length h.ends) (here : get_or h.inlets d x ≡ x) (there : get_or h.ends d was ≡ was) where
   abbrev after : HubView
   after = record h { book = book; inlets = set h.inlets d y; ends = set h.ends d end }
 
-  got_there : GotOne x y → (free : Lanes) → GotOne (get_or h.inlets d free) (get_or (set h.inlets d y) d free)
+  got_there : GotOne x y → (free : InletsView) → GotOne (get_or h.inlets d free) (get_or (set h.inlets d y) d free)
   got_there one free =
-      subst (λ (t : Lanes × Lanes). GotOne t.0 t.1) (λ i. ((sym here ∙ get_or_default h.inlets d x free lt) i, sym (get_or-set_same h.inlets d y free lt) i)) one
+      subst (λ (t : InletsView × InletsView). GotOne t.0 t.1) (λ i. ((sym here ∙ get_or_default h.inlets d x free lt) i, sym (get_or-set_same h.inlets d y free lt) i)) one
 
-  pub device_pumped : (r : Pumped) → GoesOn h d → Looked r x y end → (r ≡ Empty → (book ≡ h.book) × (end ≡ was)) → DevicePumped r d h after
+  pub device_pumped : (r : Pumped) → DeviceGoesOn h d → Looked r x y end → (r ≡ Empty → (book ≡ h.book) × (end ≡ was)) → DevicePumped r d h after
   device_pumped Fed goes looked empty = (goes, got_there looked)
   device_pumped Empty goes looked empty =
       let still = empty refl in (
@@ -88,11 +88,11 @@ module _ (h : HubView) (d : ℕ) (book : BookView) (x y : Lanes) (was end : Opti
   }
 
 -- a session that was hung up is closed for that reason
-pub hung_closed : (s : ℕ) (why : Close) (old new : BookView) → s < length old.sessions → HangsUp s why old new → (free : Attendance) → ClosedBy why (get_or new.sessions s free)
+pub hung_closed : (s : ℕ) (why : Close) (old new : BookView) → s < length old.sessions → HangsUp s why old new → (free : MemberView) → ClosedBy why (get_or new.sessions s free)
 hung_closed s why old new lt hangs free = (
   old.log.length,
-  ap (λ (l : List Attendance). (get_or l s free).session.closing) hangs.session.1
-      ∙ ap (λ (a : Attendance). a.session.closing) (get_or-set_same old.sessions s hangs.session.0 free lt ∙ (hangs.session.2 free).becomes),
+  ap (λ (l : List MemberView). (get_or l s free).session.closing) hangs.session.1
+      ∙ ap (λ (a : MemberView). a.session.closing) (get_or-set_same old.sessions s hangs.session.0 free lt ∙ (hangs.session.2 free).becomes),
 )
 
 module _ (h : HubView) (s : ℕ) (book : BookView) (x y : Taking Piece) (lt : s < length h.inputs) (there : s < length h.book.sessions) (here : get_or h.inputs s x ≡ x) where

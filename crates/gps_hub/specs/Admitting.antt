@@ -1,8 +1,8 @@
--- What an admission does, and why one is refused. This project's own.
+-- What an admission does, and why one is refused.
 use Rattle.std.specs.Prelude.{◌≡◌, ◌≤◌, ℕ, Bool, true, false, Option, Some, None, Result, Err, IfErr}
 use Rattle.gps_lane.specs.Ends.{Putting, Taking}
 use Rattle.report_book.specs.BookView.{BookView}
-use Rattle.hub_door.specs.Admissions.{Link}
+use Rattle.hub_door.specs.Admissions.{SessionLanes}
 use Rattle.report_book.specs.Moves.{Admits, ShutsAll}
 use Rattle.session_core.specs.Naming.{of_table}
 use Rattle.report_book.specs.declared.fault.BookFault.{BookFault}
@@ -14,7 +14,7 @@ ShutIf false old new = new ≡ old
 ShutIf true old new = ShutsAll old new
 
 -- a session was admitted over these lanes, and is closed at once where the book was shut before
-abbrev pub AdmitsAs : Link → Bool → BookView → BookView → Type 0
+abbrev pub AdmitsAs : SessionLanes → Bool → BookView → BookView → Type 0
 AdmitsAs link is_shut old new = (mid : BookView) × Admits (of_table link.outlet) link.cap old mid × ShutIf is_shut mid new
 
 -- this fault, where there is one, and else want of memory

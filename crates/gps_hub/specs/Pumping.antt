@@ -1,29 +1,29 @@
--- What a look at the lanes of a device or of a session answers. This project's own.
+-- What a look at the lanes of a device or of a session answers.
 use Rattle.std.specs.Prelude.{◌≡◌, ◌≢◌, ◌<◌, ◌≤◌, ◌⊎◌, ℕ, Bool, true, false, List, [], ◌∷◌, ◌++◌, count_by, get_or, slice_index_or, is_some, Option, Some, None}
-use Rattle.book_sessions.specs.Attendance.{Attendance}
+use Rattle.book_sessions.specs.MemberView.{MemberView}
 use Rattle.book_sessions.specs.Roster.{IsOpenAt, was_watched}
 use Rattle.gps_lane.specs.Ends.{Taking}
 use Rattle.report_book.specs.declared.fault.BookFault.{BookFault}
 use Rattle.report_book.specs.declared.fault.BookFault.TheVariants.{NoMemory}
 use Rattle.report_book.specs.BookView.{BookView}
-use Rattle.report_book.specs.Moves.{HangsUp, Hears}
+use Rattle.report_book.specs.Moves.{HangsUp, AnswersRequests}
 use Rattle.serve_pieces.specs.declared.piece.Piece.{Piece}
 use Rattle.serve_pieces.specs.declared.piece.Piece.TheVariants.{Bytes as BytesPiece, Line, Input, Last}
 use Rattle.session_core.specs.declared.mark.Close.{Close}
 use Rattle.session_core.specs.declared.mark.Close.TheVariants.{NoMemory as CloseNoMemory}
-use Rattle.hub_laws.specs.declared.ends.DeviceEnd.{DeviceEnd}
-use Rattle.hub_laws.specs.declared.ends.DeviceEnd.TheVariants.{NoMemory as LostNoMemory}
-use Rattle.hub_laws.specs.DaemonHub.{MayGoOn}
-use Rattle.hub_laws.specs.Given.{why_of}
-use Rattle.hub_laws.specs.Parts.{HubView, Lanes, parts_of}
-use Rattle.hub_laws.specs.Steps.{with_bytes, with_edge, with_got}
+use Rattle.hub_promise.specs.declared.ends.DeviceEnd.{DeviceEnd}
+use Rattle.hub_promise.specs.declared.ends.DeviceEnd.TheVariants.{NoMemory as LostNoMemory}
+use Rattle.hub_promise.specs.DaemonHub.{MayGoOn}
+use Rattle.hub_promise.specs.Given.{why_of}
+use Rattle.hub_promise.specs.Parts.{HubView, InletsView, parts_of}
+use Rattle.hub_promise.specs.Steps.{with_bytes, with_edge, with_got}
 use Rattle.gps_hub.specs.declared.inlets.Next.{Next}
 use Rattle.gps_hub.specs.declared.inlets.Next.TheVariants.{Nothing, Bytes, Edges}
 use Rattle.gps_hub.specs.declared.pumped.Pumped.{Pumped}
 use Rattle.gps_hub.specs.declared.pumped.Pumped.TheVariants.{Fed, Empty, Waiting, Done, Refused}
 
 -- which lane gave a piece, where one did
-abbrev pub MatchNext : Next → Lanes → Lanes → Type 0
+abbrev pub MatchNext : Next → InletsView → InletsView → Type 0
 MatchNext Nothing old new = new ≡ old
 MatchNext (Bytes piece) old new = new ≡ with_bytes piece old
 MatchNext (Edges piece) old new = (new ≡ with_edge piece old) × ((lane : Taking Piece) × (old.edges ≡ Some lane))
@@ -37,11 +37,11 @@ TookDevice Done end = ⊥
 TookDevice (Refused fault) end = (fault ≡ NoMemory) × (end ≡ Some LostNoMemory)
 
 -- one piece was got of one of its lanes
-abbrev pub GotOne : Lanes → Lanes → Type 0
+abbrev pub GotOne : InletsView → InletsView → Type 0
 GotOne x y = (piece : Piece) × ((y ≡ with_bytes piece x) ⊎ (y ≡ with_edge piece x))
 
 -- what a look at a device that goes on answers
-abbrev pub Looked : Pumped → Lanes → Lanes → Option DeviceEnd → Type 0
+abbrev pub Looked : Pumped → InletsView → InletsView → Option DeviceEnd → Type 0
 Looked Fed x y end = GotOne x y
 Looked Empty x y end = y ≡ x
 Looked (Waiting watched) x y end = ⊥
@@ -52,21 +52,21 @@ Looked (Refused fault) x y end = GotOne x y × (fault ≡ NoMemory) × (end ≡ 
 abbrev pub IsWaiting : HubView → Type 0
 IsWaiting h = (count_by was_watched h.book.sessions < h.wait) × (h.door.done ≡ false)
 
-abbrev pub GoesOn : HubView → ℕ → Type 0
-GoesOn h d = MayGoOn (parts_of h) × (get_or h.ends d None ≡ None)
+abbrev pub DeviceGoesOn : HubView → ℕ → Type 0
+DeviceGoesOn h d = MayGoOn (parts_of h) × (get_or h.ends d None ≡ None)
 
 -- Waiting exactly where devices wait; Done exactly where the device has stopped. Else a piece is got of one lane, or none is there.
 abbrev pub DevicePumped : Pumped → ℕ → HubView → HubView → Type 0
 DevicePumped (Waiting watched) d old new = IsWaiting old × (watched ≡ count_by was_watched old.book.sessions) × (new ≡ old)
 DevicePumped Done d old new = (is_some (get_or old.ends d None) ≡ true) × (new ≡ old)
-DevicePumped Empty d old new = GoesOn old d × (new ≡ old)
-DevicePumped Fed d old new = GoesOn old d × ((x : Lanes) → GotOne (get_or old.inlets d x) (get_or new.inlets d x))
+DevicePumped Empty d old new = DeviceGoesOn old d × (new ≡ old)
+DevicePumped Fed d old new = DeviceGoesOn old d × ((x : InletsView) → GotOne (get_or old.inlets d x) (get_or new.inlets d x))
 DevicePumped (Refused fault) d old new =
-    GoesOn old d × ((x : Lanes) → GotOne (get_or old.inlets d x) (get_or new.inlets d x)) × (fault ≡ NoMemory) × (get_or new.ends d None ≡ Some LostNoMemory)
+    DeviceGoesOn old d × ((x : InletsView) → GotOne (get_or old.inlets d x) (get_or new.inlets d x)) × (fault ≡ NoMemory) × (get_or new.ends d None ≡ Some LostNoMemory)
 
 -- a look at a device changes nothing but the book and what belongs to this device
 pub record KeepsOthers (d : ℕ) (old new : HubView) : Type 0 where
-  pub inlets : (e : ℕ) (x : Lanes) → e ≢ d → get_or new.inlets e x ≡ get_or old.inlets e x
+  pub inlets : (e : ℕ) (x : InletsView) → e ≢ d → get_or new.inlets e x ≡ get_or old.inlets e x
   pub ends : (e : ℕ) (end : Option DeviceEnd) → e ≢ d → get_or new.ends e end ≡ get_or old.ends e end
   pub same : new ≡ record old { book = new.book; inlets = new.inlets; ends = new.ends }
 
@@ -75,14 +75,14 @@ abbrev pub GotInput : Taking Piece → Taking Piece → Type 0
 GotInput x y = (piece : Piece) × (y ≡ with_got piece x)
 
 -- a session was closed for this reason
-abbrev pub ClosedBy : Close → Attendance → Type 0
+abbrev pub ClosedBy : Close → MemberView → Type 0
 ClosedBy why a = (place : ℕ) × (a.session.closing ≡ Some (place, why))
 
 -- what a piece of a session's input does to the book: the requests that it ends are answered, and the last piece hangs the session up
 abbrev pub Hearing : Piece → ℕ → BookView → BookView → Type 0
 Hearing (BytesPiece at bytes) s old new = new ≡ old
 Hearing (Line line) s old new = new ≡ old
-Hearing (Input bytes) s old new = Hears false s bytes old new
+Hearing (Input bytes) s old new = AnswersRequests false s bytes old new
 Hearing (Last ending) s old new = HangsUp s (why_of ending) old new
 
 -- what became of a piece of a session's input: of one that was refused no request is answered, and it has closed the session
@@ -103,7 +103,7 @@ LookedAt (Refused fault) x y s old new = GotInput x y × (fault ≡ NoMemory) ×
 
 -- a session is closed
 abbrev pub IsClosedAt : HubView → ℕ → Type 0
-IsClosedAt h s = (free : Attendance) → is_some (slice_index_or h.book.sessions s free).session.closing ≡ true
+IsClosedAt h s = (free : MemberView) → is_some (slice_index_or h.book.sessions s free).session.closing ≡ true
 
 abbrev pub IsOpenIn : HubView → ℕ → Type 0
 IsOpenIn h s = IsOpenAt s h.book.sessions
@@ -121,7 +121,7 @@ SessionPumped Empty s old new = IsOpenIn old s × (new ≡ old)
 SessionPumped Fed s old new = IsOpenIn old s × ((piece : Piece) × GetsInput piece s old new × Hearing piece s old.book new.book)
 SessionPumped (Refused fault) s old new =
     IsOpenIn old s × ((piece : Piece) × GetsInput piece s old new) × (fault ≡ NoMemory) × HangsUp s CloseNoMemory old.book new.book
-    × ((free : Attendance) → ClosedBy CloseNoMemory (slice_index_or new.book.sessions s free))
+    × ((free : MemberView) → ClosedBy CloseNoMemory (slice_index_or new.book.sessions s free))
 
 -- a look at a session changes nothing but the book and this session's lane
 pub record KeepsOtherInputs (s : ℕ) (old new : HubView) : Type 0 where

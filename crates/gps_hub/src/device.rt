@@ -4,13 +4,13 @@ ghost use Rattle.book_log.specs.Entries.{lost};
 ghost use Rattle.gps_lane.specs.Ends.{Taking};
 ghost use Rattle.report_book.specs.Moves.{AddsQuietly, Earns};
 ghost use Rattle.report_book.specs.Refusals.{device_fault};
-ghost use Rattle.report_book.specs.Standing.{Holds};
+ghost use Rattle.report_book.specs.Standing.{BookHolds};
 ghost use Rattle.report_book.specs.declared.fault.BookFault.TheVariants.{NoMemory as BookNoMemory};
 ghost use Rattle.serve_pieces.specs.declared.piece.Piece.TheVariants.{Bytes, Line, Last};
-ghost use Rattle.hub_laws.specs.Given.{end_by, end_of as end_value};
-ghost use Rattle.hub_laws.specs.Keeping.{Lasts as LastsView};
-ghost use Rattle.hub_laws.specs.Parts.{Lanes};
-ghost use Rattle.hub_laws.specs.Steps.{DeviceStep, MovesOn, stop_entries, with_bytes, with_edge};
+ghost use Rattle.hub_promise.specs.Given.{end_by, end_of as end_value};
+ghost use Rattle.hub_promise.specs.Keeping.{Lasts as LastsView};
+ghost use Rattle.hub_promise.specs.Parts.{InletsView};
+ghost use Rattle.hub_promise.specs.Steps.{DeviceStep, MovesOn, stop_entries, with_bytes, with_edge};
 ghost use Rattle.gps_hub.specs.Pumping.{Looked, TookDevice};
 ghost use Rattle.pps_edges.specs.Scan.{edge_in};
 
@@ -19,7 +19,7 @@ use crate::pumped::Pumped;
 use gps_fixed::Stamp;
 use gps_lane::Tx;
 use gps_report::Edge;
-use hub_laws::DeviceEnd;
+use hub_promise::DeviceEnd;
 use pps_edges::edge_of_line;
 use report_book::{Book, BookFault};
 use serve_pieces::{Chunk, Ending, Piece, ShortLine};
@@ -134,7 +134,7 @@ fn feed<R: Wait + Copy>(
 ) -> Pumped
     requires runs { device_fault book.old d ≡ None }
     requires going { end.old ≡ None }
-    ensures step { (x : Lanes) (lasts : LastsView) → DeviceStep d book.old book.new x (with_bytes (Bytes at bytes.now) x) end.old end.new lasts lasts }
+    ensures step { (x : InletsView) (lasts : LastsView) → DeviceStep d book.old book.new x (with_bytes (Bytes at bytes.now) x) end.old end.new lasts lasts }
     ensures answer { TookDevice result end.new }
 {
     book.show();
@@ -153,7 +153,7 @@ fn bytes_end<R: Wait + Copy>(
 ) -> Pumped
     requires runs { device_fault book.old d ≡ None }
     requires going { end.old ≡ None }
-    ensures step { (x : Lanes) → DeviceStep d book.old book.new x (with_bytes (Last ending) x) end.old end.new lasts.old lasts.new }
+    ensures step { (x : InletsView) → DeviceStep d book.old book.new x (with_bytes (Last ending) x) end.old end.new lasts.old lasts.new }
     ensures answer { TookDevice result end.new }
 {
     match stop(book, d, Some(ending), lasts.edges) {
@@ -176,7 +176,7 @@ fn take_bytes<R: Wait + Copy>(
 ) -> Pumped
     requires runs { device_fault book.old d ≡ None }
     requires going { end.old ≡ None }
-    ensures step { (x : Lanes) → DeviceStep d book.old book.new x (with_bytes piece x) end.old end.new lasts.old lasts.new }
+    ensures step { (x : InletsView) → DeviceStep d book.old book.new x (with_bytes piece x) end.old end.new lasts.old lasts.new }
     ensures answer { TookDevice result end.new }
 {
     match piece {
@@ -195,7 +195,7 @@ fn edge<R: Wait + Copy>(
 ) -> Pumped
     requires runs { device_fault book.old d ≡ None }
     requires going { end.old ≡ None }
-    ensures step { (line : List ℕ) (x : Lanes) (lane : Taking Piece) (lasts : LastsView) → Some edge ≡ edge_in line → x.edges ≡ Some lane
+    ensures step { (line : List ℕ) (x : InletsView) (lane : Taking Piece) (lasts : LastsView) → Some edge ≡ edge_in line → x.edges ≡ Some lane
         → DeviceStep d book.old book.new x (with_edge (Line line) x) end.old end.new lasts lasts }
     ensures answer { TookDevice result end.new }
 {
@@ -222,7 +222,8 @@ fn edges_end<R: Wait + Copy>(
 ) -> Pumped
     requires runs { device_fault book.old d ≡ None }
     requires going { end.old ≡ None }
-    ensures step { (x : Lanes) (lane : Taking Piece) → x.edges ≡ Some lane → DeviceStep d book.old book.new x (with_edge (Last ending) x) end.old end.new lasts.old lasts.new }
+    ensures step { (x : InletsView) (lane : Taking Piece) → x.edges ≡ Some lane
+        → DeviceStep d book.old book.new x (with_edge (Last ending) x) end.old end.new lasts.old lasts.new }
     ensures answer { TookDevice result end.new }
 {
     match stop(book, d, lasts.bytes, Some(ending)) {
@@ -243,7 +244,8 @@ fn line<R: Wait + Copy>(
 ) -> Pumped
     requires runs { device_fault book.old d ≡ None }
     requires going { end.old ≡ None }
-    ensures step { (x : Lanes) (lane : Taking Piece) (lasts : LastsView) → x.edges ≡ Some lane → DeviceStep d book.old book.new x (with_edge (Line line.now) x) end.old end.new lasts lasts }
+    ensures step { (x : InletsView) (lane : Taking Piece) (lasts : LastsView) → x.edges ≡ Some lane
+        → DeviceStep d book.old book.new x (with_edge (Line line.now) x) end.old end.new lasts lasts }
     ensures answer { TookDevice result end.new }
 {
     match read_edge(line) {
@@ -262,7 +264,8 @@ fn take_edge<R: Wait + Copy>(
 ) -> Pumped
     requires runs { device_fault book.old d ≡ None }
     requires going { end.old ≡ None }
-    ensures step { (x : Lanes) (lane : Taking Piece) → x.edges ≡ Some lane → DeviceStep d book.old book.new x (with_edge piece x) end.old end.new lasts.old lasts.new }
+    ensures step { (x : InletsView) (lane : Taking Piece) → x.edges ≡ Some lane
+        → DeviceStep d book.old book.new x (with_edge piece x) end.old end.new lasts.old lasts.new }
     ensures answer { TookDevice result end.new }
 {
     match piece {

@@ -6,11 +6,11 @@ ghost use Rattle.hub_door.specs.Admissions.{finished};
 ghost use Rattle.report_book.specs.BookView.{BookView};
 ghost use Rattle.report_book.specs.Moves.{Admits};
 ghost use Rattle.report_book.specs.Refusals.{RefusesWith, crowd_fault};
-ghost use Rattle.report_book.specs.Standing.{Holds as BookHolds};
+ghost use Rattle.report_book.specs.Standing.{BookHolds};
 ghost use Rattle.session_core.specs.Naming.{of_table};
 ghost use Rattle.gps_hub.specs.Admitting.{ShutIf, fault_or_memory};
 
-use crate::watching::Watching;
+use crate::open_sessions::OpenSessions;
 use gps_fixed::NoMemory;
 use gps_lane::{Rx, Tx};
 use hub_door::{DoorNaming, DoorSeat, Keeper};
@@ -70,13 +70,13 @@ fn shut_if<R: Wait + Copy>(book: &mut Book<Tx<Item, R>>, is_shut: bool)
 /// Takes room for one more session.
 pub(crate) fn take_room<R>(
     inputs: &mut Vec<Rx<Piece, R>>,
-    watching: &mut Watching,
+    open_sessions: &mut OpenSessions,
 ) -> Result<(), NoMemory>
     ensures items { inputs.new.items ≡ inputs.old.items }
     ensures room { OnOk result (vec_len inputs.new < vec_capacity inputs.new) }
 {
     inputs.reserve(1)?;
-    watching.reserve()
+    open_sessions.reserve()
 }
 
 /// Why no session may be admitted now: by the numbers of the book, or for want of memory.

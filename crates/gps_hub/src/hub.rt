@@ -3,14 +3,14 @@ ghost use Rattle.std.specs.List.{All, list_all};
 ghost use Rattle.std.specs.Option.{option_to_list};
 ghost use Rattle.book_log.specs.Standing.{has_stopped};
 ghost use Rattle.book_sessions.specs.Roster.{was_watched};
-ghost use Rattle.hub_door.specs.Admissions.{Link, admitting, finished, link_of};
+ghost use Rattle.hub_door.specs.Admissions.{SessionLanes, admitting, finished, link_of};
 ghost use Rattle.report_book.specs.Moves.{PublishesAt, ShutsAll};
 ghost use Rattle.report_book.specs.Refusals.{crowd_fault};
-ghost use Rattle.report_book.specs.Standing.{Holds as BookHolds};
-ghost use Rattle.hub_laws.specs.DaemonHub.{DaemonHub, MayGoOn};
-ghost use Rattle.hub_laws.specs.Given.{TellsOnce};
-ghost use Rattle.hub_laws.specs.Keeping.{IsClosed, IsUnused, NothingGot};
-ghost use Rattle.hub_laws.specs.Parts.{AreAdmitted, parts_of, terms_of};
+ghost use Rattle.report_book.specs.Standing.{BookHolds};
+ghost use Rattle.hub_promise.specs.DaemonHub.{DaemonHub, MayGoOn};
+ghost use Rattle.hub_promise.specs.Given.{TellsOnce};
+ghost use Rattle.hub_promise.specs.Keeping.{IsClosed, IsUnused, NothingGot};
+ghost use Rattle.hub_promise.specs.Parts.{AreAdmitted, parts_of, terms_of};
 ghost use Rattle.gps_hub.specs.Admitting.{AdmitsAs, IsCrowded, RefusesLink};
 ghost use Rattle.gps_hub.specs.Emptied.{GotAllOrOpen};
 ghost use Rattle.gps_hub.specs.Pumping.{DevicePumped, IsWaiting, KeepsOtherInputs, KeepsOthers, SessionPumped};
@@ -19,14 +19,14 @@ use crate::device::pump as pump_device;
 use crate::door::{finish, open, refusal_of, take_room};
 use crate::inlets::{Inlets, Lasts, lasts_of, no_ends};
 use crate::naming::HubNaming;
+use crate::open_sessions::{Look, OpenSessions};
 use crate::parted::Parted;
 use crate::pumped::Pumped;
 use crate::session::pump as pump_session;
 use crate::settling::{empty, next_item};
-use crate::watching::{Look, Watching};
 use gps_lane::{Rx, Tx};
 use hub_door::{DoorSeat, DoorTable, Keeper};
-use hub_laws::DeviceEnd;
+use hub_promise::DeviceEnd;
 use report_book::{Book, BookFault, UnitStep};
 use serve_pieces::Piece;
 use session_core::Item;
@@ -45,7 +45,7 @@ pub struct Hub<J: HubNaming, R: Wait + Copy> {
     ends: Vec<Option<DeviceEnd>>,
     inputs: Vec<Rx<Piece, R>>,
     keeper: Keeper<J>,
-    watching: Watching,
+    open_sessions: OpenSessions,
     is_done: bool,
     is_shut: bool,
     wait: u32,
@@ -53,8 +53,8 @@ pub struct Hub<J: HubNaming, R: Wait + Copy> {
 
 impl<J: HubNaming, R: Wait + Copy> Model for Hub<J, R> {
     ghost use Rattle.std.specs.Prelude.{◌≡◌};
-    ghost use Rattle.hub_laws.specs.Keeping.{HubKeeps};
-    ghost use Rattle.hub_laws.specs.Parts.{HubView};
+    ghost use Rattle.hub_promise.specs.Keeping.{HubKeeps};
+    ghost use Rattle.hub_promise.specs.Parts.{HubView};
 
     ghost Value = { HubView };
 
@@ -114,7 +114,7 @@ impl<J: HubNaming, R: Wait + Copy> Hub<J, R> {
             ends,
             inputs: Vec::new(alloc),
             keeper,
-            watching: Watching::new(alloc),
+            open_sessions: OpenSessions::new(alloc),
             is_done: false,
             is_shut: false,
             wait,
@@ -206,7 +206,13 @@ impl<J: HubNaming, R: Wait + Copy> Hub<J, R> {
         ensures number { IfOk result (λ s. s ≡ length door.old.links) }
         ensures door { OnOk result (door.new ≡ admitting (link_of outlet.lane outlet.cap input.lane) door.old) }
         ensures admits { IfOk result (λ _. AdmitsAs (link_of outlet.lane outlet.cap input.lane) self.old.is_shut self.old.book self.new.book) }
-        ensures changes { OnOk result (self.new ≡ record self.old { book = self.new.book; inputs = self.old.inputs ++ input ∷ []; door = admitting (link_of outlet.lane outlet.cap input.lane) self.old.door }) }
+        ensures changes { OnOk result (self.new
+            ≡ record self.old {
+              book = self.new.book;
+              inputs = self.old.inputs
+                  ++ input ∷ [];
+              door = admitting (link_of outlet.lane outlet.cap input.lane) self.old.door;
+            }) }
         ensures refusal { RefusesLink (crowd_fault self.old.book) result }
         ensures outlet { IfErr result (λ r. r.0 ≡ outlet) }
         ensures input { IfErr result (λ r. r.1 ≡ input) }
@@ -214,7 +220,7 @@ impl<J: HubNaming, R: Wait + Copy> Hub<J, R> {
         ensures same_door { OnErr result (door.new ≡ door.old) }
         ensures crowded { IfErr result (λ r. IsCrowded r.2 (length door.old.links)) }
     {
-        let Ok(()) = take_room(&mut self.inputs, &mut self.watching) else {
+        let Ok(()) = take_room(&mut self.inputs, &mut self.open_sessions) else {
             self.keeper.agree(door);
             let fault = refusal_of(&self.book);
             return Err((outlet, input, fault));
@@ -225,7 +231,7 @@ impl<J: HubNaming, R: Wait + Copy> Hub<J, R> {
                 self.book.show();
                 self.inputs.push_reserved(input);
                 self.keeper.admit(door, lanes.0, lanes.1);
-                self.watching.add(s);
+                self.open_sessions.add(s);
                 Ok(s)
             }
             Err((outlet, fault)) => {
@@ -261,7 +267,7 @@ impl<J: HubNaming, R: Wait + Copy> Hub<J, R> {
         items: &mut Rx<Item, R>,
     ) -> Option<Item>
         requires there { s < length door.old.links }
-        requires outlet { (free : Link) → items.old.lane ≡ (get_or door.old.links s free).outlet }
+        requires outlet { (free : SessionLanes) → items.old.lane ≡ (get_or door.old.links s free).outlet }
         ensures hub { self.new ≡ self.old }
         ensures door { door.new ≡ door.old }
         ensures items { items.new ≡ record items.old { got = items.old.got ++ option_to_list result } }
@@ -278,7 +284,7 @@ impl<J: HubNaming, R: Wait + Copy> Hub<J, R> {
     /// changes where the session is not closed.
     pub fn settle_input(&mut self, door: &mut DoorSeat<J>, s: u32, pieces: &mut Tx<Piece, R>)
         requires there { s < length door.old.links }
-        requires input { (free : Link) → pieces.old.lane ≡ (get_or door.old.links s free).input }
+        requires input { (free : SessionLanes) → pieces.old.lane ≡ (get_or door.old.links s free).input }
         requires once { TellsOnce pieces.old.put }
         ensures hub { self.new ≡ record self.old { inputs = self.new.inputs } }
         ensures others { KeepsOtherInputs s self.old self.new }
@@ -319,12 +325,19 @@ impl<J: HubNaming, R: Wait + Copy> Hub<J, R> {
         ensures session { IfSome result (λ look. look.session < length self.old.inputs) }
         ensures unchanged { self.new ≡ self.old }
     {
-        self.watching.look(&self.book, place)
+        self.open_sessions.look(&self.book, place)
     }
 
     /// Takes the hub apart, once the door's worker is done. Takes no memory.
     pub fn part(mut self, mut door: DoorSeat<J>) -> Parted<R>
-        ensures agrees { DaemonHub (record { book = result.book; inlets = result.inlets.items; ends = result.ends.items; inputs = result.sessions.items; done = door.done; wait = J.terms.wait }) }
+        ensures agrees { DaemonHub (record {
+          book = result.book;
+          inlets = result.inlets.items;
+          ends = result.ends.items;
+          inputs = result.sessions.items;
+          done = door.done;
+          wait = J.terms.wait;
+        }) }
         ensures terms { terms_of result.book result.inlets.items J.terms.wait ≡ J.terms }
         ensures sessions { AreAdmitted door.links result.book.sessions result.sessions.items }
         ensures holds { BookHolds result.book }
@@ -338,7 +351,7 @@ impl<J: HubNaming, R: Wait + Copy> Hub<J, R> {
             ends,
             inputs,
             keeper: _,
-            watching: _,
+            open_sessions: _,
             is_done: _,
             is_shut: _,
             wait: _,

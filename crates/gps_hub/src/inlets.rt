@@ -1,10 +1,10 @@
 ghost use Rattle.std.specs.Prelude.{◌≡◌, IfOk, map};
-ghost use Rattle.hub_laws.specs.Keeping.{fresh_lasts, no_end};
+ghost use Rattle.hub_promise.specs.Keeping.{fresh_lasts, no_end};
 ghost use Rattle.gps_hub.specs.Pumping.{MatchNext};
 
 use gps_fixed::NoMemory;
 use gps_lane::Rx;
-use hub_laws::DeviceEnd;
+use hub_promise::DeviceEnd;
 use serve_pieces::{Ending, Piece};
 use std::alloc::Global;
 use std::marker::Model;
@@ -18,9 +18,9 @@ pub struct Inlets<R> {
 }
 
 impl<R> Model for Inlets<R> {
-    ghost use Rattle.hub_laws.specs.Parts.{Lanes};
+    ghost use Rattle.hub_promise.specs.Parts.{InletsView};
 
-    ghost Value = { Lanes };
+    ghost Value = { InletsView };
 
     ghost view = { λ x. record { bytes = x.bytes; edges = x.edges } };
 }
@@ -34,7 +34,7 @@ pub(crate) struct Lasts {
 }
 
 impl Model for Lasts {
-    ghost use Rattle.hub_laws.specs.Keeping.{Lasts};
+    ghost use Rattle.hub_promise.specs.Keeping.{Lasts};
 
     ghost Value = { Lasts };
 

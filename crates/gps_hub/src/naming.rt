@@ -3,7 +3,7 @@ use std::marker::Brand;
 
 /// What no call of a hub changes, and so what is known of it while it stands behind its lock. A call picks it.
 pub trait HubNaming: DoorNaming {
-    ghost use Rattle.hub_laws.specs.Parts.{Terms};
+    ghost use Rattle.hub_promise.specs.Parts.{Terms};
 
     ghost terms: { Terms };
 }

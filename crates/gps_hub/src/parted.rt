@@ -1,6 +1,6 @@
 use crate::inlets::Inlets;
 use gps_lane::{Rx, Tx};
-use hub_laws::DeviceEnd;
+use hub_promise::DeviceEnd;
 use report_book::Book;
 use serve_pieces::Piece;
 use session_core::Item;

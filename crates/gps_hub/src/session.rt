@@ -7,8 +7,8 @@ ghost use Rattle.report_book.specs.Refusals.{session_fault};
 ghost use Rattle.report_book.specs.declared.fault.BookFault.TheVariants.{NoMemory as BookNoMemory};
 ghost use Rattle.serve_pieces.specs.declared.piece.Piece.TheVariants.{Input, Last};
 ghost use Rattle.session_core.specs.declared.mark.Close.{Close as CloseValue};
-ghost use Rattle.hub_laws.specs.Steps.{SessionStep, with_got};
-ghost use Rattle.hub_laws.specs.Given.{why_of};
+ghost use Rattle.hub_promise.specs.Steps.{SessionStep, with_got};
+ghost use Rattle.hub_promise.specs.Given.{why_of};
 ghost use Rattle.gps_hub.specs.Pumping.{LookedAt, TookInput};
 
 use crate::pumped::Pumped;

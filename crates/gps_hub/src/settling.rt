@@ -1,10 +1,10 @@
 // Both ends of a closed session's lanes meet.
 ghost use Rattle.std.specs.Prelude.{◌≡◌, ◌<◌, ◌++◌, length, get_or, IfNone};
 ghost use Rattle.std.specs.Option.{option_to_list};
-ghost use Rattle.book_sessions.specs.Attendance.{Attendance};
+ghost use Rattle.book_sessions.specs.MemberView.{MemberView};
 ghost use Rattle.session_core.specs.Naming.{of_table};
-ghost use Rattle.hub_laws.specs.Given.{TellsOnce};
-ghost use Rattle.hub_laws.specs.Steps.{GetsMore};
+ghost use Rattle.hub_promise.specs.Given.{TellsOnce};
+ghost use Rattle.hub_promise.specs.Steps.{GetsMore};
 ghost use Rattle.gps_hub.specs.Emptied.{GotAll};
 
 use gps_lane::{Rx, Tx, settle};
@@ -17,14 +17,14 @@ use std::sync::Wait;
 const PIECES: u32 = 64;
 
 /// Gets the next item of a session's outlet, where there is one.
-#[tactic(auto, using(hub_laws::proofs::Settling::settles, hub_laws::proofs::Settling::far_end))]
+#[tactic(auto, using(hub_promise::proofs::Settling::settles, hub_promise::proofs::Settling::far_end))]
 pub(crate) fn next_item<R: Wait + Copy>(
     book: &mut Book<Tx<Item, R>>,
     s: u32,
     items: &mut Rx<Item, R>,
 ) -> Option<Item>
     requires there { s < length book.old.sessions }
-    requires outlet { (free : Attendance) → of_table items.old.lane ≡ (get_or book.old.sessions s free).session.name }
+    requires outlet { (free : MemberView) → of_table items.old.lane ≡ (get_or book.old.sessions s free).session.name }
     ensures book { book.new ≡ book.old }
     ensures items { items.new ≡ record items.old { got = items.old.got ++ option_to_list result } }
     ensures all { IfNone result (GotAll s book.new items.new) }

@@ -4,27 +4,27 @@ use mathlib.Core.Option.{some, some-ne-none}
 use lib.ListN.{get_elem?}
 use Rattle.crossbeam_queue.specs.Fifo.{Held, Pushes, Pops, Forks, Merges, Learns}
 use Rattle.crossbeam_queue.proofs.Lists.{at_set, at_snoc}
-use Rattle.gps_lane.specs.declared.order.Log.{Log}
+use Rattle.gps_lane.specs.declared.order.LaneLog.{LaneLog}
 use Rattle.gps_lane.specs.Lane.{log, AllFit, BeginsWith, EndsWith, Fits, IsInOrder}
 
 -- what an end of a queue knows
 abbrev Items : Type 0 → Type 0
-Items T = Log (List T)
+Items T = LaneLog (List T)
 
 module _ {X : Type 0} where
-  at_end : (l : List (Log X)) (a b : Log X) (j : ℕ) → get_elem? l j ≢ some b → get_elem? (l ++ a ∷ []) j ≡ some b → j ≡ length l
+  at_end : (l : List (LaneLog X)) (a b : LaneLog X) (j : ℕ) → get_elem? l j ≢ some b → get_elem? (l ++ a ∷ []) j ≡ some b → j ≡ length l
   at_end [] a b zero n e = refl
   at_end [] a b (suc j) n e = absurd (some-ne-none b (sym e))
   at_end (x ∷ xs) a b zero n e = absurd (n e)
   at_end (x ∷ xs) a b (suc j) n e = ap suc (at_end xs a b j n e)
 
-  abbrev pub All : (ℕ → Log X → Type 0) → List (Log X) → Type 0
-  All F views = (end : ℕ) (v : Log X) → get_elem? views end ≡ some v → F end v
+  abbrev pub All : (ℕ → LaneLog X → Type 0) → List (LaneLog X) → Type 0
+  All F views = (end : ℕ) (v : LaneLog X) → get_elem? views end ≡ some v → F end v
 
-  pub all_set : (F : ℕ → Log X → Type 0) (views : List (Log X)) (end : ℕ) (w : Log X) → F end w
-      → ((j : ℕ) (u : Log X) → j ≢ end → get_elem? views j ≡ some u → F j u) → All F (set views end w)
+  pub all_set : (F : ℕ → LaneLog X → Type 0) (views : List (LaneLog X)) (end : ℕ) (w : LaneLog X) → F end w
+      → ((j : ℕ) (u : LaneLog X) → j ≢ end → get_elem? views j ≡ some u → F j u) → All F (set views end w)
   all_set F views end w mine others j u e =
-      ⊎_elim (λ (x : (j ≡ end) × (w ≡ u)). subst (λ (y : ℕ × Log X). F y.0 y.1) (λ i. (sym x.0 i, x.1 i)) mine)
+      ⊎_elim (λ (x : (j ≡ end) × (w ≡ u)). subst (λ (y : ℕ × LaneLog X). F y.0 y.1) (λ i. (sym x.0 i, x.1 i)) mine)
       (λ (x : (j ≢ end) × (get_elem? views j ≡ some u)). others j u x.0 x.1) (at_set views end j w u e)
 
   -- one end alone
@@ -34,37 +34,37 @@ module _ {X : Type 0} where
       (λ j u other e. absurd (other (at_end [] _ u j (λ x. some-ne-none u (sym x)) e)))
 
   -- the role of getting passes to a new end
-  pub parted : (writer reader : ℕ) (put got : X) (views : List (Log X)) (end : ℕ) (v : Log X) (x y : X)
+  pub parted : (writer reader : ℕ) (put got : X) (views : List (LaneLog X)) (end : ℕ) (v : LaneLog X) (x y : X)
       → v.gets ≡ true → AllFit writer reader put got views → get_elem? views end ≡ some v
       → AllFit writer (length (set views end (log v.puts false v.put x))) put got (set views end (log v.puts false v.put x) ++ log false true y v.got ∷ [])
   parted writer reader put got views end v x y may fits at =
-      let l : Log X = log v.puts false v.put x in
-      let r : Log X = log false true y v.got in
+      let l : LaneLog X = log v.puts false v.put x in
+      let r : LaneLog X = log false true y v.got in
       let mine = fits end v at in
-      let vs : List (Log X) = set views end l in
-      let Old : ℕ → Log X → Type 0 = λ j u. (u.puts ≡ true → (j ≡ writer) × (u.put ≡ put)) × (u.gets ≢ true) in
+      let vs : List (LaneLog X) = set views end l in
+      let Old : ℕ → LaneLog X → Type 0 = λ j u. (u.puts ≡ true → (j ≡ writer) × (u.put ≡ put)) × (u.gets ≢ true) in
       let old : All Old vs =
       all_set Old views end l (mine.0, λ p. true≢false (sym p))
       (λ j u other e. ((fits j u e).0, λ p. other (((fits j u e).1 p).0 ∙ sym (mine.1 may).0))) in
       λ j u e. ⊎_elim (λ found. ((old j u found).0, λ p. absurd ((old j u found).1 p)))
       (λ (is : r ≡ u). (
-        (λ p. absurd (true≢false (sym (ap (λ (z : Log X). z.puts) is ∙ p)))),
-        λ p. (at_end vs r u j (λ found. (old j u found).1 p) e, ap (λ (z : Log X). z.got) (sym is) ∙ (mine.1 may).1),
+        (λ p. absurd (true≢false (sym (ap (λ (z : LaneLog X). z.puts) is ∙ p)))),
+        λ p. (at_end vs r u j (λ found. (old j u found).1 p) e, ap (λ (z : LaneLog X). z.got) (sym is) ∙ (mine.1 may).1),
       ))
       (at_snoc vs r u j e)
 
   -- and from another end to this one
-  pub joined : (writer reader : ℕ) (put got : X) (views : List (Log X)) (end : ℕ) (v : Log X) (other : ℕ) (u : Log X) (x y : X)
+  pub joined : (writer reader : ℕ) (put got : X) (views : List (LaneLog X)) (end : ℕ) (v : LaneLog X) (other : ℕ) (u : LaneLog X) (x y : X)
       → u.gets ≡ true → AllFit writer reader put got views → get_elem? views end ≡ some v → ¬ (other ≡ end)
       → get_elem? (set views end (log v.puts true v.put u.got)) other ≡ some u
       → AllFit writer end put got (set (set views end (log v.puts true v.put u.got)) other (log false false x y))
   joined writer reader put got views end v other u x y may fits at two at' =
-      let both : Log X = log v.puts true v.put u.got in
+      let both : LaneLog X = log v.puts true v.put u.got in
       let mine = fits end v at in
-      let vs : List (Log X) = set views end both in
+      let vs : List (LaneLog X) = set views end both in
       let was : get_elem? views other ≡ some u = ⊎_elim (λ found. absurd (two found.0)) (λ found. found.1) (at_set views end other both u at') in
       let theirs = (fits other u was).1 may in
-      let Now : ℕ → Log X → Type 0 = λ j z. j ≢ other → Fits writer end put got j z in
+      let Now : ℕ → LaneLog X → Type 0 = λ j z. j ≢ other → Fits writer end put got j z in
       let now : All Now vs =
       all_set Now views end both (λ _. (mine.0, λ _. (refl, theirs.1)))
       (λ j z _ e apart. ((fits j z e).0, λ p. absurd (apart (((fits j z e).1 p).0 ∙ sym theirs.0)))) in
@@ -72,7 +72,7 @@ module _ {X : Type 0} where
       (λ j z apart e. now j z e apart)
 
   -- an end that has both roles knows something else from now on
-  pub tied : (writer reader : ℕ) (put got : X) (views : List (Log X)) (end : ℕ) (v : Log X) (x : X)
+  pub tied : (writer reader : ℕ) (put got : X) (views : List (LaneLog X)) (end : ℕ) (v : LaneLog X) (x : X)
       → v.puts ≡ true → v.gets ≡ true → AllFit writer reader put got views → get_elem? views end ≡ some v
       → AllFit end end x x (set views end (log true true x x))
   tied writer reader put got views end v x puts gets fits at =

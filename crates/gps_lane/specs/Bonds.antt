@@ -1,10 +1,10 @@
 -- What both ends of a lane know of it in common: which queue it goes through, and once they have let go of this queue, all that went through
--- it. Each end has a seat of one table, by which the two agree. This project's own.
+-- it. Each end has a seat of one table, by which the two agree.
 use Rattle.std.specs.Prelude.{◌≡◌, ℕ, true, false, List, [], Option, Some, None}
 use Rattle.atomic_table.specs.Seated.{TableId}
 use Rattle.atomic_table.specs.Table.{Me, State}
 use Rattle.gps_lane.specs.declared.bond.Bond.{Bond}
-use Rattle.gps_lane.specs.declared.order.Log.{Log}
+use Rattle.gps_lane.specs.declared.order.LaneLog.{LaneLog}
 use Rattle.gps_lane.specs.declared.table_name.TableName.{TableName}
 use Rattle.gps_lane.specs.Lane.{AllFit, log}
 
@@ -29,22 +29,22 @@ abbrev pub no_bond : {T : Type 0} → Bond T
 no_bond = open_over (record { words = 0; slots = 0; views_name = 0; atom = 0; block = 0; offset = 0; slot_names = [] })
 
 -- the seat of the end that puts, of the end that gets, and of both at once
-abbrev pub putting : {T : Type 0} → Bond T → Log (Bond T)
+abbrev pub putting : {T : Type 0} → Bond T → LaneLog (Bond T)
 putting bond = log true false bond bond
 
-abbrev pub getting : {T : Type 0} → Bond T → Log (Bond T)
+abbrev pub getting : {T : Type 0} → Bond T → LaneLog (Bond T)
 getting bond = log false true bond bond
 
-abbrev pub both_ends : {T : Type 0} → Bond T → Bond T → Log (Bond T)
+abbrev pub both_ends : {T : Type 0} → Bond T → Bond T → LaneLog (Bond T)
 both_ends put got = log true true put got
 
 -- it is a seat of this table, and knows this
-abbrev pub IsSeat : {T : Type 0} → TableId → TableId → Me (Unit {0}) (Log (Bond T)) → Log (Bond T) → Type 0
+abbrev pub IsSeat : {T : Type 0} → TableId → TableId → Me (Unit {0}) (LaneLog (Bond T)) → LaneLog (Bond T) → Type 0
 IsSeat table at me view = (at ≡ table) × (me ≡ (view, []))
 
 -- each end knows the same of the lane
-abbrev pub Agrees : {T : Type 0} → List (Log (Bond T)) → Type 0
+abbrev pub Agrees : {T : Type 0} → List (LaneLog (Bond T)) → Type 0
 Agrees {T} views = (writer : ℕ) × (reader : ℕ) × (bond : Bond T) × AllFit writer reader bond bond views
 
-abbrev pub AgreesOf : {T : Type 0} → State (Unit {0}) (Log (Bond T)) → Type 0
+abbrev pub AgreesOf : {T : Type 0} → State (Unit {0}) (LaneLog (Bond T)) → Type 0
 AgreesOf state = Agrees state.views

@@ -1,4 +1,4 @@
--- The two ends of a lane, as contracts see them. This project's own.
+-- The two ends of a lane, as contracts see them.
 use Rattle.std.specs.Prelude.{ℕ, List}
 use Rattle.atomic_table.specs.Seated.{TableId}
 use Rattle.gps_lane.specs.declared.ends.Pushed.{Pushed}

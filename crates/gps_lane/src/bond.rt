@@ -2,7 +2,7 @@
 ghost use Rattle.std.specs.Prelude.{◌≡◌, IfOk};
 ghost use Rattle.gps_lane.specs.Bonds.{IsSeat, both_ends, getting, let_go, open_over, putting};
 
-use crate::order::{LanePass, Log};
+use crate::order::{LaneLog, LanePass};
 use crate::table_name::TableName;
 use atomic_table::{Join, Play, Seat, Split, Table, TableRule};
 use gps_fixed::NoMemory;
@@ -21,7 +21,7 @@ pub struct Bond<T> {
 /// The rule of the table: each end knows the same.
 pub struct Agreed;
 
-impl<T> TableRule<(), Log<Bond<T>>, ()> for Agreed {
+impl<T> TableRule<(), LaneLog<Bond<T>>, ()> for Agreed {
     ghost use Rattle.gps_lane.specs.Bonds.{AgreesOf, both_ends, no_bond};
 
     ghost holds = { λ _ state. AgreesOf state };
@@ -30,10 +30,10 @@ impl<T> TableRule<(), Log<Bond<T>>, ()> for Agreed {
 }
 
 /// The table of a lane: one word, under its rule.
-pub(crate) type BondTable<T> = Table<(), Log<Bond<T>>, (), Agreed, Global>;
+pub(crate) type BondTable<T> = Table<(), LaneLog<Bond<T>>, (), Agreed, Global>;
 
 /// A seat of the table.
-pub(crate) type BondSeat<T> = Seat<(), Log<Bond<T>>>;
+pub(crate) type BondSeat<T> = Seat<(), LaneLog<Bond<T>>>;
 
 /// What a store lets both ends know. Each call picks it.
 pub trait Bonding<T> {
@@ -53,7 +53,7 @@ pub struct Ties<E> {
     marker: PhantomData<E>,
 }
 
-impl<T, E: Bonding<T>> Play<(), Log<Bond<T>>> for Ties<E> {
+impl<T, E: Bonding<T>> Play<(), LaneLog<Bond<T>>> for Ties<E> {
     ghost use Rattle.std.specs.Prelude.{◌≡◌, []};
     ghost use Rattle.gps_lane.specs.Bonds.{both_ends};
 
@@ -63,7 +63,7 @@ impl<T, E: Bonding<T>> Play<(), Log<Bond<T>>> for Ties<E> {
 /// A load by a seat that has both roles: they know the same.
 pub struct Checks;
 
-impl<T> Play<(), Log<Bond<T>>> for Checks {
+impl<T> Play<(), LaneLog<Bond<T>>> for Checks {
     ghost use Rattle.std.specs.Prelude.{◌≡◌};
 
     ghost then = { λ step before word after. (after ≡ before) × (before.0.put ≡ before.0.got) };
@@ -72,7 +72,7 @@ impl<T> Play<(), Log<Bond<T>>> for Checks {
 /// The role of getting passes from one seat to another.
 pub struct GettingSeat;
 
-impl<T> Split<Log<Bond<T>>> for GettingSeat {
+impl<T> Split<LaneLog<Bond<T>>> for GettingSeat {
     ghost use Rattle.std.specs.Prelude.{true, false};
     ghost use Rattle.gps_lane.specs.Lane.{log};
 
@@ -81,7 +81,7 @@ impl<T> Split<Log<Bond<T>>> for GettingSeat {
     ghost right = { λ v. log false true v.got v.got };
 }
 
-impl<T> Join<Log<Bond<T>>> for GettingSeat {
+impl<T> Join<LaneLog<Bond<T>>> for GettingSeat {
     ghost use Rattle.std.specs.Prelude.{true, false};
     ghost use Rattle.gps_lane.specs.Bonds.{no_bond};
     ghost use Rattle.gps_lane.specs.Lane.{log};
@@ -113,7 +113,8 @@ fn tie<T>(table: &BondTable<T>, seat: &mut BondSeat<T>, pass: &LanePass<T>)
 pub(crate) fn untie<T>(table: &BondTable<T>, seat: &mut BondSeat<T>, pass: &LanePass<T>)
     requires one { table.now.shared.table_id.words ≡ 1 }
     requires seat { IsSeat table.now.shared.table_id seat.old.table_id seat.old.me (both_ends seat.old.me.0.put seat.old.me.0.got) }
-    ensures { IsSeat table.now.shared.table_id seat.new.table_id seat.new.me (both_ends (let_go pass.now.table_id pass.now.me.0.client.put) (let_go pass.now.table_id pass.now.me.0.client.put)) }
+    ensures { IsSeat table.now.shared.table_id seat.new.table_id seat.new.me (both_ends (let_go pass.now.table_id pass.now.me.0.client.put)
+        (let_go pass.now.table_id pass.now.me.0.client.put)) }
 {
     store::<T, Brand>(table, seat, pass);
 }

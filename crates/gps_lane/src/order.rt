@@ -3,7 +3,7 @@ use crossbeam_queue::{Pass, RuledArrayQueue};
 use std::collections::LinkedList;
 
 /// What an end of a lane may do, and what it knows of what was put and what was got. No value of it is made.
-pub struct Log<X> {
+pub struct LaneLog<X> {
     pub puts: bool,
     pub gets: bool,
     pub put: X,
@@ -11,7 +11,7 @@ pub struct Log<X> {
 }
 
 /// What was put into the queue, and what was got of it.
-pub(crate) type Items<T> = Log<LinkedList<T>>;
+pub(crate) type Items<T> = LaneLog<LinkedList<T>>;
 
 /// The rule of a lane: what was put is what was got, and then what the lane holds.
 pub struct InOrder;

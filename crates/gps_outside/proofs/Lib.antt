@@ -2,4 +2,4 @@ pub mod Going
 pub mod Writing
 pub mod Streams
 pub mod Dials
-pub mod Turns
+pub mod ReadSteps

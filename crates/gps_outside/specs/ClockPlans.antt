@@ -1,4 +1,4 @@
--- A clock in memory: its stamps in order, and then the last one for ever. This project's own.
+-- A clock in memory: its stamps in order, and then the last one for ever.
 use Rattle.std.specs.Prelude.{List, [], ◌∷◌, drop}
 use Rattle.gps_fixed.specs.Moment.{Moment}
 use Rattle.gps_outside.specs.Ticks.{Dial}

@@ -1,4 +1,4 @@
--- Counts of faults and quiets: what it is that one rose in a call. This project's own.
+-- Counts of faults and quiets: what it is that one rose in a call.
 use Rattle.std.specs.Prelude.{ℕ, ◌+◌, ◌-◌, ◌^◌, ◌≤◌, min}
 
 -- The count is greater by n or more, or it stands at the greatest value of a u64 or above.

@@ -1,4 +1,4 @@
--- A door in memory that follows a plan. This project's own.
+-- A door in memory that follows a plan.
 use Rattle.std.specs.Prelude.{ℕ, List, [], ◌∷◌, drop, Option, Some, None}
 use Rattle.gps_outside.specs.declared.door.DoorStep.{DoorStep}
 use Rattle.gps_outside.specs.declared.door.DoorStep.TheVariants.{Link, Quiet, Closed, Failed}

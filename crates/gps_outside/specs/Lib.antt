@@ -8,7 +8,7 @@ pub mod Plans
 pub mod ReadPlans
 pub mod WritePlans
 pub mod ClockPlans
-pub mod Turns
+pub mod ReadSteps
 pub mod Inflow
 pub mod Links
 pub mod DoorPlans

@@ -1,4 +1,4 @@
--- The links that come through a door. This project's own.
+-- The links that come through a door.
 use Rattle.std.specs.Prelude.{◌≡◌, ℕ, List, [], ◌∷◌, ◌++◌, Option, IfSome}
 use Rattle.gps_outside.specs.declared.door.DoorStep.{DoorStep}
 use Rattle.gps_outside.specs.declared.door.DoorStep.TheVariants.{Link, Quiet, Closed, Failed}

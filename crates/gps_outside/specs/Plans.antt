@@ -1,4 +1,4 @@
--- A plan is followed entry by entry. This project's own.
+-- A plan is followed entry by entry.
 use Rattle.std.specs.Prelude.{List, [], ◌∷◌, Option, Some, None}
 
 -- the next entry of a plan; none after the plan

@@ -1,4 +1,4 @@
--- A source in memory that follows a plan. This project's own.
+-- A source in memory that follows a plan.
 use Rattle.std.specs.Prelude.{ℕ, List, [], ◌∷◌, ◌++◌, length, take, drop, min, max, Option, Some, None}
 use Rattle.gps_outside.specs.declared.plan.ReadPlan.{ReadPlan}
 use Rattle.gps_outside.specs.declared.plan.ReadPlan.TheVariants.{Give, Quiet as PlanQuiet, Fail}
@@ -11,7 +11,7 @@ use Rattle.gps_outside.specs.Told.{Stream}
 use Rattle.gps_outside.specs.Plans.{first_of}
 
 -- the source's bytes, the entries of its plan that are left, what it answers at its end, and its counts
-pub record Held : Type 0 where
+pub record MemorySourceView : Type 0 where
   pub stream : Stream
   pub plan : List ReadPlan
   pub at_end : AtEnd
@@ -34,7 +34,7 @@ by_entry (Some (Give most)) room left at_end = given (min most room) left at_end
 by_entry (Some PlanQuiet) room left at_end = Quiet
 by_entry (Some Fail) room left at_end = Failed
 
-abbrev pub answer_of : Held → ℕ → ReadStep
+abbrev pub answer_of : MemorySourceView → ℕ → ReadStep
 answer_of held room = by_entry (first_of held.plan) room held.stream.left held.at_end
 
 -- the first n bytes pass from those left to those taken
@@ -42,7 +42,7 @@ abbrev pub after_taking : ℕ → Stream → Stream
 after_taking n stream = record { taken = stream.taken ++ take n stream.left; left = drop n stream.left }
 
 -- the source after an answer: one entry of the plan is done, and the answer is counted
-abbrev pub held_after : ReadStep → Held → Held
+abbrev pub held_after : ReadStep → MemorySourceView → MemorySourceView
 held_after (Got n) held = record held { stream = after_taking n held.stream; plan = drop 1 held.plan }
 held_after End held = record held { plan = drop 1 held.plan }
 held_after Quiet held = record held { plan = drop 1 held.plan; quiets = one_more held.quiets }

@@ -1,4 +1,4 @@
--- What one read of a source may answer. This project's own.
+-- What one read of a source may answer.
 use Rattle.std.specs.Prelude.{ℕ, ◌≤◌, List, take, Option}
 use Rattle.gps_outside.specs.declared.source.ReadStep.{ReadStep}
 use Rattle.gps_outside.specs.declared.source.ReadStep.TheVariants.{Got, End, Quiet, Failed}

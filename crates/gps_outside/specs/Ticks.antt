@@ -1,4 +1,4 @@
--- The stamps of a clock. This project's own.
+-- The stamps of a clock.
 use Rattle.std.specs.Prelude.{◌≡◌, ℕ, pos, ◌/◌, ◌%◌, nat_le, if◌then◌else◌, List, [], ◌∷◌, ◌⊎◌}
 use Rattle.std.specs.List.{IsAmong}
 use Rattle.gps_fixed.specs.Moment.{Moment}

@@ -1,4 +1,4 @@
--- What an object of the outside tells of its content, and what happens to a content. This project's own.
+-- What an object of the outside tells of its content, and what happens to a content.
 use Rattle.std.specs.Prelude.{◌≡◌, ℕ, ◌<◌, List, [], ◌++◌, length, Option, Some, None, ◌⊎◌}
 
 -- the bytes that were taken from a source so far, and those that are left in it

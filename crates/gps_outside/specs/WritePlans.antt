@@ -1,4 +1,4 @@
--- A sink in memory that follows a plan. This project's own.
+-- A sink in memory that follows a plan.
 use Rattle.std.specs.Prelude.{ℕ, zero, suc, ◌-◌, List, ◌++◌, length, take, drop, min, max, Option, Some, None}
 use Rattle.gps_outside.specs.declared.plan.WritePlan.{WritePlan}
 use Rattle.gps_outside.specs.declared.plan.WritePlan.TheVariants.{Take, Fail}

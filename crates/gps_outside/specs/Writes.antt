@@ -1,4 +1,4 @@
--- What one write to a sink may answer. This project's own.
+-- What one write to a sink may answer.
 use Rattle.std.specs.Prelude.{ℕ, ◌≤◌, List, take, Option, Bool, true, false}
 use Rattle.gps_outside.specs.declared.sink.WriteStep.{WriteStep}
 use Rattle.gps_outside.specs.declared.sink.WriteStep.TheVariants.{Wrote, Failed}

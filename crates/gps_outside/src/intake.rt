@@ -2,7 +2,7 @@ ghost use Rattle.std.specs.Prelude.{◌≡◌, ◌≤◌, ◌<◌, length};
 ghost use Rattle.gps_outside.specs.declared.intake.IntakeStep.{IntakeStep};
 ghost use Rattle.gps_outside.specs.Counts.{Rose};
 ghost use Rattle.gps_outside.specs.Told.{Goes, Stays};
-ghost use Rattle.gps_outside.specs.Turns.{FitsRoom, GoesOn, Hands, Spends};
+ghost use Rattle.gps_outside.specs.ReadSteps.{FitsRoom, IntakeGoesOn, Hands, Spends};
 
 use crate::{ReadStep, Source};
 use std::marker::Model;
@@ -10,7 +10,7 @@ use std::marker::Model;
 /// The quiet that ends a reading.
 const LAST_QUIET: u32 = 1_000;
 
-/// What one turn of a reading hands on, or how the reading ends.
+/// What one step of a reading hands on, or how the reading ends.
 #[derive(Clone, Copy, Debug, PartialEq, Eq)]
 pub enum IntakeStep {
     /// So many bytes, at least one, stand at the head of the buffer; the reading goes on.
@@ -28,9 +28,9 @@ pub enum IntakeStep {
     TooQuiet,
 }
 
-/// A reading of a source to its end, turn by turn: how many bytes it may still take, and how often nothing came.
+/// A reading of a source to its end, step by step: how many bytes it may still take, and how often nothing came.
 ///
-/// A loop over its turns ends: each turn that goes on hands on a byte or counts one of at most 1,000 quiets.
+/// A loop over its steps ends: each step that goes on hands on a byte or counts one of at most 1,000 quiets.
 #[derive(Drop)]
 pub struct Intake {
     room: usize,
@@ -39,7 +39,7 @@ pub struct Intake {
 
 impl Model for Intake {
     ghost use Rattle.std.specs.Prelude.{◌<◌};
-    ghost use Rattle.gps_outside.specs.Turns.{Budget};
+    ghost use Rattle.gps_outside.specs.ReadSteps.{Budget};
 
     ghost Value = { Budget };
 
@@ -64,7 +64,7 @@ impl Intake {
         requires { 0 < length buf.old }
         ensures fits { FitsRoom result (length buf.new) }
         ensures budget { Spends result self.old self.new }
-        ensures goes_on { GoesOn result self.old self.new }
+        ensures goes_on { IntakeGoesOn result self.old self.new }
         ensures bytes { Hands result buf.new (S.content source.old) (S.content source.new) }
         ensures faults_stay { S.faults source.old ≤ S.faults source.new }
         ensures quiets_stay { S.quiets source.old ≤ S.quiets source.new }

@@ -45,4 +45,4 @@ pub use real_sink::RealSink;
 pub use real_source::RealSource;
 pub use sink::{Sink, WriteStep, write_all};
 pub use source::{ReadStep, Source};
-pub use whole::{Ending, read_all};
+pub use whole::{ReadEnd, read_all};

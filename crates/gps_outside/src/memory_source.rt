@@ -25,9 +25,9 @@ pub struct MemorySource {
 impl Model for MemorySource {
     ghost use Rattle.std.specs.Prelude.{◌≤◌, length, take, drop};
     ghost use Rattle.std.specs.Vec.Iter.{into_iter_items};
-    ghost use Rattle.gps_outside.specs.ReadPlans.{Held};
+    ghost use Rattle.gps_outside.specs.ReadPlans.{MemorySourceView};
 
-    ghost Value = { Held };
+    ghost Value = { MemorySourceView };
 
     ghost view = { λ s. record {
       stream = record { taken = take s.at s.held.items; left = drop s.at s.held.items };

@@ -1,5 +1,5 @@
 ghost use Rattle.std.specs.Prelude.{◌≤◌, IfOk};
-ghost use Rattle.gps_outside.specs.Turns.{HasCause, ReadsToEnd};
+ghost use Rattle.gps_outside.specs.ReadSteps.{ReadHasCause, ReadsToEnd};
 
 use crate::{Intake, IntakeStep, Source};
 use gps_fixed::NoMemory;
@@ -7,7 +7,7 @@ use std::alloc::Global;
 
 /// How the reading of a source to its end ended.
 #[derive(Clone, Copy, Debug, PartialEq, Eq)]
-pub enum Ending {
+pub enum ReadEnd {
     /// Nothing is left in the source.
     AtEnd,
     /// As many bytes as the limit allows were taken, and one more was read.
@@ -23,9 +23,9 @@ pub fn read_all<S: Source>(
     alloc: Global,
     source: &mut S,
     limit: u32,
-) -> Result<(Vec<u8>, Ending), NoMemory>
+) -> Result<(Vec<u8>, ReadEnd), NoMemory>
     ensures bytes { IfOk result (λ read. ReadsToEnd read.1 limit read.0.items (S.content source.old) (S.content source.new)) }
-    ensures cause { IfOk result (λ read. HasCause read.1 (S.faults source.old) (S.faults source.new) (S.quiets source.old) (S.quiets source.new)) }
+    ensures cause { IfOk result (λ read. ReadHasCause read.1 (S.faults source.old) (S.faults source.new) (S.quiets source.old) (S.quiets source.new)) }
     ensures faults_stay { S.faults source.old ≤ S.faults source.new }
     ensures quiets_stay { S.quiets source.old ≤ S.quiets source.new }
 {
@@ -38,11 +38,11 @@ pub fn read_all<S: Source>(
             IntakeStep::Quiet => {}
             IntakeStep::Last(n) => {
                 bytes.extend_from_slice(&buf[..n])?;
-                return Ok((bytes, Ending::Full));
+                return Ok((bytes, ReadEnd::Full));
             }
-            IntakeStep::End => return Ok((bytes, Ending::AtEnd)),
-            IntakeStep::Failed => return Ok((bytes, Ending::Failed)),
-            IntakeStep::TooQuiet => return Ok((bytes, Ending::TooQuiet)),
+            IntakeStep::End => return Ok((bytes, ReadEnd::AtEnd)),
+            IntakeStep::Failed => return Ok((bytes, ReadEnd::Failed)),
+            IntakeStep::TooQuiet => return Ok((bytes, ReadEnd::TooQuiet)),
         }
     }
 }

@@ -2,11 +2,11 @@
 use Rattle.std.proofs.Common.{◌≡◌, ℕ, Bool, true, false, List, [], ◌∷◌, ◌++◌, length, map, fold, cond, nat_lt, Option, Some, None, option_map, refl, sym, ◌∙◌, ap, subst, append-nil}
 use Rattle.std.proofs.lemmas.List.{map-append}
 use Rattle.std.proofs.lemmas.Grind.{fold-append}
-use Rattle.text_lines.specs.Limits.{most}
-use Rattle.text_lines.specs.Lines.{has_feed, last_lines, lines, open_line}
-use Rattle.text_lines.proofs.Splits.{line_lines, line_opens, lines_go_on, open_goes_on}
-use Rattle.line_play.specs.Rules.{Effect, Rules, effect_within, text_in}
-use Rattle.line_play.specs.Courses.{Course, course_of, ended_texts, gone_on, new_course, unless, whole_course, with_line}
+use Rattle.line_cut.specs.Limits.{most}
+use Rattle.line_cut.specs.Lines.{has_feed, last_lines, lines, open_line}
+use Rattle.line_cut.proofs.Splits.{line_lines, line_opens, lines_go_on, open_goes_on}
+use Rattle.line_player.specs.Rules.{Effect, Rules, effect_within, text_in}
+use Rattle.line_player.specs.Courses.{Course, course_of, ended_texts, gone_on, new_course, unless, whole_course, with_line}
 
 abbrev pub course_behind : {X : Type 0} → Rules X → Course X → List ℕ → Course X
 course_behind rules c bytes = fold (with_line rules) c (ended_texts rules bytes)

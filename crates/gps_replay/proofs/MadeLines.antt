@@ -12,7 +12,7 @@ use Rattle.gps_report.specs.declared.edge.Edge.{Edge as PulseEdge}
 use Rattle.gps_report.specs.declared.edge.EdgeKind.TheVariants.{Assert}
 use Rattle.pps_edges.specs.EdgeLine.{AreParts, IsNumber, Parts, edge_from, is_digit, spelling}
 use Rattle.pps_edges.specs.Scan.{begins, capture_in, edge_in, is_not, nine_in as nine_at, number_in as number_at, past_first, up_to_first}
-use Rattle.replay_script.specs.declared.event.Event.TheVariants.{Edge, Feed}
+use Rattle.replay_script.specs.declared.event.ScriptEvent.TheVariants.{Edge, Feed}
 use Rattle.replay_script.specs.Words.{HasNone, halves, nine_in, number_in, numbered, stamp_in, stamp_of, stamped, text_in}
 use Rattle.replay_script.specs.Events.{bytes_event, edge_at, event_in, feed_in, number_event}
 

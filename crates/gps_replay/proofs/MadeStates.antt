@@ -12,14 +12,14 @@ use Rattle.gps_report.specs.declared.edge.Symbol.{Symbol}
 use Rattle.book_log.specs.Entries.{Entry, got, has_end, has_lost, stops_in}
 use Rattle.book_log.proofs.Histories.{has_end-append, has_lost-append, no_end_got, no_loss_got}
 use Rattle.book_sessions.specs.Roster.{most_live, most_opened}
-use Rattle.replay_script.specs.declared.event.Event.{Event}
-use Rattle.replay_script.specs.declared.event.Event.TheVariants.{Device, Feed, Edge, Open, Input, Take, Monitor, Store, Load}
+use Rattle.replay_script.specs.declared.event.ScriptEvent.{ScriptEvent}
+use Rattle.replay_script.specs.declared.event.ScriptEvent.TheVariants.{Device, Feed, Edge, Open, Input, Take, Monitor, Store, Load}
 use Rattle.replay_player.specs.Clients.{Client, after_take, is_open, next_taken, opened, served}
-use Rattle.replay_player.specs.States.{State, Watch, came, live_in, new_state, words_at}
-use Rattle.replay_player.specs.Effects.{Effect, allowed, brings, changes, declares, effect, hears, item_lines, load_lines, loads, opens, quietly, reading_after_loads, stores, takes, watches, with_client, with_watch}
+use Rattle.replay_player.specs.States.{State, MonitorState, came, live_in, new_state, words_at}
+use Rattle.replay_player.specs.Effects.{EventEffect, allowed, brings, changes, declares, effect, hears, item_lines, load_lines, loads, opens, quietly, reading_after_loads, stores, takes, watches, with_client, with_watch}
 
 -- an event that is not refused leads to such a state
-abbrev pub Leads : (State → Type 0) → Option Effect → Type 0
+abbrev pub Leads : (State → Type 0) → Option EventEffect → Type 0
 Leads to (Some e) = to e.state
 Leads to None = ⊥
 
@@ -73,7 +73,7 @@ unfolding watches
 monitor queue s is = subst (λ (t : State). Leads (Opened 0) (effect queue t (Monitor 0 0))) (sym is)
     (record { names = refl; log = refl; clients = refl; watches = refl })
 
-allowed_leads : (to : State → Type 0) (ok : Bool) (e : Effect) → ok ≡ true → to e.state → Leads to (allowed ok e)
+allowed_leads : (to : State → Type 0) (ok : Bool) (e : EventEffect) → ok ≡ true → to e.state → Leads to (allowed ok e)
 allowed_leads to ok e is there = subst (λ b. Leads to (allowed b e)) (sym is) there
 
 pub opening : (queue count : ℕ) (s : State) → count < 3 → Opened count s → Leads (Opens count) (effect queue s (Open count None))
@@ -148,10 +148,10 @@ storing queue u steps s low is =
 pub loading : (queue steps : ℕ) (s : State) → Going s → Leads Going (effect queue s (Load 0 steps))
 unfolding loads
 loading queue steps s is =
-    let free : Watch = record { unit = 0; reading = [] } in
+    let free : MonitorState = record { unit = 0; reading = [] } in
     let there : slice_get s.watches 0 ≡ Some (get_or s.watches 0 free) = slice_get-get_or s.watches 0 free (let one = is.watches in omega (arith, one)) in
-    let Goal : Option Watch → Type 0 = λ o. Leads Going (option_map
-    (λ (w : Watch). record {
+    let Goal : Option MonitorState → Type 0 = λ o. Leads Going (option_map
+    (λ (w : MonitorState). record {
       state = with_watch 0 (reading_after_loads steps (words_at w.unit s) w.reading) w s;
       written = load_lines 0 steps (words_at w.unit s) w.reading;
     }) o) in

@@ -3,13 +3,13 @@ use Rattle.std.proofs.Common.{◌≡◌, ℕ, ◌+◌, ◌<◌, ◌≤◌, ◌�
 use Rattle.gps_outside.specs.Counts.{Rose, RoseBy}
 use Rattle.gps_outside.specs.Told.{Stream, Goes, Appends, AppendsPart, Passes}
 use Rattle.gps_outside.proofs.Writing.{appends_none, part_of}
-use Rattle.text_lines.specs.Lines.{lines, open_line}
-use Rattle.line_play.specs.declared.outcome.Outcome.{Outcome}
-use Rattle.line_play.specs.declared.outcome.Outcome.TheVariants.{Done, ReadFault, TooQuiet, WriteFault, Full, BadLine, NoMemory}
-use Rattle.line_play.specs.Outcomes.{HasCause}
-use Rattle.line_play.specs.Courses.{whole_course}
-use Rattle.line_play.specs.Played.{Played}
-use Rattle.line_play.proofs.Complete.{completes}
+use Rattle.line_cut.specs.Lines.{lines, open_line}
+use Rattle.line_player.specs.declared.outcome.PlayOutcome.{PlayOutcome}
+use Rattle.line_player.specs.declared.outcome.PlayOutcome.TheVariants.{Done, ReadFault, TooQuiet, WriteFault, Full, BadLine, NoMemory}
+use Rattle.line_player.specs.Outcomes.{PlayHasCause}
+use Rattle.line_player.specs.Courses.{whole_course}
+use Rattle.line_player.specs.Played.{HasPlayed}
+use Rattle.line_player.proofs.Complete.{completes}
 use Rattle.replay_workload.specs.Workload.{workload_of}
 use Rattle.gps_replay.specs.Closings.{closing_rules, closings}
 use Rattle.gps_replay.specs.Generated.{Generated, GeneratedCause, default_queue, made}
@@ -17,26 +17,26 @@ use Rattle.gps_replay.proofs.Playable.{playable}
 
 -- where all was done, the whole script was read
 all_read : (script : List ℕ) (after : Option Stream) (most : ℕ) (sink sink' : Option (List ℕ))
-    → Played Done (closing_rules default_queue) most (Some (record { taken = []; left = script })) after sink sink'
+    → HasPlayed Done (closing_rules default_queue) most (Some (record { taken = []; left = script })) after sink sink'
     → Goes (Appends (closings default_queue script)) sink sink'
 all_read script None most sink sink' played = absurd played.ends.0.1
 all_read script (Some stream) most sink sink' played =
     subst (λ b. Goes (Appends (closings default_queue b)) sink sink') (sym played.ends.0.1.all) played.ends.2
 
-pub generated : (outcome : Outcome) (script : List ℕ) (most : ℕ) (after : Option Stream) (sink sink' : Option (List ℕ))
+pub generated : (outcome : PlayOutcome) (script : List ℕ) (most : ℕ) (after : Option Stream) (sink sink' : Option (List ℕ))
     → most ≡ length script
-    → Played outcome (closing_rules default_queue) most (Some (record { taken = []; left = script })) after sink sink'
+    → HasPlayed outcome (closing_rules default_queue) most (Some (record { taken = []; left = script })) after sink sink'
     → (seed size : ℕ) → script ≡ workload_of seed size → Generated outcome seed size sink sink'
 generated outcome script most after sink sink' is played seed size of = record {
   after = after;
-  played = subst (λ s. Played outcome (closing_rules default_queue) (length s) (Some (record { taken = []; left = s })) after sink sink') of
-      (subst (λ m. Played outcome (closing_rules default_queue) m (Some (record { taken = []; left = script })) after sink sink') is played);
+  played = subst (λ s. HasPlayed outcome (closing_rules default_queue) (length s) (Some (record { taken = []; left = s })) after sink sink') of
+      (subst (λ m. HasPlayed outcome (closing_rules default_queue) m (Some (record { taken = []; left = script })) after sink sink') is played);
   whole = λ done. subst (λ s. Goes (Appends (closings default_queue s)) sink sink') of
-      (all_read script after most sink sink' (subst (λ o. Played o (closing_rules default_queue) most (Some (record { taken = []; left = script })) after sink sink') done played));
+      (all_read script after most sink sink' (subst (λ o. HasPlayed o (closing_rules default_queue) most (Some (record { taken = []; left = script })) after sink sink') done played));
 }
 
 no_more : (script : List ℕ) (after : Option Stream) (most : ℕ) (sink sink' : Option (List ℕ)) → most ≡ length script
-    → Played Full (closing_rules default_queue) most (Some (record { taken = []; left = script })) after sink sink' → ⊥
+    → HasPlayed Full (closing_rules default_queue) most (Some (record { taken = []; left = script })) after sink sink' → ⊥
 no_more script None most sink sink' is played = played.ends.1
 no_more script (Some stream) most sink sink' is played =
     let passed = played.ends.1 in
@@ -47,7 +47,7 @@ no_more script (Some stream) most sink sink' is played =
     omega (arith, left, both, some, full, is)
 
 none_refused : (script : List ℕ) (after : Option Stream) (most : ℕ) (sink sink' : Option (List ℕ)) → most ≡ length script
-    → Played BadLine (closing_rules default_queue) most (Some (record { taken = []; left = script })) after sink sink'
+    → HasPlayed BadLine (closing_rules default_queue) most (Some (record { taken = []; left = script })) after sink sink'
     → (seed size : ℕ) → size ≤ 10_000 → script ≡ workload_of seed size → ⊥
 none_refused script after most sink sink' is played seed size few of =
     let whole : (whole_course (closing_rules default_queue) script).refused ≡ None =
@@ -60,10 +60,10 @@ none_refused script after most sink sink' is played seed size few of =
       | inr wanted ↦ cc
     ]
 
-pub caused : (outcome : Outcome) (script : List ℕ) (most : ℕ) (after : Option Stream) (sink sink' : Option (List ℕ)) (sunk sunk' : ℕ)
+pub caused : (outcome : PlayOutcome) (script : List ℕ) (most : ℕ) (after : Option Stream) (sink sink' : Option (List ℕ)) (sunk sunk' : ℕ)
     → most ≡ length script
-    → Played outcome (closing_rules default_queue) most (Some (record { taken = []; left = script })) after sink sink'
-    → HasCause outcome 0 0 0 0 sunk sunk'
+    → HasPlayed outcome (closing_rules default_queue) most (Some (record { taken = []; left = script })) after sink sink'
+    → PlayHasCause outcome 0 0 0 0 sunk sunk'
     → (seed size : ℕ) → size ≤ 10_000 → script ≡ workload_of seed size → GeneratedCause outcome sunk sunk'
 caused Done script most after sink sink' sunk sunk' is played cause seed size few of = tt
 caused ReadFault script most after sink sink' sunk sunk' is played cause seed size few of = omega (arith, cause)

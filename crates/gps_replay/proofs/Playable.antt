@@ -10,15 +10,15 @@ use Rattle.gps_report.specs.declared.edge.Symbol.TheVariants.{Edge as EdgeSymbol
 use Rattle.device_core.specs.Stream.{piece}
 use Rattle.nmea_frame.specs.Sentence.{checksum}
 use Rattle.pps_edges.specs.EdgeLine.{IsNumber, edge_from}
-use Rattle.line_play.specs.Courses.{whole_course}
-use Rattle.replay_script.specs.declared.event.Event.{Event}
-use Rattle.replay_script.specs.declared.event.Event.TheVariants.{Device, Edge, Feed, Input, Load, Monitor, Open, Store, Take}
+use Rattle.line_player.specs.Courses.{whole_course}
+use Rattle.replay_script.specs.declared.event.ScriptEvent.{ScriptEvent}
+use Rattle.replay_script.specs.declared.event.ScriptEvent.TheVariants.{Device, Edge, Feed, Input, Load, Monitor, Open, Store, Take}
 use Rattle.replay_script.specs.Words.{halves, number_and_count, number_between, number_in, numbered, stamp_of, text_in}
 use Rattle.replay_script.specs.Events.{bytes_event, device_in, event_in, input_in, monitor_in, number_event, open_in}
-use Rattle.replay_player.specs.Effects.{Effect, effect}
+use Rattle.replay_player.specs.Effects.{EventEffect, effect}
 use Rattle.replay_player.specs.States.{State}
 use Rattle.replay_workload.specs.Sentences.{fraction, gga, gll, gsa, gsv, place, quality, rmc, sentence, time, upper_digit, vtg}
-use Rattle.replay_workload.specs.Workload.{decimals_at, edge_end, edge_line, edge_number, head, receiver_lines, second_lines, seconds, steps, text_line, text_lines, whole_second, workload_of}
+use Rattle.replay_workload.specs.Workload.{decimals_at, edge_end, edge_line, edge_number, head, receiver_lines, second_lines, seconds, steps, text_line, line_cut, whole_second, workload_of}
 use Rattle.gps_replay.specs.Closings.{closing_rules, silent}
 use Rattle.gps_replay.specs.Generated.{default_queue}
 use Rattle.gps_replay.specs.Run.{of_line}
@@ -31,18 +31,18 @@ use Rattle.gps_replay.proofs.Printing.{IsPlain, at_most, bare, cat, fixed, no_fe
 abbrev Makes : (State → Type 0) → (State → Type 0) → List ℕ → Type 0
 Makes from to bytes = Runs (closing_rules default_queue) from to bytes
 
-silenced : (to : State → Type 0) (e : Option Effect) → Leads to e → LeadsTo to (option_map silent (option_map of_line e))
+silenced : (to : State → Type 0) (e : Option EventEffect) → Leads to e → LeadsTo to (option_map silent (option_map of_line e))
 silenced to (Some e) leads = leads
 silenced to None leads = absurd leads
 
-leads_line : (to : State → Type 0) (text : List ℕ) (event : Event) (s : State) → event_in text ≡ Some event
+leads_line : (to : State → Type 0) (text : List ℕ) (event : ScriptEvent) (s : State) → event_in text ≡ Some event
     → Leads to (effect default_queue s event) → LeadsTo to ((closing_rules default_queue).effect s text)
 leads_line to text event s is leads =
-    let Goal : Option Event → Type 0 = λ o. LeadsTo to (option_map silent (option_map of_line (option_and_then (effect default_queue s) o))) in
+    let Goal : Option ScriptEvent → Type 0 = λ o. LeadsTo to (option_map silent (option_map of_line (option_and_then (effect default_queue s) o))) in
     subst Goal (sym is) (silenced to (effect default_queue s event) leads)
 
 -- a line of printing bytes that is an event
-line_runs : (from to : State → Type 0) (text : List ℕ) (event : Event) → IsPlain 4_096 text → event_in text ≡ Some event
+line_runs : (from to : State → Type 0) (text : List ℕ) (event : ScriptEvent) → IsPlain 4_096 text → event_in text ≡ Some event
     → ((s : State) → from s → Leads to (effect default_queue s event)) → Makes from to (text ++ 10 ∷ [])
 line_runs from to text event plain is leads =
     let few = plain.few in
@@ -51,7 +51,7 @@ line_runs from to text event plain is leads =
     (λ s at. leads_line to text event s is (leads s at))
 
 -- the same of a written line
-written : (from to : State → Type 0) (text : List ℕ) (event : Event) → list_all prints text ≡ true → length text ≤ 4_096 → event_in text ≡ Some event
+written : (from to : State → Type 0) (text : List ℕ) (event : ScriptEvent) → list_all prints text ≡ true → length text ≤ 4_096 → event_in text ≡ Some event
     → ((s : State) → from s → Leads to (effect default_queue s event)) → Makes from to (text ++ 10 ∷ [])
 written from to text event plain few is leads = line_runs from to text event (record { plain = plain; few = few }) is leads
 
@@ -60,7 +60,7 @@ join {from} {between} {to} {a} {b} first second = and_then (closing_rules defaul
 
 -- the head
 
-to_going : (o : Option Effect) → Leads (Opened 3) o → Leads Going o
+to_going : (o : Option EventEffect) → Leads (Opened 3) o → Leads Going o
 to_going (Some e) is = going e.state is
 to_going None is = is
 
@@ -191,7 +191,7 @@ text_runs d t body low small plain_body =
     ∙ append_assoc device (codes " ") (second ++ (codes ".100000000 " ++ payload))
     ∙ ap (λ r. device ++ 32 ∷ r) (sym (append_assoc second (46 ∷ tenth) (32 ∷ payload)))) in
     let bytes : List ℕ = payload ++ 13 ∷ 10 ∷ [] in
-    let event : Event = Feed (digits_value 10 device) (stamp_of (digits_value 10 second) 100_000_000) bytes in
+    let event : ScriptEvent = Feed (digits_value 10 device) (stamp_of (digits_value 10 second) 100_000_000) bytes in
     let is : event_in text ≡ Some event =
     ap event_in parts ∙ read_feed device second payload is_device is_second (some_sentence body) good.few in
     line_runs Going Going text event (at_most _ 4_096 text plain (omega arith)) is
@@ -242,8 +242,8 @@ plain_gsv : IsPlain 500 gsv
 unfolding gsv
 plain_gsv = at_most _ 500 _ (fixed (codes "GPGSV,1,1,04,01,40,083,46,02,17,308,41,12,07,344,39,14,22,228,45") refl) (omega arith)
 
-receiver_runs : (d t n : ℕ) → d < 2 → t < 10_000 → Makes Going Going (text_lines d t n)
-unfolding text_lines receiver_lines
+receiver_runs : (d t n : ℕ) → d < 2 → t < 10_000 → Makes Going Going (line_cut d t n)
+unfolding line_cut receiver_lines
 receiver_runs d t n low small =
     join (join (join (join (join
     (text_runs d t (rmc (43_200 + t) n) low small (plain_rmc (43_200 + t) n))

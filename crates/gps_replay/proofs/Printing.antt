@@ -13,8 +13,8 @@ use Rattle.std.proofs.lemmas.List.Folds.{list_all_at, list_all-append}
 use Rattle.std.proofs.lemmas.Str.Parse.{IsDigitsTest, IsNumeralModel, numerals_by_value}
 use Rattle.gps_fixed.specs.Text.{digits_in}
 use Rattle.pps_edges.specs.EdgeLine.{IsNumber, is_digit}
-use Rattle.text_lines.specs.Lines.{has_feed, is_feed, text_of}
-use Rattle.text_lines.proofs.Texts.{strip_append}
+use Rattle.line_cut.specs.Lines.{has_feed, is_feed, text_of}
+use Rattle.line_cut.proofs.Texts.{strip_append}
 
 abbrev pub prints : ℕ → Bool
 prints c = nat_le 32 c

@@ -1,15 +1,15 @@
 -- What a line does that writes nothing.
 use Rattle.std.proofs.Common.{◌≡◌, ℕ, List, ◌++◌, Result, Ok, Err, option_map, refl, sym, ap, append-nil}
 use Rattle.gps_fixed.specs.declared.no_memory.NoMemory.{NoMemory}
-use Rattle.line_play.specs.declared.plays.Turn.{Turn}
-use Rattle.line_play.specs.declared.plays.Turn.TheVariants.{Made, Refused}
-use Rattle.line_play.specs.Turns.{Turns}
+use Rattle.line_player.specs.declared.plays_lines.LineStep.{LineStep}
+use Rattle.line_player.specs.declared.plays_lines.LineStep.TheVariants.{Made, Refused}
+use Rattle.line_player.specs.LineSteps.{StepDone}
 use Rattle.replay_player.specs.States.{State}
 use Rattle.gps_replay.specs.Closings.{closing_rules, quietened, silent}
 use Rattle.gps_replay.specs.Run.{rules_of}
 
-pub silently : (turn : Result Turn NoMemory) (queue : ℕ) (state : State) (text : List ℕ) (stands : State → Type 0) (unwritten unwritten' out : List ℕ)
-    → Turns turn (rules_of queue) state text stands unwritten unwritten' → Turns turn (closing_rules queue) state text stands out out
+pub silently : (turn : Result LineStep NoMemory) (queue : ℕ) (state : State) (text : List ℕ) (stands : State → Type 0) (unwritten unwritten' out : List ℕ)
+    → StepDone turn (rules_of queue) state text stands unwritten unwritten' → StepDone turn (closing_rules queue) state text stands out out
 silently (Ok Made) queue state text stands unwritten unwritten' out turns =
     (silent turns.0, ap (option_map silent) turns.1, turns.2, sym (append-nil out))
 silently (Ok Refused) queue state text stands unwritten unwritten' out turns = (ap (option_map silent) turns.0, refl)

@@ -1,7 +1,7 @@
--- The closing lines of a script's run, alone. This project's own.
+-- The closing lines of a script's run, alone.
 use Rattle.std.specs.Prelude.{ℕ, List, [], option_map}
-use Rattle.line_play.specs.Rules.{Rules, Effect}
-use Rattle.line_play.specs.Courses.{output_of}
+use Rattle.line_player.specs.Rules.{Rules, Effect}
+use Rattle.line_player.specs.Courses.{output_of}
 use Rattle.replay_player.specs.Ends.{closings_at_end}
 use Rattle.replay_player.specs.States.{State}
 use Rattle.gps_replay.specs.Run.{rules_of}

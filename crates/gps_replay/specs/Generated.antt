@@ -1,10 +1,10 @@
--- What a made script promises of the bytes that are written. This project's own.
+-- What a made script promises of the bytes that are written.
 use Rattle.std.specs.Prelude.{◌≡◌, ℕ, List, [], length, Option, Some}
 use Rattle.gps_outside.specs.Counts.{Rose}
 use Rattle.gps_outside.specs.Told.{Stream, Goes, Appends}
-use Rattle.line_play.specs.declared.outcome.Outcome.{Outcome}
-use Rattle.line_play.specs.declared.outcome.Outcome.TheVariants.{Done, ReadFault, TooQuiet, WriteFault, Full, BadLine, NoMemory}
-use Rattle.line_play.specs.Played.{Played}
+use Rattle.line_player.specs.declared.outcome.PlayOutcome.{PlayOutcome}
+use Rattle.line_player.specs.declared.outcome.PlayOutcome.TheVariants.{Done, ReadFault, TooQuiet, WriteFault, Full, BadLine, NoMemory}
+use Rattle.line_player.specs.Played.{HasPlayed}
 use Rattle.replay_workload.specs.Workload.{workload_of}
 use Rattle.gps_replay.specs.Closings.{closing_rules, closings}
 
@@ -17,13 +17,13 @@ abbrev pub made : ℕ → ℕ → Stream
 made seed size = record { taken = []; left = workload_of seed size }
 
 -- The made script was played as if it were read from a source; where that was done, the closing lines of its run were written.
-pub record Generated (outcome : Outcome) (seed size : ℕ) (sink sink' : Option (List ℕ)) : Type 0 where
+pub record Generated (outcome : PlayOutcome) (seed size : ℕ) (sink sink' : Option (List ℕ)) : Type 0 where
   pub after : Option Stream
-  pub played : Played outcome (closing_rules default_queue) (length (workload_of seed size)) (Some (made seed size)) after sink sink'
+  pub played : HasPlayed outcome (closing_rules default_queue) (length (workload_of seed size)) (Some (made seed size)) after sink sink'
   pub whole : outcome ≡ Done → Goes (Appends (closings default_queue (workload_of seed size))) sink sink'
 
 -- the sink's count before and after; no source fails, the script is read to its end, and no line of it is refused
-abbrev pub GeneratedCause : Outcome → ℕ → ℕ → Type 0
+abbrev pub GeneratedCause : PlayOutcome → ℕ → ℕ → Type 0
 GeneratedCause Done before after = Unit {0}
 GeneratedCause ReadFault before after = ⊥
 GeneratedCause TooQuiet before after = ⊥

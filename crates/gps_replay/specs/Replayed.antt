@@ -1,8 +1,8 @@
--- What a replay promises of the bytes that it reads and of those that it writes. This project's own.
+-- What a replay promises of the bytes that it reads and of those that it writes.
 use Rattle.std.specs.Prelude.{ℕ, List, Option}
 use Rattle.gps_outside.specs.Told.{Stream}
-use Rattle.line_play.specs.declared.outcome.Outcome.{Outcome}
-use Rattle.line_play.specs.Played.{IsWithin, Played}
+use Rattle.line_player.specs.declared.outcome.PlayOutcome.{PlayOutcome}
+use Rattle.line_player.specs.Played.{IsWithin, HasPlayed}
 use Rattle.gps_replay.specs.Run.{rules_of}
 
 -- the bytes of a script
@@ -10,8 +10,8 @@ abbrev pub most_bytes : ℕ
 most_bytes = 1_073_741_824
 
 -- how the replay of a script ended, and what was read and written, whatever a generation may hold
-abbrev pub Replayed : Outcome → ℕ → Option Stream → Option Stream → Option (List ℕ) → Option (List ℕ) → Type 0
-Replayed outcome queue source source' sink sink' = Played outcome (rules_of queue) most_bytes source source' sink sink'
+abbrev pub Replayed : PlayOutcome → ℕ → Option Stream → Option Stream → Option (List ℕ) → Option (List ℕ) → Type 0
+Replayed outcome queue source source' sink sink' = HasPlayed outcome (rules_of queue) most_bytes source source' sink sink'
 
 -- the source tells that no more is left than a script may have, and that no line of it is refused
 abbrev pub IsScript : ℕ → Option Stream → Type 0

@@ -1,18 +1,18 @@
--- The run of a script: what its lines write, up to the first refused one, and what its end writes. It speaks of no generation and of no limit of one. This project's own.
+-- The run of a script: what its lines write, up to the first refused one, and what its end writes. It speaks of no generation and of no limit of one.
 use Rattle.std.specs.Prelude.{ℕ, List, Option, option_and_then, option_map}
-use Rattle.text_lines.specs.declared.limit.Limit.TheVariants.{Text}
-use Rattle.line_play.specs.Rules.{Rules, Effect as LineEffect}
-use Rattle.line_play.specs.Courses.{output_of}
+use Rattle.line_cut.specs.declared.limit.Limit.TheVariants.{Text}
+use Rattle.line_player.specs.Rules.{Rules, Effect as LineEffect}
+use Rattle.line_player.specs.Courses.{output_of}
 use Rattle.replay_script.specs.Events.{event_in}
 use Rattle.replay_player.specs.States.{State, new_state}
-use Rattle.replay_player.specs.Effects.{Effect, effect}
+use Rattle.replay_player.specs.Effects.{EventEffect, effect}
 use Rattle.replay_player.specs.Ends.{written_at_end}
 
 -- the bytes of a line without its line end
 abbrev pub most_in_line : ℕ
 most_in_line = 4_096
 
-abbrev pub of_line : Effect → LineEffect State
+abbrev pub of_line : EventEffect → LineEffect State
 of_line e = record { state = e.state; written = e.written }
 
 -- what a line does that is not too long; none where it is refused

@@ -2,14 +2,14 @@ ghost use Rattle.std.specs.Prelude.{◌≡◌, ◌≤◌, ℕ};
 ghost use Rattle.replay_workload.specs.Workload.{workload_of};
 ghost use Rattle.gps_replay.specs.Generated.{Generated, GeneratedCause};
 
-use crate::held::Held;
+use crate::held::HeldScript;
 use crate::quiet::Quiet;
 use gps_fixed::{Bytes, NoMemory};
 use gps_outside::Sink;
-use line_play::{Outcome, play};
+use line_cut::Limit;
+use line_player::{PlayOutcome, play};
 use replay_workload::workload;
 use std::alloc::Global;
-use text_lines::Limit;
 
 /// The bytes of a line without its line end.
 const MOST_IN_LINE: usize = 4_096;
@@ -21,7 +21,7 @@ const QUEUE: u32 = 4_096;
 
 /// Plays a made script, and writes its closing lines.
 #[tactic(auto, using(crate::proofs::Making::generated, crate::proofs::Making::caused, crate::proofs::Making::nothing_played))]
-fn play_made<K: Sink>(alloc: Global, script: Bytes, sink: &mut K) -> Outcome
+fn play_made<K: Sink>(alloc: Global, script: Bytes, sink: &mut K) -> PlayOutcome
     ensures generated { (seed size : ℕ) → script ≡ workload_of seed size → Generated result seed size (K.written sink.old) (K.written sink.new) }
     ensures cause { (seed size : ℕ) → size ≤ 10000 → script ≡ workload_of seed size → GeneratedCause result (K.faults sink.old) (K.faults sink.new) }
     ensures faults_stay { K.faults sink.old ≤ K.faults sink.new }
@@ -29,7 +29,7 @@ fn play_made<K: Sink>(alloc: Global, script: Bytes, sink: &mut K) -> Outcome
     match u32::try_from(script.len()) {
         Ok(most) => {
             let mut quiet = Quiet::new(alloc, LIMIT, QUEUE);
-            let mut source = Held::new(script);
+            let mut source = HeldScript::new(script);
             play(
                 alloc,
                 Limit::Text(MOST_IN_LINE),
@@ -39,14 +39,14 @@ fn play_made<K: Sink>(alloc: Global, script: Bytes, sink: &mut K) -> Outcome
                 sink,
             )
         }
-        Err(_) => Outcome::NoMemory,
+        Err(_) => PlayOutcome::NoMemory,
     }
 }
 
 /// Makes the script of `size` seconds, plays it with the default history and queue, and writes its closing lines alone. No line
 /// of it is refused.
 #[tactic(auto, using(crate::proofs::Making::nothing_played))]
-pub fn generate<K: Sink>(alloc: Global, seed: u32, size: u32, sink: &mut K) -> Outcome
+pub fn generate<K: Sink>(alloc: Global, seed: u32, size: u32, sink: &mut K) -> PlayOutcome
     requires from { 1 ≤ size }
     requires to { size ≤ 10000 }
     ensures generated { Generated result seed size (K.written sink.old) (K.written sink.new) }
@@ -55,6 +55,6 @@ pub fn generate<K: Sink>(alloc: Global, seed: u32, size: u32, sink: &mut K) -> O
 {
     match workload(alloc, seed, size) {
         Ok(script) => play_made(alloc, script, sink),
-        Err(NoMemory) => Outcome::NoMemory,
+        Err(NoMemory) => PlayOutcome::NoMemory,
     }
 }

@@ -9,12 +9,12 @@ use std::marker::Model;
 
 /// A script in memory as a source, which never fails.
 #[derive(Drop)]
-pub(crate) struct Held {
+pub(crate) struct HeldScript {
     script: Bytes,
     at: usize,
 }
 
-impl Model for Held {
+impl Model for HeldScript {
     ghost use Rattle.std.specs.Prelude.{◌≤◌, length, take, drop};
     ghost use Rattle.gps_outside.specs.Told.{Stream};
 
@@ -25,15 +25,15 @@ impl Model for Held {
     ghost invariant = { λ h. h.at ≤ length h.script };
 }
 
-impl Held {
-    pub(crate) fn new(script: Bytes) -> Held
+impl HeldScript {
+    pub(crate) fn new(script: Bytes) -> HeldScript
         ensures { result ≡ record { taken = []; left = script } }
     {
-        Held { script, at: 0 }
+        HeldScript { script, at: 0 }
     }
 }
 
-impl Source for Held {
+impl Source for HeldScript {
     ghost use Rattle.std.specs.Prelude.{Some};
 
     ghost faults = { λ _. 0 };

@@ -4,7 +4,7 @@ ghost use Rattle.replay_player.specs.States.{new_state};
 
 use crate::script::Script;
 use gps_fixed::{Bytes, NoMemory};
-use line_play::{Plays, Turn};
+use line_player::{LineStep, PlaysLines};
 use std::alloc::Global;
 
 /// The lines of a script, of whose output the closing lines alone are written.
@@ -31,7 +31,7 @@ impl Quiet {
     }
 }
 
-impl Plays for Quiet {
+impl PlaysLines for Quiet {
     ghost use Rattle.gps_replay.specs.Closings.{closing_rules};
     ghost use Rattle.gps_replay.specs.Scripts.{IsReplaying};
     ghost use Rattle.replay_player.specs.States.{State as ScriptState};
@@ -43,7 +43,7 @@ impl Plays for Quiet {
     ghost stands = { λ q state. IsReplaying q.script.queue q.script.player state };
 
     #[tactic(auto, using(crate::proofs::Silent::silently, crate::proofs::Silent::rules_same))]
-    fn line(&mut self, text: &[u8], _out: &mut Bytes) -> Result<Turn, NoMemory> {
+    fn line(&mut self, text: &[u8], _out: &mut Bytes) -> Result<LineStep, NoMemory> {
         self.unwritten.clear();
         self.script.line(text, &mut self.unwritten)
     }

@@ -1,14 +1,14 @@
 ghost use Rattle.std.specs.Prelude.{◌≡◌, ◌≤◌, ◌⊎◌};
 ghost use Rattle.gps_outside.specs.Counts.{Rose, RoseBy};
-ghost use Rattle.line_play.specs.declared.outcome.Outcome.{Outcome};
-ghost use Rattle.line_play.specs.Outcomes.{HasCause, status_of};
+ghost use Rattle.line_player.specs.declared.outcome.PlayOutcome.{PlayOutcome};
+ghost use Rattle.line_player.specs.Outcomes.{PlayHasCause, status_of};
 ghost use Rattle.gps_replay.specs.Replayed.{IsScript, Replayed};
 
 use crate::script::Script;
 use gps_outside::{Sink, Source};
-use line_play::{Outcome, play};
+use line_cut::Limit;
+use line_player::{PlayOutcome, play};
 use std::alloc::Global;
-use text_lines::Limit;
 
 /// The bytes of a line without its line end.
 const MOST_IN_LINE: usize = 4_096;
@@ -19,7 +19,7 @@ const MOST_BYTES: u32 = 1_073_741_824;
 /// Reads a script and writes the output of its run. A generation of its book holds at most `limit` entries, which changes
 /// nothing of the output; an outlet keeps `queue` items where no line says another number.
 ///
-/// A line is played as soon as its end was read, or so much of it that it is too long. At [`Outcome::BadLine`] the line N
+/// A line is played as soon as its end was read, or so much of it that it is too long. At [`PlayOutcome::BadLine`] the line N
 /// was refused, and `bad line N` stands behind what those before it write.
 pub fn replay<S: Source, K: Sink>(
     alloc: Global,
@@ -27,19 +27,19 @@ pub fn replay<S: Source, K: Sink>(
     sink: &mut K,
     limit: u32,
     queue: u32,
-) -> Outcome
+) -> PlayOutcome
     requires some { 1 ≤ limit }
     requires most { limit ≤ 33554432 }
     requires least { 1 ≤ queue }
     requires within { queue ≤ 65536 }
     ensures replayed { Replayed result queue (S.content source.old) (S.content source.new) (K.written sink.old) (K.written sink.new) }
-    ensures cause { HasCause result (S.faults source.old) (S.faults source.new) (S.quiets source.old) (S.quiets source.new)
+    ensures cause { PlayHasCause result (S.faults source.old) (S.faults source.new) (S.quiets source.old) (S.quiets source.new)
         (K.faults sink.old) (K.faults sink.new) }
     ensures complete { IsScript queue (S.content source.old)
         → (Rose (S.faults source.old) (S.faults source.new) → ⊥)
         → (RoseBy 1000 (S.quiets source.old) (S.quiets source.new) → ⊥)
         → (Rose (K.faults sink.old) (K.faults sink.new) → ⊥)
-        → (result ≡ Outcome.Done) ⊎ (result ≡ Outcome.NoMemory) }
+        → (result ≡ PlayOutcome.Done) ⊎ (result ≡ PlayOutcome.NoMemory) }
     ensures faults_stay { S.faults source.old ≤ S.faults source.new }
     ensures quiets_stay { S.quiets source.old ≤ S.quiets source.new }
     ensures sink_faults_stay { K.faults sink.old ≤ K.faults sink.new }
@@ -70,8 +70,8 @@ pub fn replay_core<S: Source, K: Sink>(
     requires most { limit ≤ 33554432 }
     requires least { 1 ≤ queue }
     requires within { queue ≤ 65536 }
-    ensures replayed { (outcome : Outcome) × (result ≡ status_of outcome)
-        × HasCause outcome (S.faults source.old) (S.faults source.new) (S.quiets source.old) (S.quiets source.new) (K.faults sink.old) (K.faults sink.new)
+    ensures replayed { (outcome : PlayOutcome) × (result ≡ status_of outcome)
+        × PlayHasCause outcome (S.faults source.old) (S.faults source.new) (S.quiets source.old) (S.quiets source.new) (K.faults sink.old) (K.faults sink.new)
         × Replayed outcome queue (S.content source.old) (S.content source.new) (K.written sink.old) (K.written sink.new) }
     ensures complete { IsScript queue (S.content source.old)
         → (Rose (S.faults source.old) (S.faults source.new) → ⊥)

@@ -4,7 +4,7 @@ ghost use Rattle.replay_player.specs.Ends.{closings_at_end};
 ghost use Rattle.replay_player.specs.States.{State, new_state};
 
 use gps_fixed::{Bytes, NoMemory};
-use line_play::{Plays, Turn};
+use line_player::{LineStep, PlaysLines};
 use replay_player::Player;
 use replay_script::event_of;
 use std::alloc::Global;
@@ -54,7 +54,7 @@ impl Script {
     }
 }
 
-impl Plays for Script {
+impl PlaysLines for Script {
     ghost use Rattle.gps_replay.specs.Run.{rules_of};
     ghost use Rattle.gps_replay.specs.Scripts.{IsReplaying};
     ghost use Rattle.replay_player.specs.States.{State as ScriptState};
@@ -66,9 +66,9 @@ impl Plays for Script {
     ghost stands = { λ s state. IsReplaying s.queue s.player state };
 
     #[tactic(auto, using(crate::proofs::Turns::no_event, crate::proofs::Turns::refused, crate::proofs::Turns::made))]
-    fn line(&mut self, text: &[u8], out: &mut Bytes) -> Result<Turn, NoMemory> {
+    fn line(&mut self, text: &[u8], out: &mut Bytes) -> Result<LineStep, NoMemory> {
         let Some(event) = event_of(self.alloc, text)? else {
-            return Ok(Turn::Refused);
+            return Ok(LineStep::Refused);
         };
         let Some(player) = self.player.take() else {
             unreachable!()
@@ -76,9 +76,9 @@ impl Plays for Script {
         match player.play(self.queue, event, out)? {
             Some(player) => {
                 put(&mut self.player, player);
-                Ok(Turn::Made)
+                Ok(LineStep::Made)
             }
-            None => Ok(Turn::Refused),
+            None => Ok(LineStep::Refused),
         }
     }
 

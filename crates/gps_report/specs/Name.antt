@@ -1,4 +1,4 @@
--- Which texts name a device. This project's own.
+-- Which texts name a device.
 use Rattle.std.specs.Prelude.{ℕ, Bool, List, nat_eq, nat_le, nat_lt, ◌&&◌, not, length, true, [], ◌∷◌}
 use Rattle.std.specs.List.{list_all, list_any}
 use Rattle.std.specs.Cmp.Lexicographic.{pointwise}

@@ -1,4 +1,4 @@
--- A note with nothing given. This project's own.
+-- A note with nothing given.
 use Rattle.std.specs.Prelude.{None, []}
 use Rattle.gps_report.specs.declared.note.Note.{Note}
 use Rattle.gps_report.specs.declared.note.NoteKind.{NoteKind}

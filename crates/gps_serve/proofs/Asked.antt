@@ -3,8 +3,8 @@ use Rattle.std.proofs.Common.{◌≡◌, ℕ, ◌≤◌, ◌+◌, ◌⊎◌, inl
 use Rattle.std.proofs.lemmas.List.{append-nil}
 use Rattle.gps_world.specs.Asking.{Asking, asked_nothing}
 use Rattle.gps_world.specs.declared.place.Place.{Place}
-use Rattle.serve_opening.specs.declared.opening.Stop.{Stop}
-use Rattle.serve_opening.specs.Opening.{AsksAll, AsksSome, OpenAsks, places_in}
+use Rattle.world_opening.specs.declared.opening.Stop.{Stop}
+use Rattle.world_opening.specs.Opening.{AsksAll, AsksSome, OpenAsks, places_in}
 
 pub all_of : {X : Type 0} (x : X) (old new : Asking) (places : List Place) (listen : List ℕ) → old ≡ asked_nothing → OpenAsks {X = X} (Ok x) old new places listen
     → AsksAll new places listen

@@ -1,12 +1,12 @@
 -- What the counts of the outside say once the threads have ended.
 use Rattle.std.proofs.Common.{◌≡◌, ℕ, ◌<◌, ◌⊎◌, inl, inr, Bool, true, false, ◌||◌, List, [], ◌∷◌, ◌++◌, refl, sym, ◌∙◌, subst, arith}
-use Rattle.serve_settling.specs.Failing.{SomeFailed}
-use Rattle.serve_settling.proofs.Causes.{failed_front, failed_last}
+use Rattle.serve_end_settling.specs.Failing.{SomeFailed}
+use Rattle.serve_end_settling.proofs.Causes.{failed_front, failed_last}
 use Rattle.std.specs.Prelude.{Result, Err}
 use Rattle.gps_outside.specs.Counts.{Rose}
-use Rattle.serve_opening.specs.declared.opening.Stop.{Stop}
-use Rattle.serve_opening.specs.declared.opening.Stop.TheVariants.{Input, Listen}
-use Rattle.serve_opening.specs.Opening.{HasCause, world_faults}
+use Rattle.world_opening.specs.declared.opening.Stop.{Stop}
+use Rattle.world_opening.specs.declared.opening.Stop.TheVariants.{Input, Listen}
+use Rattle.world_opening.specs.Opening.{OpeningHasCause, world_faults}
 use Rattle.gps_serve.specs.Doors.{FailsBy}
 
 either : (before now : Bool) → (before || now) ≡ true → (before ≡ true) ⊎ (now ≡ true)
@@ -26,19 +26,19 @@ gate_cause failed before now fails is = let rose = fails.cause is in omega (arit
 
 -- where nothing was served, something could not be opened, or memory was wanting
 pub none_of : (X : Type 0) {W : Type 0} (input listen : W → ℕ) (world world' world'' : W) (stop : Stop) (status : ℕ)
-    → HasCause {X = X} (Err stop) (world_faults (input world) (listen world)) (world_faults (input world') (listen world'))
+    → OpeningHasCause {X = X} (Err stop) (world_faults (input world) (listen world)) (world_faults (input world') (listen world'))
     → ((status ≡ 3) × (stop ≡ Input)) ⊎ ((status ≡ 8) × (stop ≡ Listen)) ⊎ (status ≡ 7) → world'' ≡ world'
     → ((status ≡ 3) × Rose (input world) (input world'')) ⊎ ((status ≡ 8) × Rose (listen world) (listen world'')) ⊎ (status ≡ 7)
 none_of X {W} input listen world world' world'' stop status cause each is = elim each [
   | inl first ↦ inl (
     first.0,
     subst (λ (w : W). Rose (input world) (input w)) (sym is)
-        (subst (λ (s : Stop). HasCause {X = X} (Err s) (world_faults (input world) (listen world)) (world_faults (input world') (listen world'))) first.1 cause),
+        (subst (λ (s : Stop). OpeningHasCause {X = X} (Err s) (world_faults (input world) (listen world)) (world_faults (input world') (listen world'))) first.1 cause),
   )
   | inr (inl door) ↦ inr (inl (
     door.0,
     subst (λ (w : W). Rose (listen world) (listen w)) (sym is)
-        (subst (λ (s : Stop). HasCause {X = X} (Err s) (world_faults (input world) (listen world)) (world_faults (input world') (listen world'))) door.1 cause),
+        (subst (λ (s : Stop). OpeningHasCause {X = X} (Err s) (world_faults (input world) (listen world)) (world_faults (input world') (listen world'))) door.1 cause),
   ))
   | inr (inr memory) ↦ inr (inr memory)
 ]

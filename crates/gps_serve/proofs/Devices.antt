@@ -4,29 +4,29 @@ use Rattle.std.proofs.lemmas.List.{append-nil, map-append}
 use Rattle.std.specs.List.{AllZip}
 use Rattle.gps_fixed.specs.Moment.{Moment}
 use Rattle.gps_lane.specs.Ends.{Putting, Taking}
-use Rattle.hub_laws.specs.declared.ends.DeviceEnd.{DeviceEnd}
-use Rattle.hub_laws.specs.Parts.{LaneNames, Lanes, names_of}
+use Rattle.hub_promise.specs.declared.ends.DeviceEnd.{DeviceEnd}
+use Rattle.hub_promise.specs.Parts.{LaneNames, InletsView, names_of}
 use Rattle.serve_pieces.specs.declared.piece.Ending.TheVariants.{Failed}
 use Rattle.serve_pieces.specs.declared.piece.Piece.{Piece}
 use Rattle.serve_threads.specs.declared.reading.ReaderDone.{ReaderDone}
 use Rattle.serve_workers.specs.EdgeLines.{HandsLines}
 use Rattle.serve_workers.specs.Readings.{HandsOn, IsDevicePiece}
 use Rattle.serve_pieces.specs.Carried.{device_part}
-use Rattle.serve_parts.specs.declared.done.DeviceDone.{DeviceDone}
-use Rattle.serve_settling.specs.declared.device.DeviceRun.{DeviceRun}
-use Rattle.serve_settling.specs.Failing.{source_of}
-use Rattle.serve_settling.specs.Lanes.{AreEnds, Settles, SettlesSome, tx_of}
-use Rattle.serve_settling.proofs.Endings.{devices_tell_last, edges_tell_last}
+use Rattle.serve_end_parts.specs.declared.done.DeviceDone.{DeviceDone}
+use Rattle.serve_end_settling.specs.declared.device.DeviceRun.{DeviceRun}
+use Rattle.serve_end_settling.specs.Failing.{source_of}
+use Rattle.serve_end_settling.specs.Lanes.{AreEnds, Settles, SettlesSome, tx_of}
+use Rattle.serve_end_settling.proofs.Endings.{devices_tell_last, edges_tell_last}
 use Rattle.gps_serve.specs.declared.lanes.DeviceStart.{DeviceStart}
 use Rattle.gps_serve.specs.declared.lanes.EdgeStart.{EdgeStart}
 use Rattle.gps_serve.specs.AtEnd.{BytesServed, DeviceServed, EdgesServed}
-use Rattle.serve_settling.specs.Runs.{EdgesRan, SourceFacts}
+use Rattle.serve_end_settling.specs.Runs.{EdgesRan, SourceFacts}
 use Rattle.gps_serve.specs.Runs.{DeviceReady, DevicesRan, DevicesSoFar, RanOn}
 use Rattle.gps_serve.specs.Starts.{IsFreshDevice, IsFreshEdge, edge_start_of}
 use Rattle.gps_serve.proofs.Zips.{zip_more}
 
 -- the end that gets a device's bytes is still that of its reader's lane
-pub bytes_lane : {S R : Type 0} (may : Option (List Moment)) (facts : SourceFacts S) (x : Lanes) (run : DeviceRun S R) → DeviceReady may facts x run
+pub bytes_lane : {S R : Type 0} (may : Option (List Moment)) (facts : SourceFacts S) (x : InletsView) (run : DeviceRun S R) → DeviceReady may facts x run
     → x.bytes.lane ≡ run.bytes.pieces.lane
 bytes_lane may facts x run ready =
     ap (λ (n : LaneNames). n.bytes) ready.lanes ∙ ready.fresh.bytes.one ∙ sym (ap (λ (tx : Putting Piece). tx.lane) ready.ran.bytes.lane)
@@ -45,12 +45,12 @@ edge_ends facts (Some start) (Some first) (Some rx) (Some reader) fresh lanes ra
     let same : rx.lane ≡ first.lane = cc lanes in
     same ∙ fresh.0.one ∙ sym (ap (λ (tx : Putting Piece). tx.lane) ran.lane)
 
-pub edges_lane : {S R : Type 0} (may : Option (List Moment)) (facts : SourceFacts S) (x : Lanes) (run : DeviceRun S R) → DeviceReady may facts x run
+pub edges_lane : {S R : Type 0} (may : Option (List Moment)) (facts : SourceFacts S) (x : InletsView) (run : DeviceRun S R) → DeviceReady may facts x run
     → AreEnds (tx_of run.edges) x.edges
 edges_lane may facts x run ready =
     edge_ends facts ready.start.edges ready.first.edges x.edges run.edges ready.fresh.edges (ap (λ (n : LaneNames). n.edges) ready.lanes) ready.ran.edges
 
-bytes_served : {S R : Type 0} (may : Option (List Moment)) (facts : SourceFacts S) (x : Lanes) (run : DeviceRun S R) (rx : Taking Piece) → DeviceReady may facts x run
+bytes_served : {S R : Type 0} (may : Option (List Moment)) (facts : SourceFacts S) (x : InletsView) (run : DeviceRun S R) (rx : Taking Piece) → DeviceReady may facts x run
     → Settles run.bytes.pieces x.bytes rx → BytesServed may facts x.bytes run.bytes.pieces rx run.bytes.source
 bytes_served may facts x run rx ready settles =
     let start = ready.start in
@@ -99,7 +99,7 @@ lines_served facts (Some start) (Some first) (Some rx) (Some rx') (Some reader) 
     }
 
 -- what is left of a device, once its lanes are settled
-pub device_served : {S R : Type 0} (may : Option (List Moment)) (facts : SourceFacts S) (x : Lanes) (run : DeviceRun S R) (done : DeviceDone S R)
+pub device_served : {S R : Type 0} (may : Option (List Moment)) (facts : SourceFacts S) (x : InletsView) (run : DeviceRun S R) (done : DeviceDone S R)
     → DeviceReady may facts x run → done.source ≡ Some run.bytes.source → done.edges ≡ source_of run.edges → done.bytes_tx ≡ run.bytes.pieces
     → done.edges_tx ≡ tx_of run.edges → Settles run.bytes.pieces x.bytes done.bytes_rx → SettlesSome (tx_of run.edges) x.edges done.edges_rx
     → DeviceServed may facts x done
@@ -113,7 +113,7 @@ device_served may facts x run done ready source edges bytes_tx edges_tx bytes_rx
 }
 
 -- of each device
-all_ready : {S R : Type 0} (may : Option (List Moment)) (facts : SourceFacts S) (starts : List (DeviceStart S R)) (first inlets : List Lanes) (runs : List (DeviceRun S R))
+all_ready : {S R : Type 0} (may : Option (List Moment)) (facts : SourceFacts S) (starts : List (DeviceStart S R)) (first inlets : List InletsView) (runs : List (DeviceRun S R))
     → AllZip (IsFreshDevice facts) starts first → map names_of inlets ≡ map names_of first → AllZip (RanOn may facts) starts runs
     → AllZip (DeviceReady may facts) inlets runs
 all_ready may facts [] [] [] [] fresh lanes ran = tt
@@ -128,11 +128,11 @@ all_ready may facts (start ∷ starts) (f ∷ first) (x ∷ inlets) (run ∷ run
   all_ready may facts starts first inlets runs fresh.1 (cc lanes) ran.1,
 )
 
-pub devices_ready : {S R : Type 0} (may : Option (List Moment)) (facts : SourceFacts S) (inlets : List Lanes) (runs : List (DeviceRun S R))
+pub devices_ready : {S R : Type 0} (may : Option (List Moment)) (facts : SourceFacts S) (inlets : List InletsView) (runs : List (DeviceRun S R))
     → DevicesRan may facts (map names_of inlets) runs → AllZip (DeviceReady may facts) inlets runs
 devices_ready may facts inlets runs ran = all_ready may facts ran.starts ran.first inlets runs ran.fresh (sym ran.lanes_are) ran.ran
 
-pub devices_begin : {S R : Type 0} (may : Option (List Moment)) (facts : SourceFacts S) (inlets left : List Lanes) (runs runs' : List (DeviceRun S R)) (devices : List (DeviceDone S R))
+pub devices_begin : {S R : Type 0} (may : Option (List Moment)) (facts : SourceFacts S) (inlets left : List InletsView) (runs runs' : List (DeviceRun S R)) (devices : List (DeviceDone S R))
     → AllZip (DeviceReady may facts) inlets runs → left ≡ inlets → runs' ≡ runs → devices ≡ [] → DevicesSoFar may facts inlets left runs' devices
 devices_begin {S} {R} may facts inlets left runs runs' devices ready left_is runs_are none = record {
   done = [];
@@ -151,21 +151,21 @@ zip_some P [] [] zip some = some
 zip_some P [] (y ∷ ys) zip some = absurd zip
 zip_some P (x ∷ xs) ys zip some = omega arith
 
-pub lanes_left : {S R : Type 0} (may : Option (List Moment)) (facts : SourceFacts S) (inlets left : List Lanes) (run : DeviceRun S R) (runs runs' : List (DeviceRun S R))
+pub lanes_left : {S R : Type 0} (may : Option (List Moment)) (facts : SourceFacts S) (inlets left : List InletsView) (run : DeviceRun S R) (runs runs' : List (DeviceRun S R))
     (devices : List (DeviceDone S R)) → DevicesSoFar may facts inlets left runs devices → runs ≡ run ∷ runs' → 0 < length left
 lanes_left may facts inlets left run runs runs' devices so runs_are =
     let there = ap length runs_are in
     zip_some (DeviceReady may facts) left runs so.ready (omega arith)
 
 -- the next device, whose lanes and run were taken
-pub next_device : {S R : Type 0} (may : Option (List Moment)) (facts : SourceFacts S) (inlets left left' : List Lanes) (x : Lanes) (run : DeviceRun S R)
+pub next_device : {S R : Type 0} (may : Option (List Moment)) (facts : SourceFacts S) (inlets left left' : List InletsView) (x : InletsView) (run : DeviceRun S R)
     (runs runs' : List (DeviceRun S R)) (devices : List (DeviceDone S R))
     → DevicesSoFar may facts inlets left runs devices → left ≡ x ∷ left' → runs ≡ run ∷ runs' → DevicesSoFar may facts inlets (x ∷ left') (run ∷ runs') devices
 next_device may facts inlets left left' x run runs runs' devices so left_is runs_are =
     subst (λ l. DevicesSoFar may facts inlets l (run ∷ runs') devices) left_is (subst (λ r. DevicesSoFar may facts inlets left r devices) runs_are so)
 
 -- a device more
-pub devices_more : {S R : Type 0} (may : Option (List Moment)) (facts : SourceFacts S) (inlets left : List Lanes) (x : Lanes) (run : DeviceRun S R) (runs : List (DeviceRun S R))
+pub devices_more : {S R : Type 0} (may : Option (List Moment)) (facts : SourceFacts S) (inlets left : List InletsView) (x : InletsView) (run : DeviceRun S R) (runs : List (DeviceRun S R))
     (devices devices' : List (DeviceDone S R)) (device : DeviceDone S R)
     → DevicesSoFar may facts inlets (x ∷ left) (run ∷ runs) devices → DeviceServed may facts x device → devices' ≡ devices ++ device ∷ []
     → DevicesSoFar may facts inlets left runs devices'
@@ -189,7 +189,7 @@ none_left : {X : Type 0} (xs : List X) → length xs ≡ 0 → xs ≡ []
 none_left [] none = refl
 none_left (x ∷ xs) none = absurd (omega arith)
 
-all_of : {S R : Type 0} (may : Option (List Moment)) (facts : SourceFacts S) (inlets left : List Lanes) (runs : List (DeviceRun S R)) (devices : List (DeviceDone S R))
+all_of : {S R : Type 0} (may : Option (List Moment)) (facts : SourceFacts S) (inlets left : List InletsView) (runs : List (DeviceRun S R)) (devices : List (DeviceDone S R))
     → DevicesSoFar may facts inlets left runs devices → left ≡ [] → AllZip (DeviceServed may facts) inlets devices
 all_of may facts inlets left runs devices so none =
     subst (λ l. AllZip (DeviceServed may facts) l devices) (sym (so.split ∙ ap (λ l. so.done ++ l) none ∙ append-nil so.done)) so.served
@@ -202,12 +202,12 @@ zip_length P (x ∷ xs) [] zip = absurd zip
 zip_length P (x ∷ xs) (y ∷ ys) zip = ap suc (zip_length P xs ys zip.1)
 
 -- all of them
-pub devices_all : {S R : Type 0} (may : Option (List Moment)) (facts : SourceFacts S) (inlets left : List Lanes) (runs : List (DeviceRun S R)) (devices : List (DeviceDone S R))
+pub devices_all : {S R : Type 0} (may : Option (List Moment)) (facts : SourceFacts S) (inlets left : List InletsView) (runs : List (DeviceRun S R)) (devices : List (DeviceDone S R))
     → DevicesSoFar may facts inlets left runs devices → length runs ≡ 0 → AllZip (DeviceServed may facts) inlets devices
 devices_all may facts inlets left runs devices so none =
     all_of may facts inlets left runs devices so (none_left left (zip_length (DeviceReady may facts) left runs so.ready ∙ none))
 
-pub ends_all : {S R : Type 0} (may : Option (List Moment)) (facts : SourceFacts S) (inlets left : List Lanes) (runs : List (DeviceRun S R)) (devices : List (DeviceDone S R))
+pub ends_all : {S R : Type 0} (may : Option (List Moment)) (facts : SourceFacts S) (inlets left : List InletsView) (runs : List (DeviceRun S R)) (devices : List (DeviceDone S R))
     (ends all : List (Option DeviceEnd)) → DevicesSoFar may facts inlets left runs devices → length runs ≡ 0 → length ends ≡ length left
     → map (λ (d : DeviceDone S R). d.end) devices ++ ends ≡ all → map (λ (d : DeviceDone S R). d.end) devices ≡ all
 ends_all {S} {R} may facts inlets left runs devices ends all so none same are =

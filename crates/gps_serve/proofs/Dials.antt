@@ -6,21 +6,21 @@ use Rattle.gps_lane.specs.Ends.{Putting, Taking}
 use Rattle.gps_outside.specs.Ticks.{Dial}
 use Rattle.gps_outside.specs.Told.{Stream}
 use Rattle.gps_world.specs.Opening.{Tells}
-use Rattle.hub_laws.specs.Parts.{Lanes, terms_of}
+use Rattle.hub_promise.specs.Parts.{InletsView, terms_of}
 use Rattle.report_book.specs.BookView.{BookView}
-use Rattle.serve_opening.specs.Opening.{dial_of}
-use Rattle.serve_parts.specs.declared.plan.Plan.{Plan}
-use Rattle.serve_parts.specs.declared.done.DeviceDone.{DeviceDone}
-use Rattle.serve_parts.specs.declared.done.MonitorDone.{MonitorDone}
-use Rattle.serve_parts.specs.declared.done.SessionDone.{SessionDone}
+use Rattle.world_opening.specs.Opening.{dial_of}
+use Rattle.serve_end_parts.specs.declared.plan.Plan.{Plan}
+use Rattle.serve_end_parts.specs.declared.done.DeviceDone.{DeviceDone}
+use Rattle.serve_end_parts.specs.declared.done.MonitorDone.{MonitorDone}
+use Rattle.serve_end_parts.specs.declared.done.SessionDone.{SessionDone}
 use Rattle.serve_pieces.specs.Carried.{device_part}
 use Rattle.serve_pieces.specs.declared.piece.Ending.{Ending}
 use Rattle.serve_pieces.specs.declared.piece.Piece.{Piece}
 use Rattle.serve_pieces.specs.declared.piece.Piece.TheVariants.{Bytes, Line, Input, Last}
-use Rattle.serve_settling.specs.Runs.{SourceFacts}
+use Rattle.serve_end_settling.specs.Runs.{SourceFacts}
 use Rattle.serve_workers.specs.Clocks.{MayGive}
 use Rattle.serve_workers.specs.Readings.{Each, HandsOn, IsDevicePiece}
-use Rattle.gps_serve.specs.AtEnd.{AtEnd, BytesServed, DeviceServed, GateFacts, SinkFacts, Told, told_in, told_of}
+use Rattle.gps_serve.specs.AtEnd.{AtEnd, BytesServed, DeviceServed, GateFacts, SinkFacts, DaemonSettings, settings_in, settings_of}
 use Rattle.gps_serve.specs.Doors.{NoneLeft, Way}
 
 untold_pieces : (may : Option (List Moment)) (pieces : List Piece) → Each (IsDevicePiece may) pieces → Each (IsDevicePiece None) pieces
@@ -46,7 +46,7 @@ untold_bytes may facts x tx rx source served = record {
   lane = served.lane;
 }
 
-untold_devices : {S R : Type 0} (may : Option (List Moment)) (facts : SourceFacts S) (inlets : List Lanes) (devices : List (DeviceDone S R))
+untold_devices : {S R : Type 0} (may : Option (List Moment)) (facts : SourceFacts S) (inlets : List InletsView) (devices : List (DeviceDone S R))
     → AllZip (DeviceServed may facts) inlets devices → AllZip (DeviceServed None facts) inlets devices
 untold_devices may facts [] [] served = tt
 untold_devices may facts [] (d ∷ devices) served = absurd served
@@ -61,7 +61,7 @@ untold_devices may facts (x ∷ inlets) (d ∷ devices) served = (
   untold_devices may facts inlets devices served.1,
 )
 
-module _ {G S K R : Type 0} (told : Told) (sources : SourceFacts S) (sinks : SinkFacts K) (gates : GateFacts G S K) (full : ℕ) (lacks : Bool) (b : BookView)
+module _ {G S K R : Type 0} (told : DaemonSettings) (sources : SourceFacts S) (sinks : SinkFacts K) (gates : GateFacts G S K) (full : ℕ) (lacks : Bool) (b : BookView)
     (devices : List (DeviceDone S R)) (sessions : List (SessionDone S K R)) (monitors : List MonitorDone) (gate : Option G) where
   untold : (may : Option (List Moment)) (links : Option (List (Way S K))) → AtEnd told may sources sinks gates links full lacks b devices sessions monitors gate
       → AtEnd told None sources sinks gates links full lacks b devices sessions monitors gate
@@ -148,23 +148,23 @@ gives (Some dial) = refl
 pub may_give : (may : Option (List Moment)) (stamps : Option Dial) → may ≡ dial_of stamps → MayGive may stamps
 may_give may stamps is = subst (λ m. MayGive m stamps) (sym is) (gives stamps)
 
-told : List (List ℕ) → ℕ → ℕ → ℕ → ℕ → Told
+told : List (List ℕ) → ℕ → ℕ → ℕ → ℕ → DaemonSettings
 told names limit wait queue tries = record { names = names; limit = limit; wait = wait; queue = queue; tries = tries }
 
-same_told : (b : BookView) (first : List Lanes) (plan : Plan) → b.names ≡ plan.names → b.log.limit ≡ plan.limit
-    → told_of (terms_of b first plan.wait) plan.queue plan.tries ≡ told_in plan
+same_told : (b : BookView) (first : List InletsView) (plan : Plan) → b.names ≡ plan.names → b.log.limit ≡ plan.limit
+    → settings_of (terms_of b first plan.wait) plan.queue plan.tries ≡ settings_in plan
 unfolding told
 same_told b first plan names limit =
     ap (λ n. told n b.log.limit plan.wait plan.queue plan.tries) names ∙ ap (λ l. told plan.names l plan.wait plan.queue plan.tries) limit
 
 -- of a book that was made for the plan
 pub told_again : {G S K R : Type 0} (sources : SourceFacts S) (sinks : SinkFacts K) (gates : GateFacts G S K) (full : ℕ) (lacks : Bool) (book : Option BookView)
-    (devices : List (DeviceDone S R)) (sessions : List (SessionDone S K R)) (monitors : List MonitorDone) (gate : Option G) (b : BookView) (first : List Lanes) (plan : Plan)
+    (devices : List (DeviceDone S R)) (sessions : List (SessionDone S K R)) (monitors : List MonitorDone) (gate : Option G) (b : BookView) (first : List InletsView) (plan : Plan)
     (stamps shown : Option Dial) (links linked : Option (List (Way S K))) → b.names ≡ plan.names → b.log.limit ≡ plan.limit → Tells stamps shown → Tells links linked
-    → IfSome book (λ x. AtEnd (told_of (terms_of b first plan.wait) plan.queue plan.tries) (dial_of shown) sources sinks gates linked full lacks x devices sessions monitors gate)
-    → IfSome book (λ x. AtEnd (told_in plan) (dial_of stamps) sources sinks gates links full lacks x devices sessions monitors gate)
+    → IfSome book (λ x. AtEnd (settings_of (terms_of b first plan.wait) plan.queue plan.tries) (dial_of shown) sources sinks gates linked full lacks x devices sessions monitors gate)
+    → IfSome book (λ x. AtEnd (settings_in plan) (dial_of stamps) sources sinks gates links full lacks x devices sessions monitors gate)
 told_again sources sinks gates full lacks None devices sessions monitors gate b first plan stamps shown links linked names limit tells tells' so = tt
 told_again sources sinks gates full lacks (Some x) devices sessions monitors gate b first plan stamps shown links linked names limit tells tells' so =
-    as_linked (told_in plan) sources sinks gates full lacks x devices sessions monitors gate (dial_of stamps) links linked tells'
-    (as_told (told_in plan) sources sinks gates full lacks x devices sessions monitors gate linked stamps shown tells
-    (subst (λ (t : Told). AtEnd t (dial_of shown) sources sinks gates linked full lacks x devices sessions monitors gate) (same_told b first plan names limit) so))
+    as_linked (settings_in plan) sources sinks gates full lacks x devices sessions monitors gate (dial_of stamps) links linked tells'
+    (as_told (settings_in plan) sources sinks gates full lacks x devices sessions monitors gate linked stamps shown tells
+    (subst (λ (t : DaemonSettings). AtEnd t (dial_of shown) sources sinks gates linked full lacks x devices sessions monitors gate) (same_told b first plan names limit) so))

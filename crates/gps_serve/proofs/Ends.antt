@@ -6,25 +6,25 @@ use Rattle.gps_fixed.specs.Moment.{Moment}
 use Rattle.book_units.specs.Units.{IsUnit, UnitView, segment_of}
 use Rattle.gps_lane.specs.Ends.{Taking}
 use Rattle.report_book.specs.BookView.{BookView}
-use Rattle.report_book.specs.Standing.{Holds}
-use Rattle.hub_laws.specs.declared.ends.DeviceEnd.{DeviceEnd}
-use Rattle.hub_laws.specs.DaemonHub.{DaemonHub}
+use Rattle.report_book.specs.Standing.{BookHolds}
+use Rattle.hub_promise.specs.declared.ends.DeviceEnd.{DeviceEnd}
+use Rattle.hub_promise.specs.DaemonHub.{DaemonHub}
 use Rattle.hub_door.specs.Admissions.{Admissions}
-use Rattle.hub_laws.specs.Given.{is_end}
-use Rattle.hub_laws.specs.Keeping.{IsClosed}
-use Rattle.hub_laws.specs.Parts.{AreAdmitted, Lanes, Parts, Terms, terms_of}
+use Rattle.hub_promise.specs.Given.{is_end}
+use Rattle.hub_promise.specs.Keeping.{IsClosed}
+use Rattle.hub_promise.specs.Parts.{AreAdmitted, InletsView, Parts, Terms, terms_of}
 use Rattle.serve_pieces.specs.declared.piece.Piece.{Piece}
-use Rattle.serve_parts.specs.declared.done.DeviceDone.{DeviceDone}
-use Rattle.serve_parts.specs.declared.done.MonitorDone.{MonitorDone}
-use Rattle.serve_parts.specs.declared.done.SessionDone.{SessionDone}
-use Rattle.serve_settling.specs.declared.device.DeviceRun.{DeviceRun}
-use Rattle.serve_settling.specs.Runs.{SourceFacts}
-use Rattle.serve_threads.specs.declared.monitors.WatchDone.{WatchDone}
-use Rattle.serve_threads.specs.declared.monitors.Watcher.{Watcher}
+use Rattle.serve_end_parts.specs.declared.done.DeviceDone.{DeviceDone}
+use Rattle.serve_end_parts.specs.declared.done.MonitorDone.{MonitorDone}
+use Rattle.serve_end_parts.specs.declared.done.SessionDone.{SessionDone}
+use Rattle.serve_end_settling.specs.declared.device.DeviceRun.{DeviceRun}
+use Rattle.serve_end_settling.specs.Runs.{SourceFacts}
+use Rattle.serve_threads.specs.declared.monitors.ReadingsDone.{ReadingsDone}
+use Rattle.serve_threads.specs.declared.monitors.MonitorStart.{MonitorStart}
 use Rattle.serve_threads.specs.Segments.{segments_of}
 use Rattle.gps_serve.specs.declared.lanes.DeviceStart.{DeviceStart}
-use Rattle.serve_threads.specs.declared.session.Link.{Link}
-use Rattle.gps_serve.specs.AtEnd.{AtEnd, DeviceServed, GateFacts, GateServed, MonitorServed, SinkFacts, told_of, watched_units}
+use Rattle.serve_threads.specs.declared.session.SessionLink.{SessionLink}
+use Rattle.gps_serve.specs.AtEnd.{AtEnd, DeviceServed, GateFacts, GateServed, MonitorServed, SinkFacts, settings_of, watched_units}
 use Rattle.gps_serve.specs.Doors.{Way, lanes_of}
 use Rattle.gps_serve.specs.Readies.{AllServed, MonitorReady}
 use Rattle.gps_serve.specs.Runs.{DeviceReady, DevicesRan, RanOn}
@@ -38,7 +38,7 @@ use Rattle.gps_serve.proofs.Resting.{all_served}
 use Rattle.gps_serve.proofs.Returned.{all_read, hub_returned}
 use Rattle.gps_serve.proofs.Monitors.{monitors_ready}
 
-pub devices_by : {S R : Type 0} (may : Option (List Moment)) (facts : SourceFacts S) (terms : Terms) (b : BookView) (inlets : List Lanes) (runs : List (DeviceRun S R))
+pub devices_by : {S R : Type 0} (may : Option (List Moment)) (facts : SourceFacts S) (terms : Terms) (b : BookView) (inlets : List InletsView) (runs : List (DeviceRun S R))
     → terms_of b inlets terms.wait ≡ terms → DevicesRan may facts terms.lanes runs → AllZip (DeviceReady may facts) inlets runs
 devices_by may facts terms b inlets runs same ran =
     devices_ready may facts inlets runs (subst (λ lanes. DevicesRan may facts lanes runs) (sym (ap (λ (t : Terms). t.lanes) same)) ran)
@@ -46,10 +46,10 @@ devices_by may facts terms b inlets runs same ran =
 pub ends_count : (p : Parts) → DaemonHub p → length p.ends ≡ length p.inlets
 ends_count p hub = hub.1.ends_count ∙ sym hub.1.count
 
-pub units_few : (b : BookView) → Holds b → length b.units ≤ 16
+pub units_few : (b : BookView) → BookHolds b → length b.units ≤ 16
 units_few b holds = let u = holds.units in let n = holds.count in omega arith
 
-pub monitors_by : (tries : ℕ) (no_memory : Bool) (terms : Terms) (b b' : BookView) (inlets : List Lanes) (watched : List WatchDone)
+pub monitors_by : (tries : ℕ) (no_memory : Bool) (terms : Terms) (b b' : BookView) (inlets : List InletsView) (watched : List ReadingsDone)
     → terms_of b inlets terms.wait ≡ terms → WatchersRan tries terms.segments watched → (no_memory ≡ false → EachWhole watched) → b' ≡ b
     → AllZip (MonitorReady tries no_memory) (watched_units tries b'.units) watched
 monitors_by tries no_memory terms b b' inlets watched same ran whole is =
@@ -91,8 +91,8 @@ segments_of_units (u ∷ units) = ap suc (segments_of_units units)
 
 -- the headline, of the parts as they are handed back
 pub at_end_of : {G S K R : Type 0} (terms : Terms) (queue tries : ℕ) (may : Option (List Moment)) (sources : SourceFacts S) (sinks : SinkFacts K) (gates : GateFacts G S K)
-    (links : Option (List (Way S K))) (full : ℕ) (no_memory lacks : Bool) (seat : Admissions) (ways : List (Link S K R)) (gate : G)
-    (b b' b'' : BookView) (inlets : List Lanes) (inputs : List (Taking Piece)) (ends : List (Option DeviceEnd)) (devices : List (DeviceDone S R))
+    (links : Option (List (Way S K))) (full : ℕ) (no_memory lacks : Bool) (seat : Admissions) (ways : List (SessionLink S K R)) (gate : G)
+    (b b' b'' : BookView) (inlets : List InletsView) (inputs : List (Taking Piece)) (ends : List (Option DeviceEnd)) (devices : List (DeviceDone S R))
     (sessions : List (SessionDone S K R)) (monitors : List MonitorDone)
     → terms_of b inlets terms.wait ≡ terms
     → DaemonHub (record { book = b; inlets = inlets; ends = ends; inputs = inputs; done = seat.done; wait = terms.wait })
@@ -103,11 +103,11 @@ pub at_end_of : {G S K R : Type 0} (terms : Terms) (queue tries : ℕ) (may : Op
     → b'' ≡ b' → AllZip (MonitorServed tries no_memory) (watched_units tries b'.units) monitors
     → map (λ (m : MonitorDone). m.unit) monitors ≡ range_with_len 0 (length monitors) → (lacks ≡ false → no_memory ≡ false)
     → GateServed sources gates links full lacks seat.done sessions gate
-    → AtEnd (told_of terms queue tries) may sources sinks gates links full lacks b'' devices sessions monitors (Some gate)
+    → AtEnd (settings_of terms queue tries) may sources sinks gates links full lacks b'' devices sessions monitors (Some gate)
 at_end_of {G} {S} {K} {R} terms queue tries may sources sinks gates links full no_memory lacks seat ways gate b b' b'' inlets inputs ends devices sessions monitors same hub admitted lanes keeps
     rests zeros closed stopped served ends_are is sessions_are is' monitors_are numbers so door =
     let segments : map segment_of b.units ≡ terms.segments = ap (λ (t : Terms). t.segments) same in
-    subst (λ x. AtEnd (told_of terms queue tries) may sources sinks gates links full lacks x devices sessions monitors (Some gate)) (sym (is' ∙ is)) (
+    subst (λ x. AtEnd (settings_of terms queue tries) may sources sinks gates links full lacks x devices sessions monitors (Some gate)) (sym (is' ∙ is)) (
     record {
       names = ap (λ (t : Terms). t.names) same;
       limit = ap (λ (t : Terms). t.limit) same;
@@ -136,7 +136,7 @@ at_end_of {G} {S} {K} {R} terms queue tries may sources sinks gates links full n
 
 -- the devices' readers ran on the lanes that the hub was told of
 pub devices_ran_on : {S R : Type 0} (may : Option (List Moment)) (facts : SourceFacts S) (terms : Terms) (b : BookView) (w : ℕ) (starts starts' : List (DeviceStart S R))
-    (first : List Lanes) (runs : List (DeviceRun S R))
+    (first : List InletsView) (runs : List (DeviceRun S R))
     → terms ≡ terms_of b first w → AllZip (IsFreshDevice facts) starts first → starts' ≡ starts → AllZip (RanOn may facts) starts' runs
     → DevicesRan may facts terms.lanes runs
 devices_ran_on may facts terms b w starts starts' first runs are fresh same ran = record {
@@ -148,7 +148,7 @@ devices_ran_on may facts terms b w starts starts' first runs are fresh same ran 
 }
 
 -- the monitors read the segments that the hub was told of
-pub watchers_ran_on : (tries : ℕ) (terms : Terms) (b : BookView) (first : List Lanes) (w : ℕ) (watchers watchers' : List Watcher) (watched : List WatchDone)
+pub watchers_ran_on : (tries : ℕ) (terms : Terms) (b : BookView) (first : List InletsView) (w : ℕ) (watchers watchers' : List MonitorStart) (watched : List ReadingsDone)
     → terms ≡ terms_of b first w → segments_of watchers ≡ monitored tries (map segment_of b.units) → watchers' ≡ watchers → AllZip (WatchedBy tries) watchers' watched
     → WatchersRan tries terms.segments watched
 watchers_ran_on tries terms b first w watchers watchers' watched are segments same by = record {
@@ -157,5 +157,5 @@ watchers_ran_on tries terms b first w watchers watchers' watched are segments sa
   by = subst (λ l. AllZip (WatchedBy tries) l watched) same by;
 }
 
-pub segments_count : (terms : Terms) (b : BookView) (first : List Lanes) (w : ℕ) → terms ≡ terms_of b first w → length terms.segments ≡ length b.units
+pub segments_count : (terms : Terms) (b : BookView) (first : List InletsView) (w : ℕ) → terms ≡ terms_of b first w → length terms.segments ≡ length b.units
 segments_count terms b first w are = ap (λ (t : Terms). length t.segments) are ∙ segments_of_units b.units

@@ -3,20 +3,20 @@ use Rattle.std.proofs.Common.{◌≡◌, ◌↔◌, ◌⊎◌, inl, inr, ℕ, Bo
 use Rattle.std.specs.List.{All}
 use Rattle.gps_fixed.specs.Moment.{Moment}
 use Rattle.gps_lane.specs.Ends.{Putting, Taking}
-use Rattle.hub_laws.specs.declared.ends.DeviceEnd.{DeviceEnd}
-use Rattle.hub_laws.specs.declared.ends.DeviceEnd.TheVariants.{ReadFault}
-use Rattle.hub_laws.specs.Given.{end_of, ending_of}
-use Rattle.hub_laws.specs.Parts.{Lanes}
-use Rattle.serve_parts.specs.declared.done.DeviceDone.{DeviceDone}
+use Rattle.hub_promise.specs.declared.ends.DeviceEnd.{DeviceEnd}
+use Rattle.hub_promise.specs.declared.ends.DeviceEnd.TheVariants.{ReadFault}
+use Rattle.hub_promise.specs.Given.{end_of, ending_of}
+use Rattle.hub_promise.specs.Parts.{InletsView}
+use Rattle.serve_end_parts.specs.declared.done.DeviceDone.{DeviceDone}
 use Rattle.serve_pieces.specs.declared.piece.Ending.{Ending}
 use Rattle.serve_pieces.specs.declared.piece.Ending.TheVariants.{End, Failed, NoMemory}
 use Rattle.serve_pieces.specs.declared.piece.Piece.{Piece}
 use Rattle.serve_threads.specs.declared.reading.ReaderDone.{ReaderDone}
-use Rattle.serve_settling.specs.declared.device.DeviceRun.{DeviceRun}
-use Rattle.serve_settling.specs.Failing.{EdgeFailed, SaysFailed, SomeFailed}
-use Rattle.serve_settling.specs.Lanes.{tx_of}
-use Rattle.serve_settling.specs.Runs.{EachRun, EdgesRan, SourceFacts}
-use Rattle.serve_settling.proofs.Causes.{each_run_more}
+use Rattle.serve_end_settling.specs.declared.device.DeviceRun.{DeviceRun}
+use Rattle.serve_end_settling.specs.Failing.{EdgeFailed, SaysFailed, SomeFailed}
+use Rattle.serve_end_settling.specs.Lanes.{tx_of}
+use Rattle.serve_end_settling.specs.Runs.{EachRun, EdgesRan, SourceFacts}
+use Rattle.serve_end_settling.proofs.Causes.{each_run_more}
 use Rattle.gps_serve.specs.declared.lanes.EdgeStart.{EdgeStart}
 use Rattle.gps_serve.specs.Runs.{DeviceReady}
 use Rattle.gps_serve.specs.Starts.{IsFreshEdge, edge_start_of}
@@ -31,7 +31,7 @@ not_said failed said none says =
     absurd (cc (yes, none))
 
 -- a lane that says so was put into by a reader that says so
-bytes_say : {S R : Type 0} (may : Option (List Moment)) (facts : SourceFacts S) (x : Lanes) (run : DeviceRun S R) → DeviceReady may facts x run
+bytes_say : {S R : Type 0} (may : Option (List Moment)) (facts : SourceFacts S) (x : InletsView) (run : DeviceRun S R) → DeviceReady may facts x run
     → ending_of run.bytes.pieces.put ≡ Some Failed → run.bytes.ending ≡ Some Failed
 bytes_say may facts x run ready tells =
     let start = ready.start in
@@ -48,7 +48,7 @@ lines_say facts (Some start) (Some first) (Some reader) fresh ran tells =
     sym (lines_told reader.ending start.lines.put reader.pieces.put (facts.content start.source) (facts.content reader.source) ran.hands fresh.0.put) ∙ tells
 
 -- no reader of a device says so, and so its lanes do not
-pub tells_none : {S R : Type 0} (may : Option (List Moment)) (facts : SourceFacts S) (x : Lanes) (run : DeviceRun S R) (device : DeviceDone S R) (failed : Bool)
+pub tells_none : {S R : Type 0} (may : Option (List Moment)) (facts : SourceFacts S) (x : InletsView) (run : DeviceRun S R) (device : DeviceDone S R) (failed : Bool)
     → DeviceReady may facts x run → device.bytes_tx ≡ run.bytes.pieces → device.edges_tx ≡ tx_of run.edges → ((failed ≡ true) ↔ SaysFailed run) → failed ≡ false
     → TellsNoFault device
 tells_none may facts x run device failed ready bytes_tx edges_tx said none = record {

@@ -1,18 +1,18 @@
 -- What is left of the door, and what it says of the sessions.
 use Rattle.std.proofs.Common.{◌≡◌, ◌<◌, ◌≤◌, ◌+◌, ◌-◌, ◌^◌, inl, inr, ℕ, Bool, true, false, zero, suc, List, [], ◌∷◌, map, length, get_or, Option, Some, None, is_some, refl, sym, ◌∙◌, ap, subst, arith}
 use Rattle.std.specs.List.{All, AllZip}
-use Rattle.book_sessions.specs.Attendance.{Attendance}
+use Rattle.book_sessions.specs.MemberView.{MemberView}
 use Rattle.gps_lane.specs.Ends.{Taking}
-use Rattle.hub_door.specs.Admissions.{Admissions, Link as Admitted}
-use Rattle.hub_laws.specs.declared.ends.DeviceEnd.{DeviceEnd}
-use Rattle.hub_laws.specs.Parts.{AreAdmitted}
+use Rattle.hub_door.specs.Admissions.{Admissions, SessionLanes}
+use Rattle.hub_promise.specs.declared.ends.DeviceEnd.{DeviceEnd}
+use Rattle.hub_promise.specs.Parts.{AreAdmitted}
 use Rattle.report_book.specs.BookView.{BookView}
-use Rattle.serve_parts.specs.declared.done.DeviceDone.{DeviceDone}
-use Rattle.serve_parts.specs.declared.done.SessionDone.{SessionDone}
+use Rattle.serve_end_parts.specs.declared.done.DeviceDone.{DeviceDone}
+use Rattle.serve_end_parts.specs.declared.done.SessionDone.{SessionDone}
 use Rattle.serve_pieces.specs.declared.piece.Piece.{Piece}
-use Rattle.serve_settling.specs.Runs.{SourceFacts}
-use Rattle.serve_threads.specs.declared.session.Link.{Link}
-use Rattle.serve_threads.specs.declared.session.SessionRun.{SessionRun}
+use Rattle.serve_end_settling.specs.Runs.{SourceFacts}
+use Rattle.serve_threads.specs.declared.session.SessionLink.{SessionLink}
+use Rattle.serve_threads.specs.declared.session.LinkDone.{LinkDone}
 use Rattle.serve_threads.specs.Sessions.{SessionRuns}
 use Rattle.gps_serve.specs.AtEnd.{AreOfQueue, GateFacts, GateServed, ReadsLink, SinkFacts}
 use Rattle.gps_serve.specs.Doors.{DoorNow, IsNewLink, Tended, Way, door_now, lanes_of, way_of}
@@ -26,7 +26,7 @@ map_length f [] = refl
 map_length f (x ∷ xs) = let same = map_length f xs in omega (arith, same)
 
 pub gate_served : {G S K R : Type 0} (sources : SourceFacts S) (sinks : SinkFacts K) (gates : GateFacts G S K) (queue : ℕ) (told : Option (List (Way S K))) (gate : G) (full : ℕ)
-    (no_memory lacks : Bool) (seat : Admissions) (runs : List (SessionRun S K R)) (sessions : List (SessionDone S K R))
+    (no_memory lacks : Bool) (seat : Admissions) (runs : List (LinkDone S K R)) (sessions : List (SessionDone S K R))
     → Tended (IsNewLink sources.content sources.faults sources.quiets sinks.written sinks.faults)
     (SessionRuns sources.content sources.faults sources.quiets sinks.written sinks.faults) queue told
     (door_now (gates.links gate) (gates.faults gate) (gates.quiets gate) full no_memory) seat runs
@@ -52,18 +52,18 @@ gate_served {G} {S} {K} {R} sources sinks gates queue told gate full no_memory l
     }
 
 module _ {S K R : Type 0} (queue : ℕ) where
-  caps_are : (links : List (Link S K R)) (sessions : List Attendance)
-      → map (λ (a : Attendance). a.session.cap) sessions ≡ map (λ (l : Admitted). l.cap) (map (lanes_of queue) links) → AreOfQueue queue sessions
+  caps_are : (links : List (SessionLink S K R)) (sessions : List MemberView)
+      → map (λ (a : MemberView). a.session.cap) sessions ≡ map (λ (l : SessionLanes). l.cap) (map (lanes_of queue) links) → AreOfQueue queue sessions
   caps_are links [] same k d there = absurd (omega arith)
   caps_are [] (a ∷ sessions) same k d there = absurd cc
   caps_are (link ∷ links) (a ∷ sessions) same zero d there = cc same
   caps_are (link ∷ links) (a ∷ sessions) same (suc k) d there = caps_are links sessions (cc same) k d (omega arith)
 
   -- so many items may wait for each session that was admitted
-  pub of_queue : (seat : Admissions) (links : List (Link S K R)) (sessions : List Attendance) (inputs : List (Taking Piece)) → map (lanes_of queue) links ≡ seat.links
+  pub of_queue : (seat : Admissions) (links : List (SessionLink S K R)) (sessions : List MemberView) (inputs : List (Taking Piece)) → map (lanes_of queue) links ≡ seat.links
       → AreAdmitted seat.links sessions inputs → AreOfQueue queue sessions
   of_queue seat links sessions inputs same admitted =
-      caps_are links sessions (admitted.caps ∙ ap (map (λ (l : Admitted). l.cap)) (sym same))
+      caps_are links sessions (admitted.caps ∙ ap (map (λ (l : SessionLanes). l.cap)) (sym same))
 
 -- what holds of each end holds of each device's
 pub each_end : {S R : Type 0} (P : Option DeviceEnd → Type 0) (devices : List (DeviceDone S R)) (ends : List (Option DeviceEnd))
@@ -79,9 +79,9 @@ each_end {S} {R} P devices ends are all k d there =
 
 -- no device was lost, and no session of the book closed, for want of memory
 pub none_lost_in : {S R : Type 0} (b b' b'' : BookView) (devices : List (DeviceDone S R)) (ends : List (Option DeviceEnd)) → b' ≡ b → b'' ≡ b'
-    → map (λ (d : DeviceDone S R). d.end) devices ≡ ends → All IsNotLost ends → All (λ (a : Attendance). IsNotCut a.session.closing) b.sessions
+    → map (λ (d : DeviceDone S R). d.end) devices ≡ ends → All IsNotLost ends → All (λ (a : MemberView). IsNotCut a.session.closing) b.sessions
     → NoneLost b'' devices
 none_lost_in b b' b'' devices ends is is' are kept sessions = record {
   devices_kept = each_end IsNotLost devices ends are kept;
-  sessions_kept = subst (λ (x : BookView). All (λ (a : Attendance). IsNotCut a.session.closing) x.sessions) (sym (is' ∙ is)) sessions;
+  sessions_kept = subst (λ (x : BookView). All (λ (a : MemberView). IsNotCut a.session.closing) x.sessions) (sym (is' ∙ is)) sessions;
 }

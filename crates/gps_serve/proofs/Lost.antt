@@ -4,8 +4,8 @@ use Rattle.std.specs.Prelude.{not}
 use Rattle.std.specs.List.{All, list_any}
 use Rattle.std.specs.Option.{option_and_then}
 use Rattle.std.proofs.lemmas.Bool.{cases_lt}
-use Rattle.book_sessions.specs.Attendance.{Attendance}
-use Rattle.hub_laws.specs.declared.ends.DeviceEnd.{DeviceEnd}
+use Rattle.book_sessions.specs.MemberView.{MemberView}
+use Rattle.hub_promise.specs.declared.ends.DeviceEnd.{DeviceEnd}
 use Rattle.gps_serve.specs.Lost.{IsNotCut, IsNotLost, is_cut, is_lost}
 
 -- where neither of two holds, each does not
@@ -37,37 +37,37 @@ none_lost (end ∷ ends) none zero d there lost =
 none_lost (end ∷ ends) none (suc k) d there lost =
     none_lost ends (neither (is_lost end) (list_any is_lost ends) none).1 k d (omega arith) lost
 
-closing_at : (sessions : List Attendance) (k : ℕ) (a : Attendance) → k < length sessions
-    → option_and_then (λ (one : Attendance). one.session.closing) (slice_get sessions k) ≡ (get_or sessions k a).session.closing
+closing_at : (sessions : List MemberView) (k : ℕ) (a : MemberView) → k < length sessions
+    → option_and_then (λ (one : MemberView). one.session.closing) (slice_get sessions k) ≡ (get_or sessions k a).session.closing
 closing_at [] k a there = absurd (omega arith)
 closing_at (one ∷ sessions) zero a there = refl
 closing_at (one ∷ sessions) (suc k) a there = closing_at sessions k a (omega arith)
 
 -- no session before this number was closed for want of memory
-abbrev pub NoneCut : ℕ → List Attendance → Type 0
-NoneCut n sessions = (k : ℕ) (a : Attendance) → k < n → k < length sessions → IsNotCut (get_or sessions k a).session.closing
+abbrev pub NoneCut : ℕ → List MemberView → Type 0
+NoneCut n sessions = (k : ℕ) (a : MemberView) → k < n → k < length sessions → IsNotCut (get_or sessions k a).session.closing
 
-pub none_before : (sessions : List Attendance) → NoneCut 0 sessions
+pub none_before : (sessions : List MemberView) → NoneCut 0 sessions
 none_before sessions k a before there = absurd (omega arith)
 
-not_cut : (sessions : List Attendance) (k : ℕ) (a : Attendance) → k < length sessions
-    → is_cut (option_and_then (λ (one : Attendance). one.session.closing) (slice_get sessions k)) ≡ false → IsNotCut (get_or sessions k a).session.closing
+not_cut : (sessions : List MemberView) (k : ℕ) (a : MemberView) → k < length sessions
+    → is_cut (option_and_then (λ (one : MemberView). one.session.closing) (slice_get sessions k)) ≡ false → IsNotCut (get_or sessions k a).session.closing
 not_cut sessions k a there none place cut =
     let so : is_cut (get_or sessions k a).session.closing ≡ true = ap is_cut cut in
     let not : is_cut (get_or sessions k a).session.closing ≡ false = ap is_cut (sym (closing_at sessions k a there)) ∙ none in
     absurd (cc (so, not))
 
 -- a session more
-pub none_more : (sessions : List Attendance) (n : ℕ) → NoneCut n sessions
-    → is_cut (option_and_then (λ (one : Attendance). one.session.closing) (slice_get sessions n)) ≡ false → NoneCut (n + 1) sessions
+pub none_more : (sessions : List MemberView) (n : ℕ) → NoneCut n sessions
+    → is_cut (option_and_then (λ (one : MemberView). one.session.closing) (slice_get sessions n)) ≡ false → NoneCut (n + 1) sessions
 none_more sessions n before none k a within there =
     elim (cases_lt k n) [
       | inl less ↦ before k a less there
       | inr more ↦
           let same : k ≡ n = omega (arith, within, more) in
-          not_cut sessions k a there (subst (λ m. is_cut (option_and_then (λ (one : Attendance). one.session.closing) (slice_get sessions m)) ≡ false) (sym same) none)
+          not_cut sessions k a there (subst (λ m. is_cut (option_and_then (λ (one : MemberView). one.session.closing) (slice_get sessions m)) ≡ false) (sym same) none)
     ]
 
 -- all of them
-pub none_cut : (sessions : List Attendance) (n : ℕ) → length sessions ≤ n → NoneCut n sessions → All (λ (a : Attendance). IsNotCut a.session.closing) sessions
+pub none_cut : (sessions : List MemberView) (n : ℕ) → length sessions ≤ n → NoneCut n sessions → All (λ (a : MemberView). IsNotCut a.session.closing) sessions
 none_cut sessions n all none k a there = none k a (omega (arith, all, there)) there

@@ -6,14 +6,14 @@ use Rattle.std.specs.Global.{Vec}
 use Rattle.std.specs.List.{AllZip, list_all, range_with_len}
 use Rattle.book_units.specs.Units.{UnitView, new_unit, segment_of}
 use Rattle.report_book.specs.BookView.{BookView}
-use Rattle.serve_parts.specs.declared.done.MonitorDone.{MonitorDone}
-use Rattle.serve_settling.specs.Units.{Confirms}
-use Rattle.serve_threads.specs.declared.monitors.WatchDone.{WatchDone}
-use Rattle.serve_threads.specs.declared.monitors.Watcher.{Watcher}
-use Rattle.serve_threads.specs.Monitors.{Watched}
+use Rattle.serve_end_parts.specs.declared.done.MonitorDone.{MonitorDone}
+use Rattle.serve_end_settling.specs.Units.{Confirms}
+use Rattle.serve_threads.specs.declared.monitors.ReadingsDone.{ReadingsDone}
+use Rattle.serve_threads.specs.declared.monitors.MonitorStart.{MonitorStart}
+use Rattle.serve_threads.specs.Monitors.{MonitorRan}
 use Rattle.serve_threads.specs.Segments.{segments_of}
 use Rattle.serve_workers.specs.Watching.{Climbs, IsBeginning, each_once}
-use Rattle.shm_monitor.specs.Watching.{Watching}
+use Rattle.shm_monitor.specs.MonitorView.{MonitorView}
 use Rattle.shm_segment.specs.declared.view.Load.{Load}
 use Rattle.shm_segment.specs.declared.view.Numbered.{Numbered}
 use Rattle.shm_segment.specs.Seats.{SegmentId}
@@ -37,13 +37,13 @@ second_true : (a b : Bool) → (a && b) ≡ true → b ≡ true
 second_true true b e = e
 second_true false b e = absurd cc
 
-front_whole : (w : WatchDone) (watched : List WatchDone) → EachWhole (w ∷ watched) → w.whole ≡ true
-front_whole w watched e = first_true w.whole (list_all (λ (d : WatchDone). d.whole) watched) e
+front_whole : (w : ReadingsDone) (watched : List ReadingsDone) → EachWhole (w ∷ watched) → w.whole ≡ true
+front_whole w watched e = first_true w.whole (list_all (λ (d : ReadingsDone). d.whole) watched) e
 
-rest_whole : (w : WatchDone) (watched : List WatchDone) → EachWhole (w ∷ watched) → EachWhole watched
-rest_whole w watched e = second_true w.whole (list_all (λ (d : WatchDone). d.whole) watched) e
+rest_whole : (w : ReadingsDone) (watched : List ReadingsDone) → EachWhole (w ∷ watched) → EachWhole watched
+rest_whole w watched e = second_true w.whole (list_all (λ (d : ReadingsDone). d.whole) watched) e
 
-ready_of : (tries : ℕ) (no_memory : Bool) (units : List UnitView) (watchers : List Watcher) (watched : List WatchDone)
+ready_of : (tries : ℕ) (no_memory : Bool) (units : List UnitView) (watchers : List MonitorStart) (watched : List ReadingsDone)
     → segments_of watchers ≡ map segment_of units → AllZip (WatchedBy tries) watchers watched → (no_memory ≡ false → EachWhole watched)
     → AllZip (MonitorReady tries no_memory) units watched
 ready_of tries no_memory [] [] [] segments by whole = tt
@@ -56,7 +56,7 @@ ready_of tries no_memory (u ∷ units) (v ∷ watchers) (w ∷ watched) segments
     let same : arc_value w.segment ≡ segment_of u = ap arc_value by.0.segment ∙ here in (
       record {
         segment = same;
-        watched = subst (λ (s : SegmentId). Watched s tries w.whole w.monitor w.taken.items) same by.0.watched;
+        watched = subst (λ (s : SegmentId). MonitorRan s tries w.whole w.monitor w.taken.items) same by.0.watched;
         whole = λ (e : no_memory ≡ false). front_whole w watched (whole e);
       },
       ready_of tries no_memory units watchers watched (cc segments) by.1 (λ (e : no_memory ≡ false). rest_whole w watched (whole e)),
@@ -69,26 +69,26 @@ segments_if false units = refl
 units_if : (tries : ℕ) (units : List UnitView) → monitored tries (map segment_of units) ≡ map segment_of (watched_units tries units)
 units_if tries units = segments_if (tries == 0) units
 
-pub monitors_ready : (tries : ℕ) (no_memory : Bool) (units : List UnitView) (watchers : List Watcher) (watched : List WatchDone)
+pub monitors_ready : (tries : ℕ) (no_memory : Bool) (units : List UnitView) (watchers : List MonitorStart) (watched : List ReadingsDone)
     → segments_of watchers ≡ monitored tries (map segment_of units) → AllZip (WatchedBy tries) watchers watched → (no_memory ≡ false → EachWhole watched)
     → AllZip (MonitorReady tries no_memory) (watched_units tries units) watched
 monitors_ready tries no_memory units watchers watched segments by whole =
     ready_of tries no_memory (watched_units tries units) watchers watched (segments ∙ units_if tries units) by whole
 
-pub monitor_served : (tries : ℕ) (no_memory : Bool) (u : UnitView) (watch : WatchDone) (done : MonitorDone) → MonitorReady tries no_memory u watch
+pub monitor_served : (tries : ℕ) (no_memory : Bool) (u : UnitView) (watch : ReadingsDone) (done : MonitorDone) → MonitorReady tries no_memory u watch
     → done.taken ≡ watch.taken → Confirms u watch.monitor done.monitor done.taken.items → MonitorServed tries no_memory u done
 monitor_served tries no_memory u watch done ready same confirms =
     let taken : done.taken.items ≡ watch.taken.items = ap (λ (v : Vec Numbered). v.items) same in
     record {
-      segment = ap (λ (m : Watching). m.segment) confirms.told ∙ ready.watched.segment_is;
+      segment = ap (λ (m : MonitorView). m.segment) confirms.told ∙ ready.watched.segment_is;
       published = confirms.published (subst (λ l. IsBeginning l (each_once watch.monitor.taken)) (sym taken) ready.watched.first);
       climbs = subst Climbs (sym taken) ready.watched.climbs;
-      all = λ (e : no_memory ≡ false). taken ∙ ready.watched.all (ready.whole e) ∙ ap each_once (sym (ap (λ (m : Watching). m.taken) confirms.told));
+      all = λ (e : no_memory ≡ false). taken ∙ ready.watched.all (ready.whole e) ∙ ap each_once (sym (ap (λ (m : MonitorView). m.taken) confirms.told));
       loads = λ (e : no_memory ≡ false).
-          subst (λ (l : List Load). 2 * tries ≤ length l) (sym (ap (λ (m : Watching). m.kept) confirms.told)) (ready.watched.loads (ready.whole e));
+          subst (λ (l : List Load). 2 * tries ≤ length l) (sym (ap (λ (m : MonitorView). m.kept) confirms.told)) (ready.watched.loads (ready.whole e));
     }
 
-pub monitors_begin : (tries : ℕ) (no_memory : Bool) (units : List UnitView) (watched watched' : List WatchDone) (done : List MonitorDone)
+pub monitors_begin : (tries : ℕ) (no_memory : Bool) (units : List UnitView) (watched watched' : List ReadingsDone) (done : List MonitorDone)
     → AllZip (MonitorReady tries no_memory) units watched → watched' ≡ watched → done ≡ [] → MonitorsSoFar tries no_memory units watched' 0 done
 monitors_begin tries no_memory units watched watched' done ready same none = record {
   gone = [];
@@ -99,7 +99,7 @@ monitors_begin tries no_memory units watched watched' done ready same none = rec
   ready = subst (AllZip (MonitorReady tries no_memory) units) (sym same) ready;
 }
 
-next_of : (tries : ℕ) (no_memory : Bool) (gone rest : List UnitView) (units : List UnitView) (watch : WatchDone) (watched : List WatchDone) (unit : ℕ)
+next_of : (tries : ℕ) (no_memory : Bool) (gone rest : List UnitView) (units : List UnitView) (watch : ReadingsDone) (watched : List ReadingsDone) (unit : ℕ)
     → units ≡ gone ++ rest → length gone ≡ unit → AllZip (MonitorReady tries no_memory) rest (watch ∷ watched) → IsNextMonitor tries no_memory units unit watch
 next_of tries no_memory gone [] units watch watched unit split count ready = absurd ready
 next_of tries no_memory gone (u ∷ rest) units watch watched unit split count ready =
@@ -112,11 +112,11 @@ next_of tries no_memory gone (u ∷ rest) units watch watched unit split count r
     }
 
 -- the monitor of the unit at this place is ready
-pub is_next : (tries : ℕ) (no_memory : Bool) (units : List UnitView) (watch : WatchDone) (watched : List WatchDone) (unit : ℕ) (done : List MonitorDone)
+pub is_next : (tries : ℕ) (no_memory : Bool) (units : List UnitView) (watch : ReadingsDone) (watched : List ReadingsDone) (unit : ℕ) (done : List MonitorDone)
     → MonitorsSoFar tries no_memory units (watch ∷ watched) unit done → IsNextMonitor tries no_memory units unit watch
 is_next tries no_memory units watch watched unit done so = next_of tries no_memory so.gone so.rest units watch watched unit so.split so.count so.ready
 
-more_of : (tries : ℕ) (no_memory : Bool) (gone rest : List UnitView) (units : List UnitView) (watch : WatchDone) (watched : List WatchDone) (unit : ℕ) (done : List MonitorDone)
+more_of : (tries : ℕ) (no_memory : Bool) (gone rest : List UnitView) (units : List UnitView) (watch : ReadingsDone) (watched : List ReadingsDone) (unit : ℕ) (done : List MonitorDone)
     (monitor : MonitorDone) → units ≡ gone ++ rest → length gone ≡ unit → AllZip (MonitorServed tries no_memory) gone done
     → AllZip (MonitorReady tries no_memory) rest (watch ∷ watched) → ((free : UnitView) → MonitorServed tries no_memory (get_or units unit free) monitor)
     → MonitorsSoFar tries no_memory units watched (unit + 1) (done ++ monitor ∷ [])
@@ -134,13 +134,13 @@ more_of tries no_memory gone (u ∷ rest) units watch watched unit done monitor 
     }
 
 -- a monitor more
-pub monitors_more : (tries : ℕ) (no_memory : Bool) (units : List UnitView) (watch : WatchDone) (watched : List WatchDone) (unit : ℕ) (done : List MonitorDone) (monitor : MonitorDone)
+pub monitors_more : (tries : ℕ) (no_memory : Bool) (units : List UnitView) (watch : ReadingsDone) (watched : List ReadingsDone) (unit : ℕ) (done : List MonitorDone) (monitor : MonitorDone)
     → MonitorsSoFar tries no_memory units (watch ∷ watched) unit done → ((free : UnitView) → MonitorServed tries no_memory (get_or units unit free) monitor)
     → MonitorsSoFar tries no_memory units watched (unit + 1) (done ++ monitor ∷ [])
 monitors_more tries no_memory units watch watched unit done monitor so is =
     more_of tries no_memory so.gone so.rest units watch watched unit done monitor so.split so.count so.served so.ready is
 
-all_of : (tries : ℕ) (no_memory : Bool) (gone rest units : List UnitView) (watched : List WatchDone) (unit : ℕ) (done : List MonitorDone)
+all_of : (tries : ℕ) (no_memory : Bool) (gone rest units : List UnitView) (watched : List ReadingsDone) (unit : ℕ) (done : List MonitorDone)
     → units ≡ gone ++ rest → length gone ≡ unit → AllZip (MonitorServed tries no_memory) gone done → AllZip (MonitorReady tries no_memory) rest watched
     → length units ≤ unit → AllZip (MonitorServed tries no_memory) units done
 all_of tries no_memory gone [] units watched unit done split count served ready few =
@@ -149,17 +149,17 @@ all_of tries no_memory gone (u ∷ rest) units watched unit done split count ser
     let l : length units ≡ length (gone ++ u ∷ rest) = ap length split in
     absurd (omega (arith, l, count, few, length-append gone (u ∷ rest)))
 
-pub monitors_all : (tries : ℕ) (no_memory : Bool) (units : List UnitView) (watched : List WatchDone) (unit : ℕ) (done : List MonitorDone)
+pub monitors_all : (tries : ℕ) (no_memory : Bool) (units : List UnitView) (watched : List ReadingsDone) (unit : ℕ) (done : List MonitorDone)
     → MonitorsSoFar tries no_memory units watched unit done → length units ≤ unit → AllZip (MonitorServed tries no_memory) units done
 monitors_all tries no_memory units watched unit done so few =
     all_of tries no_memory so.gone so.rest units watched unit done so.split so.count so.served so.ready few
 
 -- the unit's monitor reads its segment
-pub segment_there : (tries : ℕ) (no_memory : Bool) (units : List UnitView) (unit : ℕ) (watch : WatchDone)
+pub segment_there : (tries : ℕ) (no_memory : Bool) (units : List UnitView) (unit : ℕ) (watch : ReadingsDone)
     → ((free : UnitView) → MonitorReady tries no_memory (get_or units unit free) watch) → (free : UnitView) → arc_value watch.segment ≡ segment_of (get_or units unit free)
 segment_there tries no_memory units unit watch ready free = (ready free).segment
 
-pub own_segment : (tries : ℕ) (no_memory : Bool) (units : List UnitView) (unit : ℕ) (watch : WatchDone)
+pub own_segment : (tries : ℕ) (no_memory : Bool) (units : List UnitView) (unit : ℕ) (watch : ReadingsDone)
     → ((free : UnitView) → MonitorReady tries no_memory (get_or units unit free) watch) → watch.monitor.segment ≡ arc_value watch.segment
 own_segment tries no_memory units unit watch ready =
     let here = ready (new_unit (arc_value watch.segment)) in
@@ -170,11 +170,11 @@ some_units : (none : Bool) (units : List UnitView) → length (if none then [] e
 some_units true units = omega arith
 some_units false units = omega arith
 
-pub monitors_count : (tries : ℕ) (no_memory : Bool) (units : List UnitView) (watched : List WatchDone) → AllZip (MonitorReady tries no_memory) (watched_units tries units) watched
+pub monitors_count : (tries : ℕ) (no_memory : Bool) (units : List UnitView) (watched : List ReadingsDone) → AllZip (MonitorReady tries no_memory) (watched_units tries units) watched
     → length watched ≡ length (watched_units tries units)
 monitors_count tries no_memory units watched ready = sym (zip_length (MonitorReady tries no_memory) (watched_units tries units) watched ready)
 
-pub few_monitors : (tries : ℕ) (no_memory : Bool) (units : List UnitView) (watched : List WatchDone) → AllZip (MonitorReady tries no_memory) (watched_units tries units) watched
+pub few_monitors : (tries : ℕ) (no_memory : Bool) (units : List UnitView) (watched : List ReadingsDone) → AllZip (MonitorReady tries no_memory) (watched_units tries units) watched
     → length watched ≤ length units
 few_monitors tries no_memory units watched ready =
     let same = monitors_count tries no_memory units watched ready in
@@ -182,20 +182,20 @@ few_monitors tries no_memory units watched ready =
     omega (arith, same, few)
 
 -- one more is left where one more unit is
-pub some_left : (tries : ℕ) (no_memory : Bool) (units : List UnitView) (watched : List WatchDone) (unit : ℕ) (done : List MonitorDone)
+pub some_left : (tries : ℕ) (no_memory : Bool) (units : List UnitView) (watched : List ReadingsDone) (unit : ℕ) (done : List MonitorDone)
     → MonitorsSoFar tries no_memory units watched unit done → unit < length units → 0 < length watched
 some_left tries no_memory units watched unit done so there =
     let same = zip_length (MonitorReady tries no_memory) so.rest watched so.ready in
     let size : length units ≡ length so.gone + length so.rest = ap length so.split ∙ length-append so.gone so.rest in
     omega (arith, same, size, so.count, there)
 
-next_if : (none : Bool) (tries : ℕ) (no_memory : Bool) (units : List UnitView) (unit : ℕ) (watch : WatchDone)
+next_if : (none : Bool) (tries : ℕ) (no_memory : Bool) (units : List UnitView) (unit : ℕ) (watch : ReadingsDone)
     → IsNextMonitor tries no_memory (if none then [] else units) unit watch → IsNextMonitor tries no_memory units unit watch
 next_if true tries no_memory units unit watch next = let there = next.there in absurd (omega (arith, there))
 next_if false tries no_memory units unit watch next = next
 
 -- the monitor of the next unit, which was taken
-pub next_monitor : (tries : ℕ) (no_memory : Bool) (units : List UnitView) (watched watched' : List WatchDone) (watch : WatchDone) (unit : ℕ) (done : List MonitorDone)
+pub next_monitor : (tries : ℕ) (no_memory : Bool) (units : List UnitView) (watched watched' : List ReadingsDone) (watch : ReadingsDone) (unit : ℕ) (done : List MonitorDone)
     → MonitorsSoFar tries no_memory (watched_units tries units) watched unit done → watched ≡ watch ∷ watched' → IsNextMonitor tries no_memory units unit watch
 next_monitor tries no_memory units watched watched' watch unit done so are =
     next_if (tries == 0) tries no_memory units unit watch
@@ -207,7 +207,7 @@ at_if true units unit free there = absurd (omega (arith, there))
 at_if false units unit free there = refl
 
 -- and what is left of it
-pub next_served : (tries : ℕ) (no_memory : Bool) (units : List UnitView) (watched watched' : List WatchDone) (watch : WatchDone) (unit : ℕ) (done done' : List MonitorDone) (monitor : MonitorDone)
+pub next_served : (tries : ℕ) (no_memory : Bool) (units : List UnitView) (watched watched' : List ReadingsDone) (watch : ReadingsDone) (unit : ℕ) (done done' : List MonitorDone) (monitor : MonitorDone)
     → MonitorsSoFar tries no_memory (watched_units tries units) watched unit done → watched ≡ watch ∷ watched'
     → ((free : UnitView) → MonitorServed tries no_memory (get_or units unit free) monitor) → done' ≡ done ++ monitor ∷ []
     → MonitorsSoFar tries no_memory (watched_units tries units) watched' (unit + 1) done'
@@ -220,7 +220,7 @@ next_served tries no_memory units watched watched' watch unit done done' monitor
     (λ free. subst (λ v. MonitorServed tries no_memory v monitor) (at_if (tries == 0) units unit free next.there) (served free)))
 
 -- the same of a book that did not change
-pub same_book : (tries : ℕ) (no_memory : Bool) (b b' : BookView) (watched : List WatchDone) (unit : ℕ) (done : List MonitorDone) → b' ≡ b
+pub same_book : (tries : ℕ) (no_memory : Bool) (b b' : BookView) (watched : List ReadingsDone) (unit : ℕ) (done : List MonitorDone) → b' ≡ b
     → MonitorsSoFar tries no_memory (watched_units tries b.units) watched unit done → MonitorsSoFar tries no_memory (watched_units tries b'.units) watched unit done
 same_book tries no_memory b b' watched unit done same so =
     subst (λ (c : BookView). MonitorsSoFar tries no_memory (watched_units tries c.units) watched unit done) (sym same) so
@@ -232,7 +232,7 @@ numbers_more done done' monitor unit so is more =
     ap (map (λ (m : MonitorDone). m.unit)) more ∙ map-append (λ (m : MonitorDone). m.unit) done (monitor ∷ []) ∙ ap (λ l. l ++ monitor.unit ∷ []) so
     ∙ ap (λ n. range_with_len 0 unit ++ n ∷ []) is ∙ sym (range_more unit)
 
-pub numbers_all : (tries : ℕ) (no_memory : Bool) (units : List UnitView) (watched : List WatchDone) (unit : ℕ) (done : List MonitorDone)
+pub numbers_all : (tries : ℕ) (no_memory : Bool) (units : List UnitView) (watched : List ReadingsDone) (unit : ℕ) (done : List MonitorDone)
     → MonitorsSoFar tries no_memory units watched unit done → map (λ (m : MonitorDone). m.unit) done ≡ range_with_len 0 unit
     → map (λ (m : MonitorDone). m.unit) done ≡ range_with_len 0 (length done)
 numbers_all tries no_memory units watched unit done so numbers =

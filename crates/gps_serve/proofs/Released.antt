@@ -4,22 +4,22 @@ use Rattle.gps_lane.specs.Ends.{Putting, Taking}
 use Rattle.gps_outside.specs.Counts.{Rose}
 use Rattle.gps_outside.specs.Told.{Stream}
 use Rattle.gps_outside.specs.Writes.{WritesAll}
-use Rattle.hub_door.specs.Admissions.{Admissions, Link as Lanes}
-use Rattle.hub_laws.specs.Given.{TellsOnce}
-use Rattle.hub_laws.proofs.Settling.{tells_once as once_of}
+use Rattle.hub_door.specs.Admissions.{Admissions, SessionLanes}
+use Rattle.hub_promise.specs.Given.{TellsOnce}
+use Rattle.hub_promise.proofs.Settling.{tells_once as once_of}
 use Rattle.serve_pieces.specs.Carried.{input_part}
 use Rattle.serve_pieces.specs.declared.piece.Ending.{Ending}
 use Rattle.serve_pieces.specs.declared.piece.Piece.{Piece}
-use Rattle.serve_workers.specs.declared.writer.SessionEnd.{SessionEnd}
-use Rattle.serve_workers.specs.declared.writer.SessionEnd.TheVariants.{Drained, WriteFault}
+use Rattle.serve_workers.specs.declared.writer.WriterEnd.{WriterEnd}
+use Rattle.serve_workers.specs.declared.writer.WriterEnd.TheVariants.{Drained, WriteFault}
 use Rattle.serve_workers.specs.Readings.{IsInputPiece, last_piece}
-use Rattle.serve_threads.specs.declared.session.Link.{Link}
-use Rattle.serve_threads.specs.declared.session.SessionRun.{SessionRun}
+use Rattle.serve_threads.specs.declared.session.SessionLink.{SessionLink}
+use Rattle.serve_threads.specs.declared.session.LinkDone.{LinkDone}
 use Rattle.serve_threads.specs.declared.session.WriterDone.{WriterDone}
 use Rattle.serve_threads.specs.Reading.{Reads, counts}
 use Rattle.serve_threads.specs.Sessions.{SessionRuns, Wrote}
-use Rattle.serve_settling.proofs.Emptying.{wrote_item, wrote_less, wrote_none, wrote_part}
-use Rattle.serve_settling.proofs.Endings.{sessions_tell_last}
+use Rattle.serve_end_settling.proofs.Emptying.{wrote_item, wrote_less, wrote_none, wrote_part}
+use Rattle.serve_end_settling.proofs.Endings.{sessions_tell_last}
 use Rattle.gps_serve.specs.declared.seated.Seated.{Seated}
 use Rattle.gps_serve.specs.Doors.{AreSeated, EachLink, HaveLanes, IsUnused, lanes_of, link_at, links_at}
 use Rattle.gps_serve.specs.Released.{AreEndsOf, WritesItem, WritesOn}
@@ -27,13 +27,13 @@ use Rattle.gps_serve.specs.Released.{AreEndsOf, WritesItem, WritesOn}
 -- ---- which lanes are a session's
 
 module _ {S K R : Type 0} where
-  pub have_lanes : (P : Link S K R → Type 0) (queue : ℕ) (links : List (Link S K R)) (seat : Admissions) → AreSeated P queue links seat → HaveLanes links seat
+  pub have_lanes : (P : SessionLink S K R → Type 0) (queue : ℕ) (links : List (SessionLink S K R)) (seat : Admissions) → AreSeated P queue links seat → HaveLanes links seat
   have_lanes P queue links seat seated = record { queue = queue; lanes = seated.lanes; unused = seated.unused }
 
-  pub same_lanes : (links links' : List (Link S K R)) (old new : Admissions) → HaveLanes links old → links' ≡ links → new ≡ old → HaveLanes links' new
+  pub same_lanes : (links links' : List (SessionLink S K R)) (old new : Admissions) → HaveLanes links old → links' ≡ links → new ≡ old → HaveLanes links' new
   same_lanes links links' old new have same is = subst (HaveLanes links') (sym is) (subst (λ l. HaveLanes l old) (sym same) have)
 
-  lanes_in : (queue : ℕ) (seated : List (Seated S K R)) (s : ℕ) (x : Seated S K R) (free : Lanes) → s < length seated
+  lanes_in : (queue : ℕ) (seated : List (Seated S K R)) (s : ℕ) (x : Seated S K R) (free : SessionLanes) → s < length seated
       → get_or (map (lanes_of queue) (links_at seated)) s free ≡ lanes_of queue (link_at (slice_index_or seated s x))
   lanes_in queue [] s x free there = absurd (omega arith)
   lanes_in queue (one ∷ seated) zero x free there = refl
@@ -52,13 +52,13 @@ module _ {S K R : Type 0} where
   pub ends_at : (seated : List (Seated S K R)) (seat : Admissions) (s number : ℕ) (x : Seated S K R) → HaveLanes (links_at seated) seat → s < length seated
       → x ≡ slice_index_or seated s x → number ≡ s → AreEndsOf seat number (link_at x).items (link_at x).pieces
   ends_at seated seat s number x have there at is =
-      let lanes : (free : Lanes) → get_or seat.links s free ≡ lanes_of have.queue (link_at x) =
-      λ free. ap (λ (l : List Lanes). get_or l s free) (sym have.lanes) ∙ lanes_in have.queue seated s x free there ∙ ap (λ (y : Seated S K R). lanes_of have.queue (link_at y)) (sym at) in
+      let lanes : (free : SessionLanes) → get_or seat.links s free ≡ lanes_of have.queue (link_at x) =
+      λ free. ap (λ (l : List SessionLanes). get_or l s free) (sym have.lanes) ∙ lanes_in have.queue seated s x free there ∙ ap (λ (y : Seated S K R). lanes_of have.queue (link_at y)) (sym at) in
       subst (λ n. AreEndsOf seat n (link_at x).items (link_at x).pieces) (sym is) (
       record {
         there = let n = as_many have.queue seated in let m = ap length have.lanes in omega (arith, n, m, there);
-        outlet = λ free. sym (ap (λ (l : Lanes). l.outlet) (lanes free));
-        input = λ free. sym (ap (λ (l : Lanes). l.input) (lanes free));
+        outlet = λ free. sym (ap (λ (l : SessionLanes). l.outlet) (lanes free));
+        input = λ free. sym (ap (λ (l : SessionLanes). l.input) (lanes free));
       }
       )
 
@@ -67,37 +67,37 @@ module _ {S K R : Type 0} where
   unused_at seated seat s x have there at =
       ap (λ (y : Seated S K R). (link_at y).pieces.put) at ∙ (unused_in seated s x there have.unused).1
 
-pub outlet_still : (old new : Admissions) (number : ℕ) (x y : Taking (List ℕ)) → ((free : Lanes) → x.lane ≡ (get_or old.links number free).outlet) → y.lane ≡ x.lane → new ≡ old
-    → (free : Lanes) → y.lane ≡ (get_or new.links number free).outlet
+pub outlet_still : (old new : Admissions) (number : ℕ) (x y : Taking (List ℕ)) → ((free : SessionLanes) → x.lane ≡ (get_or old.links number free).outlet) → y.lane ≡ x.lane → new ≡ old
+    → (free : SessionLanes) → y.lane ≡ (get_or new.links number free).outlet
 outlet_still old new number x y named same is free = same ∙ named free ∙ sym (ap (λ (a : Admissions). (get_or a.links number free).outlet) is)
 
-pub input_still : (old new : Admissions) (number : ℕ) (x y : Putting Piece) → ((free : Lanes) → x.lane ≡ (get_or old.links number free).input) → y ≡ x → new ≡ old
-    → (free : Lanes) → y.lane ≡ (get_or new.links number free).input
+pub input_still : (old new : Admissions) (number : ℕ) (x y : Putting Piece) → ((free : SessionLanes) → x.lane ≡ (get_or old.links number free).input) → y ≡ x → new ≡ old
+    → (free : SessionLanes) → y.lane ≡ (get_or new.links number free).input
 input_still old new number x y named same is free = ap (λ (p : Putting Piece). p.lane) same ∙ named free ∙ sym (ap (λ (a : Admissions). (get_or a.links number free).input) is)
 
 -- ---- what is written of what is got
 
-pub item_written : (item : List ℕ) (end : SessionEnd) (between after : Option (List ℕ)) (faults faults' : ℕ) → end ≡ Drained → WritesAll true item between after → faults ≤ faults'
+pub item_written : (item : List ℕ) (end : WriterEnd) (between after : Option (List ℕ)) (faults faults' : ℕ) → end ≡ Drained → WritesAll true item between after → faults ≤ faults'
     → WritesItem item end Drained between after faults faults'
 item_written item end between after faults faults' is wrote stay = record {
   wrote = λ rx mid before first so.
       wrote_item rx mid (record mid { got = mid.got ++ item ∷ [] }) item before between after first faults faults'
-      (subst (λ (e : SessionEnd). Wrote e rx mid before between first faults) is so) refl wrote stay;
+      (subst (λ (e : WriterEnd). Wrote e rx mid before between first faults) is so) refl wrote stay;
 }
 
-pub item_cut : (item : List ℕ) (end : SessionEnd) (between after : Option (List ℕ)) (faults faults' : ℕ) → end ≡ Drained → WritesAll false item between after → faults ≤ faults'
+pub item_cut : (item : List ℕ) (end : WriterEnd) (between after : Option (List ℕ)) (faults faults' : ℕ) → end ≡ Drained → WritesAll false item between after → faults ≤ faults'
     → Rose faults faults' → WritesItem item end WriteFault between after faults faults'
 item_cut item end between after faults faults' is wrote stay rose = record {
   wrote = λ rx mid before first so.
       wrote_part rx mid (record mid { got = mid.got ++ item ∷ [] }) item before between after first faults faults'
-      (subst (λ (e : SessionEnd). Wrote e rx mid before between first faults) is so) refl wrote stay rose;
+      (subst (λ (e : WriterEnd). Wrote e rx mid before between first faults) is so) refl wrote stay rose;
 }
 
-pub item_skipped : (item : List ℕ) (end : SessionEnd) (between : Option (List ℕ)) (faults : ℕ) → end ≡ WriteFault → WritesItem item end WriteFault between between faults faults
+pub item_skipped : (item : List ℕ) (end : WriterEnd) (between : Option (List ℕ)) (faults : ℕ) → end ≡ WriteFault → WritesItem item end WriteFault between between faults faults
 item_skipped item end between faults is = record {
   wrote = λ rx mid before first so.
       wrote_less rx mid (record mid { got = mid.got ++ item ∷ [] }) (Some item) before between first faults
-      (subst (λ (e : SessionEnd). Wrote e rx mid before between first faults) is so) refl;
+      (subst (λ (e : WriterEnd). Wrote e rx mid before between first faults) is so) refl;
 }
 
 module _ {K R : Type 0} (written : K → Option (List ℕ)) (faults : K → ℕ) where
@@ -127,7 +127,7 @@ few_last : (ending : Option Ending) → length (last_piece ending) ≤ 1
 few_last None = omega arith
 few_last (Some ending) = omega arith
 
-module _ {S K R : Type 0} (content : S → Option Stream) (faults quiets : S → ℕ) (written : K → Option (List ℕ)) (sink_faults : K → ℕ) (link : Link S K R) (run : SessionRun S K R) where
+module _ {S K R : Type 0} (content : S → Option Stream) (faults quiets : S → ℕ) (written : K → Option (List ℕ)) (sink_faults : K → ℕ) (link : SessionLink S K R) (run : LinkDone S K R) where
   pub tells_once : SessionRuns content faults quiets written sink_faults link run → link.pieces.put ≡ [] → TellsOnce run.reader.pieces.put
   tells_once runs none =
       let last = sessions_tell_last run.reader.ending link.pieces.put run.reader.pieces.put (content link.source) (content run.reader.source) runs.reads.hands none in

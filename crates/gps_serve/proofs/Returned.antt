@@ -4,31 +4,31 @@ use Rattle.std.proofs.lemmas.List.{append-nil}
 use Rattle.std.proofs.lemmas.List.Concat.{flat_map-append}
 use Rattle.std.specs.List.{All, AllZip}
 use Rattle.book_log.specs.Entries.{Entry}
-use Rattle.book_sessions.specs.Attendance.{Attendance}
+use Rattle.book_sessions.specs.MemberView.{MemberView}
 use Rattle.gps_lane.specs.Ends.{Taking}
-use Rattle.hub_laws.specs.declared.ends.DeviceEnd.{DeviceEnd}
-use Rattle.hub_laws.specs.DaemonHub.{ClosesFor, DaemonHub, DaemonHubOver, SessionFits}
-use Rattle.hub_laws.specs.Given.{ending_of}
-use Rattle.hub_laws.specs.Keeping.{IsClosed}
-use Rattle.hub_laws.specs.Parts.{Lanes}
+use Rattle.hub_promise.specs.declared.ends.DeviceEnd.{DeviceEnd}
+use Rattle.hub_promise.specs.DaemonHub.{ClosesFor, DaemonHub, DaemonHubOver, SessionFits}
+use Rattle.hub_promise.specs.Given.{ending_of}
+use Rattle.hub_promise.specs.Keeping.{IsClosed}
+use Rattle.hub_promise.specs.Parts.{InletsView}
 use Rattle.report_book.specs.BookView.{BookView}
-use Rattle.serve_parts.specs.declared.done.SessionDone.{SessionDone}
+use Rattle.serve_end_parts.specs.declared.done.SessionDone.{SessionDone}
 use Rattle.serve_pieces.specs.Carried.{input_bytes, input_part}
 use Rattle.serve_pieces.specs.declared.piece.Ending.{Ending}
 use Rattle.serve_pieces.specs.declared.piece.Ending.TheVariants as ending
 use Rattle.serve_pieces.specs.declared.piece.Piece.{Piece}
-use Rattle.serve_settling.specs.Lanes.{OneMoreAtMost}
-use Rattle.serve_settling.specs.Runs.{SourceFacts}
+use Rattle.serve_end_settling.specs.Lanes.{OneMoreAtMost}
+use Rattle.serve_end_settling.specs.Runs.{SourceFacts}
 use Rattle.session_core.specs.declared.mark.Close.{Close}
 use Rattle.session_core.specs.declared.mark.Close.TheVariants.{HungUp, ReadFault, DaemonEnd, TooManyRequests, Overrun, NoMemory}
-use Rattle.session_core.specs.Shown.{Shown}
+use Rattle.session_core.specs.SessionView.{SessionView}
 use Rattle.session_runs.specs.Accounts.{Account}
 use Rattle.session_runs.proofs.Accounting.{closed_hears}
 use Rattle.gps_serve.specs.AtEnd.{InputServed}
 use Rattle.gps_serve.specs.Readies.{InputLeft}
 
 -- the cause of a closing, where the lane had told nothing of its source's end
-cause_still : (count : ℕ) (log : List Entry) (x y : Taking Piece) (s : Shown) (closing : Option (ℕ × Close)) → ending_of x.got ≡ None → ClosesFor count log x s closing
+cause_still : (count : ℕ) (log : List Entry) (x y : Taking Piece) (s : SessionView) (closing : Option (ℕ × Close)) → ending_of x.got ≡ None → ClosesFor count log x s closing
     → ClosesFor count log y s closing
 cause_still count log x y s None untold cause = tt
 cause_still count log x y s (Some (place, HungUp)) untold cause = absurd (cc (untold, cause))
@@ -38,7 +38,7 @@ cause_still count log x y s (Some (place, TooManyRequests)) untold cause = cause
 cause_still count log x y s (Some (place, Overrun)) untold cause = cause
 cause_still count log x y s (Some (place, NoMemory)) untold cause = tt
 
-cause_same : (count : ℕ) (log : List Entry) (x y : Taking Piece) (s : Shown) (closing : Option (ℕ × Close)) → y.got ≡ x.got → ClosesFor count log x s closing
+cause_same : (count : ℕ) (log : List Entry) (x y : Taking Piece) (s : SessionView) (closing : Option (ℕ × Close)) → y.got ≡ x.got → ClosesFor count log x s closing
     → ClosesFor count log y s closing
 cause_same count log x y s None same cause = tt
 cause_same count log x y s (Some (place, HungUp)) same cause = ap ending_of same ∙ cause
@@ -48,7 +48,7 @@ cause_same count log x y s (Some (place, TooManyRequests)) same cause = cause
 cause_same count log x y s (Some (place, Overrun)) same cause = cause
 cause_same count log x y s (Some (place, NoMemory)) same cause = tt
 
-fits_still : (names : List (List ℕ)) (before log : List Entry) (a : Attendance) (x y : Taking Piece) → IsClosed a → OneMoreAtMost x y → SessionFits names before log a x
+fits_still : (names : List (List ℕ)) (before log : List Entry) (a : MemberView) (x y : Taking Piece) → IsClosed a → OneMoreAtMost x y → SessionFits names before log a x
     → SessionFits names before log a y
 fits_still names before log a x y closed more fits = elim more [
   | inl same ↦ record {
@@ -67,7 +67,7 @@ fits_still names before log a x y closed more fits = elim more [
 ]
 
 module _ {S K R : Type 0} (sources : SourceFacts S) where
-  all_fit : (names : List (List ℕ)) (before log : List Entry) (sessions : List Attendance) (inputs : List (Taking Piece)) (done : List (SessionDone S K R))
+  all_fit : (names : List (List ℕ)) (before log : List Entry) (sessions : List MemberView) (inputs : List (Taking Piece)) (done : List (SessionDone S K R))
       → All IsClosed sessions → AllZip (InputLeft sources) inputs done → AllZip (SessionFits names before log) sessions inputs
       → AllZip (SessionFits names before log) sessions (map (λ (s : SessionDone S K R). s.input_rx) done)
   all_fit names before log [] [] [] closed left fits = tt
@@ -80,7 +80,7 @@ module _ {S K R : Type 0} (sources : SourceFacts S) where
     all_fit names before log sessions inputs done (λ k d there. closed (suc k) d (omega arith)) left.1 fits.1,
   )
 
-  pub hub_returned : (b : BookView) (inlets : List Lanes) (ends : List (Option DeviceEnd)) (inputs : List (Taking Piece)) (done : Bool) (wait : ℕ) (sessions : List (SessionDone S K R))
+  pub hub_returned : (b : BookView) (inlets : List InletsView) (ends : List (Option DeviceEnd)) (inputs : List (Taking Piece)) (done : Bool) (wait : ℕ) (sessions : List (SessionDone S K R))
       → All IsClosed b.sessions → AllZip (InputLeft sources) inputs sessions
       → DaemonHub (record { book = b; inlets = inlets; ends = ends; inputs = inputs; done = done; wait = wait })
       → DaemonHub (record { book = b; inlets = inlets; ends = ends; inputs = map (λ (s : SessionDone S K R). s.input_rx) sessions; done = done; wait = wait })

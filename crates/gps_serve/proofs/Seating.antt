@@ -4,19 +4,19 @@ use Rattle.std.proofs.lemmas.List.{map-append}
 use Rattle.std.specs.List.{AllZip}
 use Rattle.gps_outside.specs.Counts.{Rose}
 use Rattle.hub_door.specs.Admissions.{Admissions, admitting, link_of}
-use Rattle.serve_threads.specs.declared.session.Link.{Link}
+use Rattle.serve_threads.specs.declared.session.SessionLink.{SessionLink}
 use Rattle.gps_serve.specs.Doors.{AreSeated, DoorNow, EachLink, FailsBy, IsUnused, Tended, Tends, Way, lanes_of, way_of}
 
 each_more : {L : Type 0} (P : L → Type 0) (links : List L) (link : L) → EachLink P links → P link → EachLink P (links ++ link ∷ [])
 each_more P [] link each p = (p, tt)
 each_more P (first ∷ links) link each p = (each.0, each_more P links link each.1 p)
 
-module _ {S K R : Type 0} (P : Link S K R → Type 0) (queue : ℕ) where
+module _ {S K R : Type 0} (P : SessionLink S K R → Type 0) (queue : ℕ) where
   pub seated_none : (seat : Admissions) → seat.links ≡ [] → AreSeated P queue [] seat
   seated_none seat none = record { lanes = sym none; unused = tt; each = tt }
 
   -- one more session, admitted with its lanes
-  pub seated_more : (links : List (Link S K R)) (link : Link S K R) (old new : Admissions)
+  pub seated_more : (links : List (SessionLink S K R)) (link : SessionLink S K R) (old new : Admissions)
       → AreSeated P queue links old → new ≡ admitting (lanes_of queue link) old → IsUnused link → P link
       → AreSeated P queue (links ++ link ∷ []) new
   seated_more links link old new seated is unused p = record {
@@ -25,7 +25,7 @@ module _ {S K R : Type 0} (P : Link S K R → Type 0) (queue : ℕ) where
     each = each_more P links link seated.each p;
   }
 
-  pub same_links : (links links' : List (Link S K R)) (old new : Admissions) → AreSeated P queue links old → links' ≡ links → new.links ≡ old.links
+  pub same_links : (links links' : List (SessionLink S K R)) (old new : Admissions) → AreSeated P queue links old → links' ≡ links → new.links ≡ old.links
       → AreSeated P queue links' new
   same_links links links' old new seated same is = record {
     lanes = ap (map (lanes_of queue)) same ∙ seated.lanes ∙ sym is;
@@ -34,7 +34,7 @@ module _ {S K R : Type 0} (P : Link S K R → Type 0) (queue : ℕ) where
   }
 
 -- all that were seated have run
-pub tended : {S K R Run : Type 0} (P : Link S K R → Type 0) (Runs : Link S K R → Run → Type 0) (queue : ℕ) (links : List (Link S K R)) (told : Option (List (Way S K)))
+pub tended : {S K R Run : Type 0} (P : SessionLink S K R → Type 0) (Runs : SessionLink S K R → Run → Type 0) (queue : ℕ) (links : List (SessionLink S K R)) (told : Option (List (Way S K)))
     (now : DoorNow S K) (seat : Admissions) (runs : List Run) → AreSeated P queue links seat → AllZip Runs links runs → Tends told now (map way_of links) seat.done false
     → Tended P Runs queue told now seat runs
 tended P Runs queue links told now seat runs seated ran tends = record { links = links; seated = seated; ran = ran; tends = tends }

@@ -3,23 +3,23 @@ use Rattle.std.proofs.Common.{◌≡◌, ℕ, ◌<◌, ◌≤◌, ◌+◌, suc, 
 use Rattle.std.proofs.lemmas.List.{append-nil, length-append, map-append}
 use Rattle.std.proofs.lemmas.List.FromFn.{map-range_with_len_more}
 use Rattle.std.specs.List.{AllZip, range_with_len}
-use Rattle.book_sessions.specs.Attendance.{Attendance}
+use Rattle.book_sessions.specs.MemberView.{MemberView}
 use Rattle.gps_lane.specs.Ends.{Putting, Taking}
 use Rattle.gps_lane.specs.Lane.{BeginsWith}
 use Rattle.gps_outside.specs.Told.{Goes}
-use Rattle.hub_door.specs.Admissions.{Admissions, Link as Admitted}
-use Rattle.hub_laws.specs.Parts.{AreAdmitted}
+use Rattle.hub_door.specs.Admissions.{Admissions, SessionLanes}
+use Rattle.hub_promise.specs.Parts.{AreAdmitted}
 use Rattle.report_book.specs.BookView.{BookView}
-use Rattle.run_lines.specs.declared.closing.SessionEnd.TheVariants.{Drained, WriteFault}
+use Rattle.output_lines.specs.declared.closing.SessionEnd.TheVariants.{Drained, WriteFault}
 use Rattle.serve_pieces.specs.Carried.{input_part}
 use Rattle.serve_pieces.specs.declared.piece.Ending.TheVariants.{Failed}
 use Rattle.serve_pieces.specs.declared.piece.Piece.{Piece}
-use Rattle.serve_parts.specs.declared.done.SessionDone.{SessionDone}
-use Rattle.serve_settling.specs.Lanes.{Settles}
-use Rattle.serve_settling.specs.Outlets.{Empties, writer_end}
-use Rattle.serve_settling.proofs.Endings.{sessions_tell_last}
-use Rattle.serve_threads.specs.declared.session.Link.{Link}
-use Rattle.serve_threads.specs.declared.session.SessionRun.{SessionRun}
+use Rattle.serve_end_parts.specs.declared.done.SessionDone.{SessionDone}
+use Rattle.serve_end_settling.specs.Lanes.{Settles}
+use Rattle.serve_end_settling.specs.Outlets.{Empties, writer_end}
+use Rattle.serve_end_settling.proofs.Endings.{sessions_tell_last}
+use Rattle.serve_threads.specs.declared.session.SessionLink.{SessionLink}
+use Rattle.serve_threads.specs.declared.session.LinkDone.{LinkDone}
 use Rattle.serve_threads.specs.Sessions.{SessionRuns, Wrote}
 use Rattle.serve_workers.specs.Readings.{HandsOn, IsInputPiece, WasRead}
 use Rattle.serve_workers.specs.Writing.{Writes}
@@ -27,19 +27,19 @@ use Rattle.session_core.specs.Naming.{of_table}
 use Rattle.gps_serve.specs.AtEnd.{OutletServed, SinkFacts}
 use Rattle.gps_serve.specs.Doors.{DoorNow, EachLink, IsNewLink, IsUnused, Tended, Way, lanes_of}
 use Rattle.gps_serve.specs.Readies.{AllServed, AreReady, InputLeft, IsNext, SessionReady, SessionsSoFar}
-use Rattle.serve_settling.specs.Runs.{SourceFacts}
+use Rattle.serve_end_settling.specs.Runs.{SourceFacts}
 use Rattle.gps_serve.proofs.Zips.{zip_more}
 
 module _ {S K R : Type 0} (sources : SourceFacts S) (sinks : SinkFacts K) where
-  abbrev pub New : Link S K R → Type 0
+  abbrev pub New : SessionLink S K R → Type 0
   New link = IsNewLink sources.content sources.faults sources.quiets sinks.written sinks.faults link
 
-  abbrev pub Runs : Link S K R → SessionRun S K R → Type 0
+  abbrev pub Runs : SessionLink S K R → LinkDone S K R → Type 0
   Runs link run = SessionRuns sources.content sources.faults sources.quiets sinks.written sinks.faults link run
 
-  all_ready : (queue : ℕ) (links : List (Link S K R)) (sessions : List Attendance) (inputs : List (Taking Piece)) (runs : List (SessionRun S K R))
-      → map (λ (a : Attendance). a.session.name) sessions ≡ map (λ (l : Admitted). of_table l.outlet) (map (lanes_of queue) links)
-      → map (λ (x : Taking Piece). x.lane) inputs ≡ map (λ (l : Admitted). l.input) (map (lanes_of queue) links)
+  all_ready : (queue : ℕ) (links : List (SessionLink S K R)) (sessions : List MemberView) (inputs : List (Taking Piece)) (runs : List (LinkDone S K R))
+      → map (λ (a : MemberView). a.session.name) sessions ≡ map (λ (l : SessionLanes). of_table l.outlet) (map (lanes_of queue) links)
+      → map (λ (x : Taking Piece). x.lane) inputs ≡ map (λ (l : SessionLanes). l.input) (map (lanes_of queue) links)
       → EachLink IsUnused links → EachLink New links → AllZip Runs links runs → AreReady sources sinks sessions inputs runs
   all_ready queue [] [] [] [] names lanes unused new ran = tt
   all_ready queue [] [] [] (run ∷ runs) names lanes unused new ran = absurd ran
@@ -53,23 +53,23 @@ module _ {S K R : Type 0} (sources : SourceFacts S) (sinks : SinkFacts K) where
     all_ready queue links sessions inputs runs (cc names) (cc lanes) unused.1 new.1 ran.1,
   )
 
-  pub sessions_ready : (queue : ℕ) (told : Option (List (Way S K))) (now : DoorNow S K) (seat : Admissions) (sessions : List Attendance) (inputs : List (Taking Piece))
-      (runs : List (SessionRun S K R)) → Tended New Runs queue told now seat runs → AreAdmitted seat.links sessions inputs → AreReady sources sinks sessions inputs runs
+  pub sessions_ready : (queue : ℕ) (told : Option (List (Way S K))) (now : DoorNow S K) (seat : Admissions) (sessions : List MemberView) (inputs : List (Taking Piece))
+      (runs : List (LinkDone S K R)) → Tended New Runs queue told now seat runs → AreAdmitted seat.links sessions inputs → AreReady sources sinks sessions inputs runs
   sessions_ready queue told now seat sessions inputs runs tended admitted =
       let same = tended.seated.lanes in
       all_ready queue tended.links sessions inputs runs
-      (admitted.outlets ∙ ap (map (λ (l : Admitted). of_table l.outlet)) (sym same))
-      (admitted.inputs_are ∙ ap (map (λ (l : Admitted). l.input)) (sym same))
+      (admitted.outlets ∙ ap (map (λ (l : SessionLanes). of_table l.outlet)) (sym same))
+      (admitted.inputs_are ∙ ap (map (λ (l : SessionLanes). l.input)) (sym same))
       tended.seated.unused tended.seated.each tended.ran
 
   -- the end that gets a session's input is still that of its reader's lane, and its items are those of its outlet
-  pub input_lane : (a : Attendance) (x : Taking Piece) (run : SessionRun S K R) → SessionReady sources sinks a x run → x.lane ≡ run.reader.pieces.lane
+  pub input_lane : (a : MemberView) (x : Taking Piece) (run : LinkDone S K R) → SessionReady sources sinks a x run → x.lane ≡ run.reader.pieces.lane
   input_lane a x run ready = ready.input ∙ sym (ap (λ (tx : Putting Piece). tx.lane) ready.ran.reads.lane)
 
-  pub outlet_name : (a : Attendance) (x : Taking Piece) (run : SessionRun S K R) → SessionReady sources sinks a x run → of_table run.writer.items.lane ≡ a.session.name
+  pub outlet_name : (a : MemberView) (x : Taking Piece) (run : LinkDone S K R) → SessionReady sources sinks a x run → of_table run.writer.items.lane ≡ a.session.name
   outlet_name a x run ready = ap (λ (rx : Taking (List ℕ)). of_table rx.lane) ready.ran.wrote.lane ∙ ready.outlet
 
-  pub input_served : (a : Attendance) (x : Taking Piece) (run : SessionRun S K R) (done : SessionDone S K R) → SessionReady sources sinks a x run
+  pub input_served : (a : MemberView) (x : Taking Piece) (run : LinkDone S K R) (done : SessionDone S K R) → SessionReady sources sinks a x run
       → done.source ≡ run.reader.source → done.input_tx ≡ run.reader.pieces → Settles run.reader.pieces x done.input_rx → InputLeft sources x done
   input_served a x run done ready source tx settles =
       let link = ready.link in
@@ -92,9 +92,9 @@ module _ {S K R : Type 0} (sources : SourceFacts S) (sinks : SinkFacts K) where
         settled = settles.behind (sessions_tell_last run.reader.ending [] run.reader.pieces.put (sources.content link.source) (sources.content run.reader.source) hands refl);
       }
 
-  pub outlet_served : (a : Attendance) (x : Taking Piece) (run : SessionRun S K R) (done : SessionDone S K R) → SessionReady sources sinks a x run
+  pub outlet_served : (a : MemberView) (x : Taking Piece) (run : LinkDone S K R) (done : SessionDone S K R) → SessionReady sources sinks a x run
       → Empties (writer_end done.end) a.session.kept run.writer.items done.items_rx
-      → ((link : Link S K R) → Runs link run → Wrote (writer_end done.end) link.items done.items_rx (sinks.written link.sink) (sinks.written done.sink) (sinks.faults link.sink) (sinks.faults done.sink))
+      → ((link : SessionLink S K R) → Runs link run → Wrote (writer_end done.end) link.items done.items_rx (sinks.written link.sink) (sinks.written done.sink) (sinks.faults link.sink) (sinks.faults done.sink))
       → OutletServed sinks a done
   outlet_served a x run done ready empties wrote =
       let link = ready.link in
@@ -110,29 +110,29 @@ module _ {S K R : Type 0} (sources : SourceFacts S) (sinks : SinkFacts K) where
       }
 
   -- the same of the session that has this number
-  pub input_lane_at : (sessions : List Attendance) (number : ℕ) (x : Taking Piece) (run : SessionRun S K R) → number < length sessions
-      → ((free : Attendance) → SessionReady sources sinks (get_or sessions number free) x run) → x.lane ≡ run.reader.pieces.lane
+  pub input_lane_at : (sessions : List MemberView) (number : ℕ) (x : Taking Piece) (run : LinkDone S K R) → number < length sessions
+      → ((free : MemberView) → SessionReady sources sinks (get_or sessions number free) x run) → x.lane ≡ run.reader.pieces.lane
   input_lane_at [] number x run there ready = absurd (omega arith)
   input_lane_at (a ∷ sessions) number x run there ready = input_lane (get_or (a ∷ sessions) number a) x run (ready a)
 
-  pub input_served_at : (sessions : List Attendance) (number : ℕ) (x : Taking Piece) (run : SessionRun S K R) (done : SessionDone S K R) → number < length sessions
-      → ((free : Attendance) → SessionReady sources sinks (get_or sessions number free) x run)
+  pub input_served_at : (sessions : List MemberView) (number : ℕ) (x : Taking Piece) (run : LinkDone S K R) (done : SessionDone S K R) → number < length sessions
+      → ((free : MemberView) → SessionReady sources sinks (get_or sessions number free) x run)
       → done.source ≡ run.reader.source → done.input_tx ≡ run.reader.pieces → Settles run.reader.pieces x done.input_rx → InputLeft sources x done
   input_served_at [] number x run done there ready source tx settles = absurd (omega arith)
   input_served_at (a ∷ sessions) number x run done there ready source tx settles =
       input_served (get_or (a ∷ sessions) number a) x run done (ready a) source tx settles
 
-  pub sessions_none : (sessions : List Attendance) (inputs : List (Taking Piece)) (runs : List (SessionRun S K R)) → AreReady sources sinks sessions inputs runs
+  pub sessions_none : (sessions : List MemberView) (inputs : List (Taking Piece)) (runs : List (LinkDone S K R)) → AreReady sources sinks sessions inputs runs
       → SessionsSoFar sources sinks sessions inputs inputs runs 0 []
   sessions_none sessions inputs runs ready =
       record { gone = []; rest = sessions; split = refl; gone_inputs = []; inputs_split = refl; inputs_are = tt; outlets_are = tt; numbers = refl; count = refl; ready = ready }
 
   -- from the iterators' beginnings on
-  pub sessions_begin : (sessions : List Attendance) (inputs left_inputs : List (Taking Piece)) (runs left_runs : List (SessionRun S K R)) (done : List (SessionDone S K R))
+  pub sessions_begin : (sessions : List MemberView) (inputs left_inputs : List (Taking Piece)) (runs left_runs : List (LinkDone S K R)) (done : List (SessionDone S K R))
       → AreReady sources sinks sessions inputs runs → left_inputs ≡ inputs → left_runs ≡ runs → done ≡ [] → SessionsSoFar sources sinks sessions inputs left_inputs left_runs 0 done
   sessions_begin sessions inputs left_inputs runs left_runs done ready same is none =
       subst (λ (i : List (Taking Piece)). SessionsSoFar sources sinks sessions inputs i left_runs 0 done) (sym same)
-      (subst (λ (r : List (SessionRun S K R)). SessionsSoFar sources sinks sessions inputs inputs r 0 done) (sym is)
+      (subst (λ (r : List (LinkDone S K R)). SessionsSoFar sources sinks sessions inputs inputs r 0 done) (sym is)
       (subst (λ (d : List (SessionDone S K R)). SessionsSoFar sources sinks sessions inputs inputs runs 0 d) (sym none) (sessions_none sessions inputs runs ready)))
 
 at : {X : Type 0} (gone rest : List X) (x free : X) → get_or (gone ++ x ∷ rest) (length gone) free ≡ x
@@ -148,7 +148,7 @@ range_more n =
     sym (map_same (range_with_len 0 (n + 1))) ∙ map-range_with_len_more (λ (m : ℕ). m) 0 n n (omega arith) ∙ ap (λ l. l ++ n ∷ []) (map_same (range_with_len 0 n))
 
 module _ {S K R : Type 0} (sources : SourceFacts S) (sinks : SinkFacts K) where
-  same_lengths : (sessions : List Attendance) (inputs : List (Taking Piece)) (runs : List (SessionRun S K R)) → AreReady sources sinks sessions inputs runs
+  same_lengths : (sessions : List MemberView) (inputs : List (Taking Piece)) (runs : List (LinkDone S K R)) → AreReady sources sinks sessions inputs runs
       → (length inputs ≡ length sessions) × (length runs ≡ length sessions)
   same_lengths [] [] [] ready = (refl, refl)
   same_lengths [] [] (run ∷ runs) ready = absurd ready
@@ -160,7 +160,7 @@ module _ {S K R : Type 0} (sources : SourceFacts S) (sinks : SinkFacts K) where
       (ap suc same.0, ap suc same.1)
 
   -- one more of each is left where one more session is
-  pub some_left : (sessions : List Attendance) (inputs left : List (Taking Piece)) (runs : List (SessionRun S K R)) (number : ℕ) (done : List (SessionDone S K R))
+  pub some_left : (sessions : List MemberView) (inputs left : List (Taking Piece)) (runs : List (LinkDone S K R)) (number : ℕ) (done : List (SessionDone S K R))
       → SessionsSoFar sources sinks sessions inputs left runs number done → number < length sessions → (0 < length left) × (0 < length runs)
   some_left sessions inputs left runs number done so there =
       let same = same_lengths so.rest left runs so.ready in
@@ -169,45 +169,45 @@ module _ {S K R : Type 0} (sources : SourceFacts S) (sinks : SinkFacts K) where
       (omega (arith, same.0, some), omega (arith, same.1, some))
 
   -- the next session, whose lane and run were taken
-  pub next_session : (sessions : List Attendance) (inputs left left' : List (Taking Piece)) (x : Taking Piece) (run : SessionRun S K R) (runs runs' : List (SessionRun S K R))
+  pub next_session : (sessions : List MemberView) (inputs left left' : List (Taking Piece)) (x : Taking Piece) (run : LinkDone S K R) (runs runs' : List (LinkDone S K R))
       (number : ℕ) (done : List (SessionDone S K R)) → SessionsSoFar sources sinks sessions inputs left runs number done → left ≡ x ∷ left' → runs ≡ run ∷ runs'
       → SessionsSoFar sources sinks sessions inputs (x ∷ left') (run ∷ runs') number done
   next_session sessions inputs left left' x run runs runs' number done so left_is runs_are =
       subst (λ l. SessionsSoFar sources sinks sessions inputs l (run ∷ runs') number done) left_is
       (subst (λ r. SessionsSoFar sources sinks sessions inputs left r number done) runs_are so)
 
-  next_of : (gone rest : List Attendance) (a : Attendance) (x : Taking Piece) (run : SessionRun S K R) (sessions : List Attendance) (number : ℕ)
+  next_of : (gone rest : List MemberView) (a : MemberView) (x : Taking Piece) (run : LinkDone S K R) (sessions : List MemberView) (number : ℕ)
       → sessions ≡ gone ++ a ∷ rest → length gone ≡ number → SessionReady sources sinks a x run → IsNext sources sinks sessions number x run
   next_of gone rest a x run sessions number split count ready =
       let l : length sessions ≡ length (gone ++ a ∷ rest) = ap length split in
-      let at_here : (free : Attendance) → get_or sessions number free ≡ a =
-      λ free. ap (λ (l : List Attendance). get_or l number free) split ∙ ap (λ n. get_or (gone ++ a ∷ rest) n free) (sym count) ∙ at gone rest a free in
+      let at_here : (free : MemberView) → get_or sessions number free ≡ a =
+      λ free. ap (λ (l : List MemberView). get_or l number free) split ∙ ap (λ n. get_or (gone ++ a ∷ rest) n free) (sym count) ∙ at gone rest a free in
       record {
         there = omega (arith, l, count, length-append gone (a ∷ rest));
         ready = λ free. subst (λ b. SessionReady sources sinks b x run) (sym (at_here free)) ready;
       }
 
-  next_in : (gone rest : List Attendance) (left : List (Taking Piece)) (x : Taking Piece) (run : SessionRun S K R) (runs : List (SessionRun S K R))
-      (sessions : List Attendance) (number : ℕ) → sessions ≡ gone ++ rest → length gone ≡ number → AreReady sources sinks rest (x ∷ left) (run ∷ runs)
+  next_in : (gone rest : List MemberView) (left : List (Taking Piece)) (x : Taking Piece) (run : LinkDone S K R) (runs : List (LinkDone S K R))
+      (sessions : List MemberView) (number : ℕ) → sessions ≡ gone ++ rest → length gone ≡ number → AreReady sources sinks rest (x ∷ left) (run ∷ runs)
       → IsNext sources sinks sessions number x run
   next_in gone [] left x run runs sessions number split count ready = absurd ready
   next_in gone (a ∷ rest) left x run runs sessions number split count ready = next_of gone rest a x run sessions number split count ready.0
 
   -- the session at this place is ready
-  pub is_next : (sessions : List Attendance) (inputs left : List (Taking Piece)) (x : Taking Piece) (run : SessionRun S K R) (runs : List (SessionRun S K R)) (number : ℕ)
+  pub is_next : (sessions : List MemberView) (inputs left : List (Taking Piece)) (x : Taking Piece) (run : LinkDone S K R) (runs : List (LinkDone S K R)) (number : ℕ)
       (done : List (SessionDone S K R)) → SessionsSoFar sources sinks sessions inputs (x ∷ left) (run ∷ runs) number done → IsNext sources sinks sessions number x run
   is_next sessions inputs left x run runs number done so = next_in so.gone so.rest left x run runs sessions number so.split so.count so.ready
 
-  more_of : (gone rest : List Attendance) (a : Attendance) (sessions : List Attendance) (gone_inputs inputs left : List (Taking Piece)) (x : Taking Piece) (run : SessionRun S K R)
-      (runs : List (SessionRun S K R)) (number : ℕ) (done : List (SessionDone S K R)) (session : SessionDone S K R)
+  more_of : (gone rest : List MemberView) (a : MemberView) (sessions : List MemberView) (gone_inputs inputs left : List (Taking Piece)) (x : Taking Piece) (run : LinkDone S K R)
+      (runs : List (LinkDone S K R)) (number : ℕ) (done : List (SessionDone S K R)) (session : SessionDone S K R)
       → sessions ≡ gone ++ a ∷ rest → length gone ≡ number → inputs ≡ gone_inputs ++ x ∷ left → AllZip (InputLeft sources) gone_inputs done
       → AllZip (OutletServed sinks) gone done → map (λ (s : SessionDone S K R). s.number) done ≡ range_with_len 0 number
       → AreReady sources sinks (a ∷ rest) (x ∷ left) (run ∷ runs) → session.number ≡ number → InputLeft sources x session
-      → ((free : Attendance) → OutletServed sinks (get_or sessions number free) session)
+      → ((free : MemberView) → OutletServed sinks (get_or sessions number free) session)
       → SessionsSoFar sources sinks sessions inputs left runs (number + 1) (done ++ session ∷ [])
   more_of gone rest a sessions gone_inputs inputs left x run runs number done session split count inputs_split ins outs numbers ready is input outlet =
       let at_here : get_or sessions number a ≡ a =
-      ap (λ (l : List Attendance). get_or l number a) split ∙ ap (λ n. get_or (gone ++ a ∷ rest) n a) (sym count) ∙ at gone rest a a in
+      ap (λ (l : List MemberView). get_or l number a) split ∙ ap (λ n. get_or (gone ++ a ∷ rest) n a) (sym count) ∙ at gone rest a a in
       record {
         gone = gone ++ a ∷ [];
         rest = rest;
@@ -222,22 +222,22 @@ module _ {S K R : Type 0} (sources : SourceFacts S) (sinks : SinkFacts K) where
         ready = ready.1;
       }
 
-  more_in : (gone rest : List Attendance) (sessions : List Attendance) (gone_inputs inputs left : List (Taking Piece)) (x : Taking Piece) (run : SessionRun S K R)
-      (runs : List (SessionRun S K R)) (number : ℕ) (done : List (SessionDone S K R)) (session : SessionDone S K R)
+  more_in : (gone rest : List MemberView) (sessions : List MemberView) (gone_inputs inputs left : List (Taking Piece)) (x : Taking Piece) (run : LinkDone S K R)
+      (runs : List (LinkDone S K R)) (number : ℕ) (done : List (SessionDone S K R)) (session : SessionDone S K R)
       → sessions ≡ gone ++ rest → length gone ≡ number → inputs ≡ gone_inputs ++ x ∷ left → AllZip (InputLeft sources) gone_inputs done
       → AllZip (OutletServed sinks) gone done → map (λ (s : SessionDone S K R). s.number) done ≡ range_with_len 0 number
       → AreReady sources sinks rest (x ∷ left) (run ∷ runs) → session.number ≡ number → InputLeft sources x session
-      → ((free : Attendance) → OutletServed sinks (get_or sessions number free) session)
+      → ((free : MemberView) → OutletServed sinks (get_or sessions number free) session)
       → SessionsSoFar sources sinks sessions inputs left runs (number + 1) (done ++ session ∷ [])
   more_in gone [] sessions gone_inputs inputs left x run runs number done session split count inputs_split ins outs numbers ready is input outlet = absurd ready
   more_in gone (a ∷ rest) sessions gone_inputs inputs left x run runs number done session split count inputs_split ins outs numbers ready is input outlet =
       more_of gone rest a sessions gone_inputs inputs left x run runs number done session split count inputs_split ins outs numbers ready is input outlet
 
   -- a session more
-  pub sessions_more : (sessions : List Attendance) (inputs left : List (Taking Piece)) (x : Taking Piece) (run : SessionRun S K R) (runs : List (SessionRun S K R)) (number : ℕ)
+  pub sessions_more : (sessions : List MemberView) (inputs left : List (Taking Piece)) (x : Taking Piece) (run : LinkDone S K R) (runs : List (LinkDone S K R)) (number : ℕ)
       (done done' : List (SessionDone S K R)) (session : SessionDone S K R)
       → SessionsSoFar sources sinks sessions inputs (x ∷ left) (run ∷ runs) number done → session.number ≡ number → InputLeft sources x session
-      → ((free : Attendance) → OutletServed sinks (get_or sessions number free) session) → done' ≡ done ++ session ∷ []
+      → ((free : MemberView) → OutletServed sinks (get_or sessions number free) session) → done' ≡ done ++ session ∷ []
       → SessionsSoFar sources sinks sessions inputs left runs (number + 1) done'
   sessions_more sessions inputs left x run runs number done done' session so is input outlet more =
       subst (SessionsSoFar sources sinks sessions inputs left runs (number + 1)) (sym more)
@@ -245,12 +245,12 @@ module _ {S K R : Type 0} (sources : SourceFacts S) (sinks : SinkFacts K) where
       is input outlet)
 
   -- the same of a book that did not change
-  pub same_book : (b b' : BookView) (inputs left : List (Taking Piece)) (runs : List (SessionRun S K R)) (number : ℕ) (done : List (SessionDone S K R)) → b' ≡ b
+  pub same_book : (b b' : BookView) (inputs left : List (Taking Piece)) (runs : List (LinkDone S K R)) (number : ℕ) (done : List (SessionDone S K R)) → b' ≡ b
       → SessionsSoFar sources sinks b.sessions inputs left runs number done → SessionsSoFar sources sinks b'.sessions inputs left runs number done
   same_book b b' inputs left runs number done same so =
       subst (λ (c : BookView). SessionsSoFar sources sinks c.sessions inputs left runs number done) (sym same) so
 
-  all_in : (gone rest sessions : List Attendance) (gone_inputs inputs left : List (Taking Piece)) (runs : List (SessionRun S K R)) (number : ℕ) (done : List (SessionDone S K R))
+  all_in : (gone rest sessions : List MemberView) (gone_inputs inputs left : List (Taking Piece)) (runs : List (LinkDone S K R)) (number : ℕ) (done : List (SessionDone S K R))
       → sessions ≡ gone ++ rest → length gone ≡ number → inputs ≡ gone_inputs ++ left → AllZip (InputLeft sources) gone_inputs done
       → AllZip (OutletServed sinks) gone done → map (λ (s : SessionDone S K R). s.number) done ≡ range_with_len 0 number
       → AreReady sources sinks rest left runs → length sessions ≤ number → AllServed sources sinks sessions inputs done
@@ -265,13 +265,13 @@ module _ {S K R : Type 0} (sources : SourceFacts S) (sinks : SinkFacts K) where
       let l : length sessions ≡ length (gone ++ a ∷ rest) = ap length split in
       absurd (omega (arith, l, count, few, length-append gone (a ∷ rest)))
 
-  pub sessions_all : (sessions : List Attendance) (inputs left : List (Taking Piece)) (runs : List (SessionRun S K R)) (number : ℕ) (done : List (SessionDone S K R))
+  pub sessions_all : (sessions : List MemberView) (inputs left : List (Taking Piece)) (runs : List (LinkDone S K R)) (number : ℕ) (done : List (SessionDone S K R))
       → SessionsSoFar sources sinks sessions inputs left runs number done → length sessions ≤ number → AllServed sources sinks sessions inputs done
   sessions_all sessions inputs left runs number done so few =
       all_in so.gone so.rest sessions so.gone_inputs inputs left runs number done so.split so.count so.inputs_split so.inputs_are so.outlets_are so.numbers so.ready few
 
   -- all that ran were put together
-  pub none_left : (sessions : List Attendance) (inputs left : List (Taking Piece)) (runs : List (SessionRun S K R)) (number : ℕ) (done : List (SessionDone S K R))
+  pub none_left : (sessions : List MemberView) (inputs left : List (Taking Piece)) (runs : List (LinkDone S K R)) (number : ℕ) (done : List (SessionDone S K R))
       → SessionsSoFar sources sinks sessions inputs left runs number done → length sessions ≤ number → length runs ≡ 0
   none_left sessions inputs left runs number done so few =
       let same = same_lengths so.rest left runs so.ready in

@@ -7,14 +7,14 @@ use Rattle.serve_pieces.specs.declared.piece.Piece.{Piece}
 use Rattle.book_units.specs.Units.{IsNew}
 use Rattle.report_book.specs.BookView.{BookView}
 use Rattle.report_book.specs.Moves.{IsNewBook}
-use Rattle.hub_laws.specs.Given.{got_of}
-use Rattle.hub_laws.specs.Keeping.{IsUnused, NothingGot}
-use Rattle.hub_laws.specs.Parts.{Lanes}
-use Rattle.hub_laws.proofs.Beginning.{unused as unused_new}
+use Rattle.hub_promise.specs.Given.{got_of}
+use Rattle.hub_promise.specs.Keeping.{IsUnused, NothingGot}
+use Rattle.hub_promise.specs.Parts.{InletsView}
+use Rattle.hub_promise.proofs.Beginning.{unused as unused_new}
 use Rattle.gps_outside.specs.Told.{Stream}
 use Rattle.std.specs.Option.{option_to_list}
-use Rattle.serve_opening.specs.Opening.{AreUnread, sources_in}
-use Rattle.serve_settling.specs.Runs.{SourceFacts}
+use Rattle.world_opening.specs.Opening.{AreUnread, sources_in}
+use Rattle.serve_end_settling.specs.Runs.{SourceFacts}
 use Rattle.gps_serve.specs.declared.lanes.DeviceStart.{DeviceStart}
 use Rattle.gps_serve.specs.declared.lanes.EdgeStart.{EdgeStart}
 use Rattle.gps_serve.specs.Starts.{IsFreshDevice, IsFreshEdge, edge_source_of, edges_at, sources_at}
@@ -28,17 +28,17 @@ no_edge facts None (Some rx) fresh = absurd fresh
 no_edge facts (Some start) None fresh = absurd fresh
 no_edge facts (Some start) (Some rx) fresh = fresh.0.got
 
-nothing : {S R : Type 0} (facts : SourceFacts S) (start : DeviceStart S R) (x : Lanes) → IsFreshDevice facts start x → NothingGot x
+nothing : {S R : Type 0} (facts : SourceFacts S) (start : DeviceStart S R) (x : InletsView) → IsFreshDevice facts start x → NothingGot x
 nothing facts start x fresh = (fresh.bytes.got, no_edge facts start.edges x.edges fresh.edges)
 
-nothing_at : {S R : Type 0} (facts : SourceFacts S) (starts : List (DeviceStart S R)) (inlets : List Lanes) (k : ℕ) (d : Lanes) → AllZip (IsFreshDevice facts) starts inlets → k < length inlets
+nothing_at : {S R : Type 0} (facts : SourceFacts S) (starts : List (DeviceStart S R)) (inlets : List InletsView) (k : ℕ) (d : InletsView) → AllZip (IsFreshDevice facts) starts inlets → k < length inlets
     → NothingGot (slice_index_or inlets k d)
 nothing_at facts starts [] k d fresh there = absurd (omega arith)
 nothing_at facts [] (x ∷ inlets) k d fresh there = absurd fresh
 nothing_at facts (start ∷ starts) (x ∷ inlets) zero d fresh there = nothing facts start x fresh.0
 nothing_at facts (start ∷ starts) (x ∷ inlets) (suc k) d fresh there = nothing_at facts starts inlets k d fresh.1 (omega arith)
 
-pub nothing_got : {S R : Type 0} (facts : SourceFacts S) (starts : List (DeviceStart S R)) (inlets : List Lanes) → AllZip (IsFreshDevice facts) starts inlets → All NothingGot inlets
+pub nothing_got : {S R : Type 0} (facts : SourceFacts S) (starts : List (DeviceStart S R)) (inlets : List InletsView) → AllZip (IsFreshDevice facts) starts inlets → All NothingGot inlets
 nothing_got {S} {R} facts starts inlets fresh k d there = nothing_at facts starts inlets k d fresh there
 
 zip_length : {A B : Type 0} (P : A → B → Type 0) (xs : List A) (ys : List B) → AllZip P xs ys → length ys ≡ length xs

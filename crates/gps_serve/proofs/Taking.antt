@@ -5,28 +5,28 @@ use Rattle.std.specs.List.{All, AllZip, flat_map}
 use Rattle.gps_fixed.specs.Moment.{Moment}
 use Rattle.gps_lane.specs.Ends.{Putting, Taking}
 use Rattle.gps_outside.specs.Told.{Goes, IsPrefix, Stream}
-use Rattle.gps_outside.specs.Turns.{TakesAll, TakesSome}
+use Rattle.gps_outside.specs.ReadSteps.{TakesAll, TakesSome}
 use Rattle.gps_outside.proofs.Going.{goes_as}
-use Rattle.gps_world.specs.Opening.{Holds}
+use Rattle.gps_world.specs.Opening.{IsAllLeft}
 use Rattle.gps_world.specs.declared.place.Place.{Place}
-use Rattle.hub_laws.specs.declared.ends.DeviceEnd.{DeviceEnd}
-use Rattle.hub_laws.specs.declared.ends.DeviceEnd.TheVariants.{Ended}
-use Rattle.hub_laws.specs.Given.{ending_of}
-use Rattle.hub_laws.specs.Parts.{Lanes}
-use Rattle.serve_opening.specs.Opening.{IsEdgeHeld, IsHeld}
-use Rattle.serve_parts.specs.declared.done.DeviceDone.{DeviceDone}
-use Rattle.serve_parts.specs.declared.done.SessionDone.{SessionDone}
+use Rattle.hub_promise.specs.declared.ends.DeviceEnd.{DeviceEnd}
+use Rattle.hub_promise.specs.declared.ends.DeviceEnd.TheVariants.{Ended}
+use Rattle.hub_promise.specs.Given.{ending_of}
+use Rattle.hub_promise.specs.Parts.{InletsView}
+use Rattle.world_opening.specs.Opening.{IsEdgeHeld, IsHeld}
+use Rattle.serve_end_parts.specs.declared.done.DeviceDone.{DeviceDone}
+use Rattle.serve_end_parts.specs.declared.done.SessionDone.{SessionDone}
 use Rattle.serve_pieces.specs.Carried.{device_part, input_part}
 use Rattle.serve_pieces.specs.declared.piece.Ending.{Ending}
 use Rattle.serve_pieces.specs.declared.piece.Ending.TheVariants as ending
 use Rattle.serve_pieces.specs.declared.piece.Piece.{Piece}
-use Rattle.serve_settling.specs.declared.device.DeviceRun.{DeviceRun}
-use Rattle.serve_settling.specs.Failing.{source_of}
-use Rattle.serve_settling.specs.Lanes.{tx_of}
-use Rattle.serve_settling.specs.Runs.{EdgesRan, SourceFacts}
+use Rattle.serve_end_settling.specs.declared.device.DeviceRun.{DeviceRun}
+use Rattle.serve_end_settling.specs.Failing.{source_of}
+use Rattle.serve_end_settling.specs.Lanes.{tx_of}
+use Rattle.serve_end_settling.specs.Runs.{EdgesRan, SourceFacts}
 use Rattle.serve_threads.specs.declared.reading.ReaderDone.{ReaderDone}
-use Rattle.serve_threads.specs.declared.session.Link.{Link}
-use Rattle.serve_threads.specs.declared.session.SessionRun.{SessionRun}
+use Rattle.serve_threads.specs.declared.session.SessionLink.{SessionLink}
+use Rattle.serve_threads.specs.declared.session.LinkDone.{LinkDone}
 use Rattle.serve_threads.specs.Sessions.{SessionRuns}
 use Rattle.serve_workers.specs.EdgeLines.{TookLines}
 use Rattle.serve_workers.specs.Readings.{IsDevicePiece, IsInputPiece, TakesMore, Took}
@@ -79,7 +79,7 @@ goes_by end (Some x) None first all = absurd first
 goes_by end (Some x) (Some y) first all = record { first = first; all = all }
 
 module _ {S : Type 0} (facts : SourceFacts S) where
-  first_of : (end : Option DeviceEnd) (held : Option (List ℕ)) (before after : Option Stream) → Holds held before → Goes (TakesBy end) before after
+  first_of : (end : Option DeviceEnd) (held : Option (List ℕ)) (before after : Option Stream) → IsAllLeft held before → Goes (TakesBy end) before after
       → IsFirstOf end held after
   first_of end None before after holds goes = tt
   first_of end (Some bytes) before None holds goes =
@@ -108,7 +108,7 @@ module _ {S R : Type 0} (facts : SourceFacts S) where
       (λ e. lines_whole run.ending ran.hands.bytes before after ran.hands.took
       (sym (lines_told run.ending start.lines.put run.pieces.put before after ran.hands fresh.0.put) ∙ tells e))
 
-  device_reads : (may : Option (List Moment)) (start : DeviceStart S R) (first : Lanes) (run : DeviceRun S R) (done : DeviceDone S R) → IsFreshDevice facts start first
+  device_reads : (may : Option (List Moment)) (start : DeviceStart S R) (first : InletsView) (run : DeviceRun S R) (done : DeviceDone S R) → IsFreshDevice facts start first
       → RanOn may facts start run → IsLeftOf run done → IsWhole may facts done → DeviceReads facts start done
   device_reads may start first run done fresh ran left whole =
       let before = facts.content start.source in
@@ -126,7 +126,7 @@ module _ {S R : Type 0} (facts : SourceFacts S) where
             (λ e. subst TellsEnd left.edges_tx (device_tells_end may facts done whole e).1));
       }
 
-  pub devices_read : (may : Option (List Moment)) (starts : List (DeviceStart S R)) (firsts : List Lanes) (runs : List (DeviceRun S R)) (devices : List (DeviceDone S R))
+  pub devices_read : (may : Option (List Moment)) (starts : List (DeviceStart S R)) (firsts : List InletsView) (runs : List (DeviceRun S R)) (devices : List (DeviceDone S R))
       → AllZip (IsFreshDevice facts) starts firsts → AllZip (RanOn may facts) starts runs → AllZip IsLeftOf runs devices → All (IsWhole may facts) devices
       → AllZip (DeviceReads facts) starts devices
   devices_read may [] firsts [] [] fresh ran left whole = tt
@@ -200,7 +200,7 @@ module _ {S R : Type 0} (facts : SourceFacts S) where
       ∙ ap (λ l. is_some (edge_source_of start.edges) ∷ l) (edges_there starts devices reads.1)
 
 -- the same of sessions
-pub links_read : {S K R : Type 0} (facts : SourceFacts S) (written : K → Option (List ℕ)) (sink_faults : K → ℕ) (links : List (Link S K R)) (runs : List (SessionRun S K R))
+pub links_read : {S K R : Type 0} (facts : SourceFacts S) (written : K → Option (List ℕ)) (sink_faults : K → ℕ) (links : List (SessionLink S K R)) (runs : List (LinkDone S K R))
     (sessions : List (SessionDone S K R)) → AllZip (SessionRuns facts.content facts.faults facts.quiets written sink_faults) links runs → AllZip IsSourceOf runs sessions
     → AllZip (ReadsLink facts) (map way_of links) sessions
 links_read facts written sink_faults [] [] [] ran are = tt

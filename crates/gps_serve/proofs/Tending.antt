@@ -5,7 +5,7 @@ use Rattle.gps_outside.specs.Counts.{Rose, one_more}
 use Rattle.gps_outside.specs.Links.{HasNoLink, PassLinks}
 use Rattle.gps_outside.specs.Told.{Goes, Stays}
 use Rattle.gps_outside.proofs.Going.{goes_as, goes_on}
-use Rattle.serve_threads.specs.declared.session.Link.{Link}
+use Rattle.serve_threads.specs.declared.session.SessionLink.{SessionLink}
 use Rattle.gps_serve.specs.Doors.{Deals, DoorNow, NoneLeft, Taken, Tends, WasAsked, Way, door_now, way_of}
 
 no_more : {L : Type 0} (links after : List L) → [] ≡ links ++ after → after ≡ []
@@ -188,5 +188,5 @@ still_tends {G} {S} {K} links faults quiets told gate gate' full full' memory me
     (subst (λ (g : G). Tends told (door_now (links g) (faults g) (quiets g) full memory) ways done to_ask) (sym same_gate) so))))
 
 -- a session more
-pub ways_more : {S K R : Type 0} (links : List (Link S K R)) (link : Link S K R) → map way_of (links ++ link ∷ []) ≡ map way_of links ++ way_of link ∷ []
+pub ways_more : {S K R : Type 0} (links : List (SessionLink S K R)) (link : SessionLink S K R) → map way_of (links ++ link ∷ []) ≡ map way_of links ++ way_of link ∷ []
 ways_more links link = map-append way_of links (link ∷ [])

@@ -6,33 +6,33 @@ use Rattle.gps_fixed.specs.Moment.{Moment}
 use Rattle.book_log.specs.Entries.{Entry}
 use Rattle.gps_lane.specs.Ends.{Putting, Taking}
 use Rattle.gps_outside.specs.Told.{Goes, Stream}
-use Rattle.gps_outside.specs.Turns.{TakesAll}
+use Rattle.gps_outside.specs.ReadSteps.{TakesAll}
 use Rattle.gps_outside.proofs.Going.{goes_as}
-use Rattle.hub_laws.specs.declared.ends.DeviceEnd.{DeviceEnd}
-use Rattle.hub_laws.specs.declared.ends.DeviceEnd.TheVariants.{Ended, NoMemory as LostNoMemory}
-use Rattle.hub_laws.specs.DaemonHub.{DeviceFits}
-use Rattle.hub_laws.specs.Given.{edge_ending, end_by, end_of, ending_of, got_of}
-use Rattle.hub_laws.specs.Parts.{Lanes}
+use Rattle.hub_promise.specs.declared.ends.DeviceEnd.{DeviceEnd}
+use Rattle.hub_promise.specs.declared.ends.DeviceEnd.TheVariants.{Ended, NoMemory as LostNoMemory}
+use Rattle.hub_promise.specs.DaemonHub.{DeviceFits}
+use Rattle.hub_promise.specs.Given.{edge_ending, end_by, end_of, ending_of, got_of}
+use Rattle.hub_promise.specs.Parts.{InletsView}
 use Rattle.report_book.specs.BookView.{BookView}
-use Rattle.serve_parts.specs.declared.done.DeviceDone.{DeviceDone}
-use Rattle.serve_parts.specs.declared.done.MonitorDone.{MonitorDone}
-use Rattle.serve_parts.specs.declared.done.SessionDone.{SessionDone}
+use Rattle.serve_end_parts.specs.declared.done.DeviceDone.{DeviceDone}
+use Rattle.serve_end_parts.specs.declared.done.MonitorDone.{MonitorDone}
+use Rattle.serve_end_parts.specs.declared.done.SessionDone.{SessionDone}
 use Rattle.serve_pieces.specs.Carried.{device_part}
 use Rattle.serve_pieces.specs.declared.piece.Ending.{Ending}
 use Rattle.serve_pieces.specs.declared.piece.Ending.TheVariants.{End, Failed, NoMemory}
 use Rattle.serve_pieces.specs.declared.piece.Piece.{Piece}
 use Rattle.serve_pieces.specs.declared.piece.Piece.TheVariants.{Bytes, Line, Input, Last}
-use Rattle.serve_settling.specs.Lanes.{TellsLast}
-use Rattle.serve_settling.specs.Runs.{SourceFacts}
-use Rattle.serve_settling.proofs.Endings.{devices_tell_last, edges_tell_last, settled}
+use Rattle.serve_end_settling.specs.Lanes.{TellsLast}
+use Rattle.serve_end_settling.specs.Runs.{SourceFacts}
+use Rattle.serve_end_settling.proofs.Endings.{devices_tell_last, edges_tell_last, settled}
 use Rattle.serve_workers.specs.EdgeLines.{HandsLines, TookLines, line_pieces}
 use Rattle.serve_workers.specs.Readings.{Each, HandsOn, IsDevicePiece, Took, last_piece}
-use Rattle.gps_serve.specs.AtEnd.{AtEnd, BytesServed, DeviceServed, EdgesServed, GateFacts, LaneServed, LinesServed, SinkFacts, Told}
+use Rattle.gps_serve.specs.AtEnd.{AtEnd, BytesServed, DeviceServed, EdgesServed, GateFacts, LaneServed, LinesServed, SinkFacts, DaemonSettings}
 use Rattle.gps_serve.specs.Doors.{Way}
 use Rattle.gps_serve.specs.Whole.{BytesWhole, CameWhole, EdgesWhole, IsOver, IsWhole, LeavesNone, LinesWhole}
 
 -- both lanes of a device, as the hub left them, have told how their sources ended
-record TellEnds (x : Lanes) (end : Option DeviceEnd) : Type 0 where
+record TellEnds (x : InletsView) (end : Option DeviceEnd) : Type 0 where
   bytes_ending : Ending
   edges_ending : Ending
   bytes : ending_of x.bytes.got ≡ Some bytes_ending
@@ -56,7 +56,7 @@ is_there end over none = elim over [
 ]
 
 -- nothing was refused then
-tell_both : (x : Lanes) (refused : List Piece) (bytes edges : Option Ending) (end : Option DeviceEnd) → IsOver end → end ≡ end_by refused bytes edges
+tell_both : (x : InletsView) (refused : List Piece) (bytes edges : Option Ending) (end : Option DeviceEnd) → IsOver end → end ≡ end_by refused bytes edges
     → (refused ≡ [] → ending_of x.bytes.got ≡ bytes) → (refused ≡ [] → edge_ending x.edges (got_of x.edges) ≡ edges) → TellEnds x end
 tell_both x (piece ∷ refused) bytes edges end over is bytes_are edges_are = absurd (is_not_lost end over is)
 tell_both x [] None edges end over is bytes_are edges_are = absurd (is_there end over is)
@@ -64,7 +64,7 @@ tell_both x [] (Some bytes) None end over is bytes_are edges_are = absurd (is_th
 tell_both x [] (Some bytes) (Some edges) end over is bytes_are edges_are =
     record { bytes_ending = bytes; edges_ending = edges; bytes = bytes_are refl; edges = edges_are refl; end_is = is }
 
-tell_ends : (log : List Entry) (d : ℕ) (x : Lanes) (end : Option DeviceEnd) → DeviceFits log d x end → IsOver end → TellEnds x end
+tell_ends : (log : List Entry) (d : ℕ) (x : InletsView) (end : Option DeviceEnd) → DeviceFits log d x end → IsOver end → TellEnds x end
 tell_ends log d x end fits over =
     tell_both x (fits.refused ++ fits.refused_lines) (ending_of fits.taken) (edge_ending x.edges fits.lines) end over fits.ends
     (λ none. ap ending_of (fits.lane ∙ ap (λ (l : List Piece). fits.taken ++ l) (none_of_both fits.refused fits.refused_lines none).0 ∙ append-nil fits.taken))
@@ -186,7 +186,7 @@ module _ {S : Type 0} (facts : SourceFacts S) where
   edges_whole None None None (Some source) ending served told = absurd served
 
 module _ {S R : Type 0} (may : Option (List Moment)) (facts : SourceFacts S) where
-  device_whole : (x : Lanes) (d : DeviceDone S R) → DeviceServed may facts x d → (IsOver d.end → TellEnds x d.end) → IsWhole may facts d
+  device_whole : (x : InletsView) (d : DeviceDone S R) → DeviceServed may facts x d → (IsOver d.end → TellEnds x d.end) → IsWhole may facts d
   device_whole x d served tell over =
       let told = tell over in
       record {
@@ -200,8 +200,8 @@ module _ {S R : Type 0} (may : Option (List Moment)) (facts : SourceFacts S) whe
       }
 
   -- of each device, by its number
-  all_whole : (inlets : List Lanes) (devices : List (DeviceDone S R)) → AllZip (DeviceServed may facts) inlets devices
-      → ((k : ℕ) (x : Lanes) (end : Option DeviceEnd) → k < length inlets
+  all_whole : (inlets : List InletsView) (devices : List (DeviceDone S R)) → AllZip (DeviceServed may facts) inlets devices
+      → ((k : ℕ) (x : InletsView) (end : Option DeviceEnd) → k < length inlets
       → IsOver (get_or (map (λ (d : DeviceDone S R). d.end) devices) k end)
       → TellEnds (get_or inlets k x) (get_or (map (λ (d : DeviceDone S R). d.end) devices) k end))
       → All (IsWhole may facts) devices
@@ -211,7 +211,7 @@ module _ {S R : Type 0} (may : Option (List Moment)) (facts : SourceFacts S) whe
   all_whole (x ∷ inlets) (device ∷ devices) served tell (suc k) d there =
       all_whole inlets devices served.1 (λ j y end within. tell (suc j) y end (omega arith)) k d (omega arith)
 
-pub whole_at_end : {G S K R : Type 0} (told : Told) (may : Option (List Moment)) (sources : SourceFacts S) (sinks : SinkFacts K) (gates : GateFacts G S K)
+pub whole_at_end : {G S K R : Type 0} (told : DaemonSettings) (may : Option (List Moment)) (sources : SourceFacts S) (sinks : SinkFacts K) (gates : GateFacts G S K)
     (links : Option (List (Way S K))) (full : ℕ) (no_memory : Bool) (book : Option BookView) (devices : List (DeviceDone S R)) (sessions : List (SessionDone S K R))
     (monitors : List MonitorDone) (given : Option G)
     → IfSome book (λ b. AtEnd told may sources sinks gates links full no_memory b devices sessions monitors given) → IsSome book → All (IsWhole may sources) devices

@@ -3,12 +3,12 @@ use Rattle.std.proofs.Common.{◌≡◌, ℕ, List, Option, [], ◌∷◌, ◌++
 use Rattle.std.proofs.lemmas.List.{append-nil}
 use Rattle.std.specs.List.{AllZip}
 use Rattle.gps_fixed.specs.Moment.{Moment}
-use Rattle.serve_threads.specs.declared.monitors.WatchDone.{WatchDone}
-use Rattle.serve_threads.specs.declared.monitors.Watcher.{Watcher}
-use Rattle.serve_threads.specs.declared.monitors.Watching.{Watching}
+use Rattle.serve_threads.specs.declared.monitors.ReadingsDone.{ReadingsDone}
+use Rattle.serve_threads.specs.declared.monitors.MonitorStart.{MonitorStart}
+use Rattle.serve_threads.specs.declared.monitors.MonitorPromise.{MonitorPromise}
 use Rattle.gps_serve.specs.declared.lanes.DeviceStart.{DeviceStart}
-use Rattle.serve_settling.specs.declared.device.DeviceRun.{DeviceRun}
-use Rattle.serve_settling.specs.Runs.{SourceFacts}
+use Rattle.serve_end_settling.specs.declared.device.DeviceRun.{DeviceRun}
+use Rattle.serve_end_settling.specs.Runs.{SourceFacts}
 use Rattle.gps_serve.specs.declared.readers.DeviceWork.{DeviceWork}
 use Rattle.gps_serve.specs.Doors.{RanSoFar}
 use Rattle.gps_serve.specs.Runs.{RanOn}
@@ -73,7 +73,7 @@ pub devices_ran : {S R D : Type 0} (may : Option (List Moment)) (facts : SourceF
     → AllZip ReadersAre starts works → AllZip (JoinsDevice may facts) works runs → AllZip (RanOn may facts) starts runs
 devices_ran may facts starts works runs are joined = through ReadersAre (RanOn may facts) starts works runs are joined
 
-pub watchers_ran : (tries : ℕ) (watchers : List Watcher) (works : List Watching) (done : List WatchDone)
+pub watchers_ran : (tries : ℕ) (watchers : List MonitorStart) (works : List MonitorPromise) (done : List ReadingsDone)
     → AllZip (WatchesFor tries) watchers works → AllZip JoinsWatcher works done → AllZip (WatchedBy tries) watchers done
 watchers_ran tries [] [] [] are joined = tt
 watchers_ran tries [] [] (d ∷ done) are joined = absurd joined

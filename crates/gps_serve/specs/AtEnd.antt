@@ -1,4 +1,4 @@
--- What a daemon hands back: its book, and what is left of its devices, sessions and monitors, which agree with each other. This project's own.
+-- What a daemon hands back: its book, and what is left of its devices, sessions and monitors, which agree with each other.
 use Rattle.std.specs.Prelude.{◌≡◌, ◌+◌, ◌*◌, ◌^◌, ◌-◌, ◌<◌, ◌≤◌, ◌⊎◌, ℕ, Bool, true, false, List, [], ◌++◌, length, map, Option, Some, None, ◌==◌, if◌then◌else◌}
 use Rattle.std.specs.List.{All, AllZip, range_with_len}
 use Rattle.gps_fixed.specs.Moment.{Moment}
@@ -8,10 +8,10 @@ use Rattle.gps_outside.specs.Counts.{Rose}
 use Rattle.gps_outside.specs.Links.{IsUnwritten, PassLinks}
 use Rattle.gps_outside.specs.Told.{Goes, IsPrefix, Stream}
 use Rattle.gps_world.specs.declared.place.Place.{Place}
-use Rattle.book_sessions.specs.Attendance.{Attendance}
+use Rattle.book_sessions.specs.MemberView.{MemberView}
 use Rattle.book_units.specs.Units.{UnitView, segment_of}
 use Rattle.report_book.specs.BookView.{BookView}
-use Rattle.run_lines.specs.declared.closing.SessionEnd.TheVariants.{Drained, WriteFault}
+use Rattle.output_lines.specs.declared.closing.SessionEnd.TheVariants.{Drained, WriteFault}
 use Rattle.serve_pieces.specs.Carried.{device_part, input_part}
 use Rattle.serve_pieces.specs.declared.piece.Ending.{Ending}
 use Rattle.serve_pieces.specs.declared.piece.Ending.TheVariants.{Failed}
@@ -20,20 +20,20 @@ use Rattle.serve_workers.specs.EdgeLines.{HandsLines}
 use Rattle.serve_workers.specs.Readings.{HandsOn, IsDevicePiece, IsInputPiece, WasRead}
 use Rattle.serve_workers.specs.Watching.{Climbs, each_once}
 use Rattle.serve_workers.specs.Writing.{Writes}
-use Rattle.serve_parts.specs.declared.done.DeviceDone.{DeviceDone}
-use Rattle.serve_parts.specs.declared.done.SessionDone.{SessionDone}
-use Rattle.serve_parts.specs.declared.done.MonitorDone.{MonitorDone}
-use Rattle.serve_parts.specs.declared.plan.Plan.{Plan}
-use Rattle.serve_settling.specs.Lanes.{OneMoreAtMost}
-use Rattle.serve_settling.specs.Outlets.{writer_end}
-use Rattle.serve_settling.specs.Units.{ArePublished}
+use Rattle.serve_end_parts.specs.declared.done.DeviceDone.{DeviceDone}
+use Rattle.serve_end_parts.specs.declared.done.SessionDone.{SessionDone}
+use Rattle.serve_end_parts.specs.declared.done.MonitorDone.{MonitorDone}
+use Rattle.serve_end_parts.specs.declared.plan.Plan.{Plan}
+use Rattle.serve_end_settling.specs.Lanes.{OneMoreAtMost}
+use Rattle.serve_end_settling.specs.Outlets.{writer_end}
+use Rattle.serve_end_settling.specs.Units.{ArePublished}
 use Rattle.session_core.specs.Naming.{of_table}
-use Rattle.hub_laws.specs.declared.ends.DeviceEnd.{DeviceEnd}
-use Rattle.hub_laws.specs.declared.ends.DeviceEnd.TheVariants.{Ended}
-use Rattle.hub_laws.specs.DaemonHub.{DaemonHub}
-use Rattle.hub_laws.specs.Keeping.{IsClosed}
-use Rattle.hub_laws.specs.Parts.{Lanes, Terms}
-use Rattle.serve_settling.specs.Runs.{SourceFacts}
+use Rattle.hub_promise.specs.declared.ends.DeviceEnd.{DeviceEnd}
+use Rattle.hub_promise.specs.declared.ends.DeviceEnd.TheVariants.{Ended}
+use Rattle.hub_promise.specs.DaemonHub.{DaemonHub}
+use Rattle.hub_promise.specs.Keeping.{IsClosed}
+use Rattle.hub_promise.specs.Parts.{InletsView, Terms}
+use Rattle.serve_end_settling.specs.Runs.{SourceFacts}
 use Rattle.gps_serve.specs.Doors.{NoneLeft, Way}
 use Rattle.gps_serve.specs.Starts.{IsUnreadBy}
 use Rattle.gps_serve.specs.Statuses.{HasStopped}
@@ -77,7 +77,7 @@ EdgesServed facts None None (Some rx) source = ⊥
 EdgesServed facts None None None (Some source) = ⊥
 
 -- what is left of a device; `x` are its lanes as the hub left them
-pub record DeviceServed {S R : Type 0} (may : Option (List Moment)) (facts : SourceFacts S) (x : Lanes) (done : DeviceDone S R) : Type 0 where
+pub record DeviceServed {S R : Type 0} (may : Option (List Moment)) (facts : SourceFacts S) (x : InletsView) (done : DeviceDone S R) : Type 0 where
   pub source : S
   pub source_is : done.source ≡ Some source
   pub bytes : BytesServed may facts x.bytes done.bytes_tx done.bytes_rx source
@@ -106,7 +106,7 @@ sink_facts written faults = record { written = written; faults = faults }
 -- What is left of a session's outlet: its receiving end, which has the name that the book knows. The items that were got of it begin those that the
 -- book gave it, and are all of them where the session was drained. Their bytes were written to its sink, to which nothing was written before; all
 -- of them, unless the sink failed.
-pub record OutletServed {S K R : Type 0} (facts : SinkFacts K) (a : Attendance) (done : SessionDone S K R) : Type 0 where
+pub record OutletServed {S K R : Type 0} (facts : SinkFacts K) (a : MemberView) (done : SessionDone S K R) : Type 0 where
   pub first : K
   pub unwritten : IsUnwritten (facts.written first) (facts.faults first)
   pub outlet : of_table done.items_rx.lane ≡ a.session.name
@@ -181,37 +181,37 @@ EdgesHeld behind facts None done = done.edges ≡ None
 EdgesHeld behind facts (Some place) done = SourceHeld facts done.end (behind place) done.edges
 
 -- what a daemon was told to serve, but for the places
-pub record Told : Type 0 where
+pub record DaemonSettings : Type 0 where
   pub names : List (List ℕ)
   pub limit : ℕ
   pub wait : ℕ
   pub queue : ℕ
   pub tries : ℕ
 
-abbrev pub told_of : Terms → ℕ → ℕ → Told
-told_of terms queue tries = record { names = terms.names; limit = terms.limit; wait = terms.wait; queue = queue; tries = tries }
+abbrev pub settings_of : Terms → ℕ → ℕ → DaemonSettings
+settings_of terms queue tries = record { names = terms.names; limit = terms.limit; wait = terms.wait; queue = queue; tries = tries }
 
-abbrev pub told_in : Plan → Told
-told_in plan = record { names = plan.names; limit = plan.limit; wait = plan.wait; queue = plan.queue; tries = plan.tries }
+abbrev pub settings_in : Plan → DaemonSettings
+settings_in plan = record { names = plan.names; limit = plan.limit; wait = plan.wait; queue = plan.queue; tries = plan.tries }
 
 -- the units that have a monitor
 abbrev pub watched_units : ℕ → List UnitView → List UnitView
 watched_units tries units = if tries == 0 then [] else units
 
 -- so many items may wait for each session
-abbrev pub AreOfQueue : ℕ → List Attendance → Type 0
-AreOfQueue queue sessions = All (λ (a : Attendance). a.session.cap ≡ queue) sessions
+abbrev pub AreOfQueue : ℕ → List MemberView → Type 0
+AreOfQueue queue sessions = All (λ (a : MemberView). a.session.cap ≡ queue) sessions
 
 -- What the hub knows holds of the book, of the devices' lanes as the hub left them, of how each device ended, of the sessions' lanes, and of the door. By the lanes that are handed
 -- back, what came into the hub is what was taken from the sources; what a session wrote begins what the book gave it. Each device has stopped, each
 -- session is closed, and each unit's samples are all published, unless its count is spent.
-pub record AtEnd {G S K R : Type 0} (told : Told) (may : Option (List Moment)) (sources : SourceFacts S) (sinks : SinkFacts K) (gates : GateFacts G S K)
+pub record AtEnd {G S K R : Type 0} (told : DaemonSettings) (may : Option (List Moment)) (sources : SourceFacts S) (sinks : SinkFacts K) (gates : GateFacts G S K)
     (links : Option (List (Way S K))) (full : ℕ) (no_memory : Bool) (b : BookView) (devices : List (DeviceDone S R)) (sessions : List (SessionDone S K R))
     (monitors : List MonitorDone) (given : Option G) : Type 0 where
   pub names : b.names ≡ told.names
   pub limit : b.log.limit ≡ told.limit
   pub queue : AreOfQueue told.queue b.sessions
-  pub inlets : List Lanes
+  pub inlets : List InletsView
   pub done : Bool
   pub hub : DaemonHub (record { book = b; inlets = inlets; ends = map (λ (d : DeviceDone S R). d.end) devices; inputs = map (λ (s : SessionDone S K R). s.input_rx) sessions; done = done; wait = told.wait })
   pub devices_are : AllZip (DeviceServed may sources) inlets devices

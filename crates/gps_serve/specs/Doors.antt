@@ -1,30 +1,30 @@
--- What the door worker did. This project's own.
+-- What the door worker did.
 use Rattle.std.specs.Prelude.{◌≡◌, ◌<◌, ◌≤◌, ◌+◌, ◌-◌, ◌^◌, ◌⊎◌, ℕ, Bool, true, false, List, [], ◌∷◌, ◌++◌, length, map, Option}
 use Rattle.std.specs.List.{AllZip}
 use Rattle.gps_outside.specs.Counts.{Rose, one_more}
 use Rattle.gps_outside.specs.Links.{IsUnread, IsUnwritten, PassLinks}
 use Rattle.gps_outside.specs.Told.{Goes, Stream}
-use Rattle.hub_door.specs.Admissions.{Admissions, Link as Lanes, link_of}
-use Rattle.serve_threads.specs.declared.session.Link.{Link}
+use Rattle.hub_door.specs.Admissions.{Admissions, SessionLanes, link_of}
+use Rattle.serve_threads.specs.declared.session.SessionLink.{SessionLink}
 use Rattle.gps_serve.specs.declared.seated.Seated.{Seated}
 
 -- the link on which a session's threads work
-abbrev pub link_at : {S K R : Type 0} → Seated S K R → Link S K R
+abbrev pub link_at : {S K R : Type 0} → Seated S K R → SessionLink S K R
 link_at seated = seated.attended
 
-abbrev pub links_at : {S K R : Type 0} → List (Seated S K R) → List (Link S K R)
+abbrev pub links_at : {S K R : Type 0} → List (Seated S K R) → List (SessionLink S K R)
 links_at seated = map link_at seated
 
 -- its two lanes
-abbrev pub lanes_of : {S K R : Type 0} → ℕ → Link S K R → Lanes
+abbrev pub lanes_of : {S K R : Type 0} → ℕ → SessionLink S K R → SessionLanes
 lanes_of queue link = link_of link.items.lane queue link.pieces.lane
 
 -- nothing went through its lanes
-abbrev pub IsUnused : {S K R : Type 0} → Link S K R → Type 0
+abbrev pub IsUnused : {S K R : Type 0} → SessionLink S K R → Type 0
 IsUnused link = (link.items.got ≡ []) × (link.pieces.put ≡ [])
 
 -- nothing was taken from its source, nor written to its sink
-abbrev pub IsNewLink : {S K R : Type 0} → (S → Option Stream) → (S → ℕ) → (S → ℕ) → (K → Option (List ℕ)) → (K → ℕ) → Link S K R → Type 0
+abbrev pub IsNewLink : {S K R : Type 0} → (S → Option Stream) → (S → ℕ) → (S → ℕ) → (K → Option (List ℕ)) → (K → ℕ) → SessionLink S K R → Type 0
 IsNewLink content faults quiets written sink_faults link =
     IsUnread (content link.source) (faults link.source) (quiets link.source) × IsUnwritten (written link.sink) (sink_faults link.sink)
 
@@ -34,13 +34,13 @@ EachLink P (link ∷ links) = P link × EachLink P links
 
 -- The sessions that were admitted are those of these links, in order, each with its two lanes. Nothing went through the lanes before, and P holds of
 -- each link as it came.
-pub record AreSeated {S K R : Type 0} (P : Link S K R → Type 0) (queue : ℕ) (links : List (Link S K R)) (seat : Admissions) : Type 0 where
+pub record AreSeated {S K R : Type 0} (P : SessionLink S K R → Type 0) (queue : ℕ) (links : List (SessionLink S K R)) (seat : Admissions) : Type 0 where
   pub lanes : map (lanes_of queue) links ≡ seat.links
   pub unused : EachLink IsUnused links
   pub each : EachLink P links
 
 -- The same, whatever P and the number of items that may stand in an outlet.
-pub record HaveLanes {S K R : Type 0} (links : List (Link S K R)) (seat : Admissions) : Type 0 where
+pub record HaveLanes {S K R : Type 0} (links : List (SessionLink S K R)) (seat : Admissions) : Type 0 where
   pub queue : ℕ
   pub lanes : map (lanes_of queue) links ≡ seat.links
   pub unused : EachLink IsUnused links
@@ -54,7 +54,7 @@ pub record FailsBy (failed : Bool) (faults faults' : ℕ) : Type 0 where
 abbrev pub Way : Type 0 → Type 0 → Type 0
 Way S K = S × K
 
-abbrev pub way_of : {S K R : Type 0} → Link S K R → Way S K
+abbrev pub way_of : {S K R : Type 0} → SessionLink S K R → Way S K
 way_of link = (link.source, link.sink)
 
 -- the door as it stands: the links that are left, where it tells them, and its counts; and how many links were dropped because too many sessions
@@ -102,9 +102,9 @@ Deals way old new full full' no_memory no_memory' =
     ⊎ ((new ≡ old) × (full' ≡ full) × (no_memory' ≡ true))
 
 -- what came of the links that the door gave
-pub record Tended {S K R Run : Type 0} (P : Link S K R → Type 0) (Runs : Link S K R → Run → Type 0) (queue : ℕ) (told : Option (List (Way S K))) (now : DoorNow S K)
+pub record Tended {S K R Run : Type 0} (P : SessionLink S K R → Type 0) (Runs : SessionLink S K R → Run → Type 0) (queue : ℕ) (told : Option (List (Way S K))) (now : DoorNow S K)
     (seat : Admissions) (runs : List Run) : Type 0 where
-  pub links : List (Link S K R)
+  pub links : List (SessionLink S K R)
   pub seated : AreSeated P queue links seat
   pub ran : AllZip Runs links runs
   pub tends : Tends told now (map way_of links) seat.done false

@@ -1,11 +1,11 @@
--- Which devices were lost, and which sessions closed, for want of memory. This project's own.
+-- Which devices were lost, and which sessions closed, for want of memory.
 use Rattle.std.specs.Prelude.{◌≡◌, ℕ, Bool, true, false, List, Option, Some, None}
 use Rattle.std.specs.List.{All}
-use Rattle.book_sessions.specs.Attendance.{Attendance}
-use Rattle.hub_laws.specs.declared.ends.DeviceEnd.{DeviceEnd}
-use Rattle.hub_laws.specs.declared.ends.DeviceEnd.TheVariants.{Ended, ReadFault, NoMemory as LostNoMemory}
+use Rattle.book_sessions.specs.MemberView.{MemberView}
+use Rattle.hub_promise.specs.declared.ends.DeviceEnd.{DeviceEnd}
+use Rattle.hub_promise.specs.declared.ends.DeviceEnd.TheVariants.{Ended, ReadFault, NoMemory as LostNoMemory}
 use Rattle.report_book.specs.BookView.{BookView}
-use Rattle.serve_parts.specs.declared.done.DeviceDone.{DeviceDone}
+use Rattle.serve_end_parts.specs.declared.done.DeviceDone.{DeviceDone}
 use Rattle.session_core.specs.declared.mark.Close.{Close}
 use Rattle.session_core.specs.declared.mark.Close.TheVariants as closed
 
@@ -38,4 +38,4 @@ is_cut (Some closing) = is_cut_by closing.1
 -- No device was lost for want of memory, and no session of the book was closed for it.
 pub record NoneLost {S R : Type 0} (b : BookView) (devices : List (DeviceDone S R)) : Type 0 where
   pub devices_kept : All (λ (d : DeviceDone S R). IsNotLost d.end) devices
-  pub sessions_kept : All (λ (a : Attendance). IsNotCut a.session.closing) b.sessions
+  pub sessions_kept : All (λ (a : MemberView). IsNotCut a.session.closing) b.sessions

@@ -1,29 +1,29 @@
--- What the threads of the sessions and the monitors did, before it is put together. This project's own.
+-- What the threads of the sessions and the monitors did, before it is put together.
 use Rattle.std.specs.Prelude.{◌≡◌, ◌<◌, ℕ, Bool, true, false, List, [], ◌∷◌, ◌++◌, length, map, get_or}
 use Rattle.std.specs.Arc.{arc_value}
 use Rattle.std.specs.List.{AllZip, range_with_len}
-use Rattle.book_sessions.specs.Attendance.{Attendance}
+use Rattle.book_sessions.specs.MemberView.{MemberView}
 use Rattle.book_units.specs.Units.{UnitView, segment_of}
 use Rattle.gps_lane.specs.Ends.{Taking}
 use Rattle.gps_outside.specs.Links.{IsUnwritten}
 use Rattle.session_core.specs.Naming.{of_table}
 use Rattle.serve_pieces.specs.declared.piece.Piece.{Piece}
-use Rattle.serve_parts.specs.declared.done.MonitorDone.{MonitorDone}
-use Rattle.serve_parts.specs.declared.done.SessionDone.{SessionDone}
-use Rattle.serve_threads.specs.declared.monitors.WatchDone.{WatchDone}
-use Rattle.serve_threads.specs.declared.session.Link.{Link}
-use Rattle.serve_threads.specs.declared.session.SessionRun.{SessionRun}
-use Rattle.serve_threads.specs.Monitors.{Watched}
+use Rattle.serve_end_parts.specs.declared.done.MonitorDone.{MonitorDone}
+use Rattle.serve_end_parts.specs.declared.done.SessionDone.{SessionDone}
+use Rattle.serve_threads.specs.declared.monitors.ReadingsDone.{ReadingsDone}
+use Rattle.serve_threads.specs.declared.session.SessionLink.{SessionLink}
+use Rattle.serve_threads.specs.declared.session.LinkDone.{LinkDone}
+use Rattle.serve_threads.specs.Monitors.{MonitorRan}
 use Rattle.serve_threads.specs.Sessions.{SessionRuns}
 use Rattle.gps_serve.specs.AtEnd.{InputServed, MonitorServed, OutletServed, SinkFacts}
 use Rattle.gps_serve.specs.Doors.{IsUnused}
-use Rattle.serve_settling.specs.Lanes.{OneMoreAtMost}
-use Rattle.serve_settling.specs.Runs.{SourceFacts}
+use Rattle.serve_end_settling.specs.Lanes.{OneMoreAtMost}
+use Rattle.serve_end_settling.specs.Runs.{SourceFacts}
 use Rattle.gps_serve.specs.Starts.{IsUnreadBy}
 
 -- the threads of a session worked on a new link, whose lanes are those of its admission
-pub record SessionReady {S K R : Type 0} (sources : SourceFacts S) (sinks : SinkFacts K) (a : Attendance) (x : Taking Piece) (run : SessionRun S K R) : Type 0 where
-  pub link : Link S K R
+pub record SessionReady {S K R : Type 0} (sources : SourceFacts S) (sinks : SinkFacts K) (a : MemberView) (x : Taking Piece) (run : LinkDone S K R) : Type 0 where
+  pub link : SessionLink S K R
   pub unread : IsUnreadBy sources link.source
   pub unwritten : IsUnwritten (sinks.written link.sink) (sinks.faults link.sink)
   pub unused : IsUnused link
@@ -31,7 +31,7 @@ pub record SessionReady {S K R : Type 0} (sources : SourceFacts S) (sinks : Sink
   pub input : x.lane ≡ link.pieces.lane
   pub outlet : of_table link.items.lane ≡ a.session.name
 
-abbrev pub AreReady : {S K R : Type 0} → SourceFacts S → SinkFacts K → List Attendance → List (Taking Piece) → List (SessionRun S K R) → Type 0
+abbrev pub AreReady : {S K R : Type 0} → SourceFacts S → SinkFacts K → List MemberView → List (Taking Piece) → List (LinkDone S K R) → Type 0
 AreReady sources sinks [] [] [] = Unit {0}
 AreReady sources sinks [] [] (run ∷ runs) = ⊥
 AreReady sources sinks [] (x ∷ inputs) runs = ⊥
@@ -45,14 +45,14 @@ pub record InputLeft {S K R : Type 0} (sources : SourceFacts S) (x : Taking Piec
   pub settled : OneMoreAtMost x done.input_rx
 
 -- the session has the source that its reader hands back
-abbrev pub IsSourceOf : {S K R : Type 0} → SessionRun S K R → SessionDone S K R → Type 0
+abbrev pub IsSourceOf : {S K R : Type 0} → LinkDone S K R → SessionDone S K R → Type 0
 IsSourceOf run done = done.source ≡ run.reader.source
 
 -- these sessions are put together, and those are left
-pub record SessionsSoFar {S K R : Type 0} (sources : SourceFacts S) (sinks : SinkFacts K) (sessions : List Attendance) (inputs left : List (Taking Piece))
-    (runs : List (SessionRun S K R)) (number : ℕ) (done : List (SessionDone S K R)) : Type 0 where
-  pub gone : List Attendance
-  pub rest : List Attendance
+pub record SessionsSoFar {S K R : Type 0} (sources : SourceFacts S) (sinks : SinkFacts K) (sessions : List MemberView) (inputs left : List (Taking Piece))
+    (runs : List (LinkDone S K R)) (number : ℕ) (done : List (SessionDone S K R)) : Type 0 where
+  pub gone : List MemberView
+  pub rest : List MemberView
   pub split : sessions ≡ gone ++ rest
   pub gone_inputs : List (Taking Piece)
   pub inputs_split : inputs ≡ gone_inputs ++ left
@@ -63,23 +63,23 @@ pub record SessionsSoFar {S K R : Type 0} (sources : SourceFacts S) (sinks : Sin
   pub ready : AreReady sources sinks rest left runs
 
 -- the next of the sessions that are left
-pub record IsNext {S K R : Type 0} (sources : SourceFacts S) (sinks : SinkFacts K) (sessions : List Attendance) (number : ℕ) (x : Taking Piece) (run : SessionRun S K R) : Type 0 where
+pub record IsNext {S K R : Type 0} (sources : SourceFacts S) (sinks : SinkFacts K) (sessions : List MemberView) (number : ℕ) (x : Taking Piece) (run : LinkDone S K R) : Type 0 where
   pub there : number < length sessions
-  pub ready : (free : Attendance) → SessionReady sources sinks (get_or sessions number free) x run
+  pub ready : (free : MemberView) → SessionReady sources sinks (get_or sessions number free) x run
 
 -- all of them
-pub record AllServed {S K R : Type 0} (sources : SourceFacts S) (sinks : SinkFacts K) (sessions : List Attendance) (inputs : List (Taking Piece)) (done : List (SessionDone S K R)) : Type 0 where
+pub record AllServed {S K R : Type 0} (sources : SourceFacts S) (sinks : SinkFacts K) (sessions : List MemberView) (inputs : List (Taking Piece)) (done : List (SessionDone S K R)) : Type 0 where
   pub inputs_are : AllZip (InputLeft sources) inputs done
   pub outlets_are : AllZip (OutletServed sinks) sessions done
   pub numbers : map (λ (s : SessionDone S K R). s.number) done ≡ range_with_len 0 (length sessions)
 
 -- a unit's monitor did its work; where memory was not wanting, all of it
-pub record MonitorReady (tries : ℕ) (no_memory : Bool) (u : UnitView) (watch : WatchDone) : Type 0 where
+pub record MonitorReady (tries : ℕ) (no_memory : Bool) (u : UnitView) (watch : ReadingsDone) : Type 0 where
   pub segment : arc_value watch.segment ≡ segment_of u
-  pub watched : Watched (segment_of u) tries watch.whole watch.monitor watch.taken.items
+  pub watched : MonitorRan (segment_of u) tries watch.whole watch.monitor watch.taken.items
   pub whole : no_memory ≡ false → watch.whole ≡ true
 
-pub record MonitorsSoFar (tries : ℕ) (no_memory : Bool) (units : List UnitView) (watched : List WatchDone) (unit : ℕ) (done : List MonitorDone) : Type 0 where
+pub record MonitorsSoFar (tries : ℕ) (no_memory : Bool) (units : List UnitView) (watched : List ReadingsDone) (unit : ℕ) (done : List MonitorDone) : Type 0 where
   pub gone : List UnitView
   pub rest : List UnitView
   pub split : units ≡ gone ++ rest
@@ -88,6 +88,6 @@ pub record MonitorsSoFar (tries : ℕ) (no_memory : Bool) (units : List UnitView
   pub ready : AllZip (MonitorReady tries no_memory) rest watched
 
 -- the next of the monitors that are left
-pub record IsNextMonitor (tries : ℕ) (no_memory : Bool) (units : List UnitView) (unit : ℕ) (watch : WatchDone) : Type 0 where
+pub record IsNextMonitor (tries : ℕ) (no_memory : Bool) (units : List UnitView) (unit : ℕ) (watch : ReadingsDone) : Type 0 where
   pub there : unit < length units
   pub ready : (free : UnitView) → MonitorReady tries no_memory (get_or units unit free) watch

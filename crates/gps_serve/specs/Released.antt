@@ -1,20 +1,20 @@
--- The lanes of a session that has ended, of which what they hold is got while the daemon runs. This project's own.
+-- The lanes of a session that has ended, of which what they hold is got while the daemon runs.
 use Rattle.std.specs.Prelude.{◌≡◌, ◌<◌, ℕ, List, [], ◌∷◌, ◌++◌, length, get_or, Option}
 use Rattle.gps_lane.specs.Ends.{Putting, Taking}
-use Rattle.hub_door.specs.Admissions.{Admissions, Link as Lanes}
+use Rattle.hub_door.specs.Admissions.{Admissions, SessionLanes}
 use Rattle.serve_pieces.specs.declared.piece.Piece.{Piece}
-use Rattle.serve_workers.specs.declared.writer.SessionEnd.{SessionEnd}
+use Rattle.serve_workers.specs.declared.writer.WriterEnd.{WriterEnd}
 use Rattle.serve_threads.specs.declared.session.WriterDone.{WriterDone}
 use Rattle.serve_threads.specs.Sessions.{Wrote}
 
 -- these are ends of the two lanes of the session that was admitted with this number
 pub record AreEndsOf (seat : Admissions) (number : ℕ) (items : Taking (List ℕ)) (pieces : Putting Piece) : Type 0 where
   pub there : number < length seat.links
-  pub outlet : (free : Lanes) → items.lane ≡ (get_or seat.links number free).outlet
-  pub input : (free : Lanes) → pieces.lane ≡ (get_or seat.links number free).input
+  pub outlet : (free : SessionLanes) → items.lane ≡ (get_or seat.links number free).outlet
+  pub input : (free : SessionLanes) → pieces.lane ≡ (get_or seat.links number free).input
 
 -- what was written of what was got is still as the writer says, with one item more that was got
-pub record WritesItem (item : List ℕ) (end end' : SessionEnd) (between after : Option (List ℕ)) (faults faults' : ℕ) : Type 0 where
+pub record WritesItem (item : List ℕ) (end end' : WriterEnd) (between after : Option (List ℕ)) (faults faults' : ℕ) : Type 0 where
   pub wrote : (rx mid : Taking (List ℕ)) (before : Option (List ℕ)) (first : ℕ)
       → Wrote end rx mid before between first faults → Wrote end' rx (record mid { got = mid.got ++ item ∷ [] }) before after first faults'
 

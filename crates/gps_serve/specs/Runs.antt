@@ -1,16 +1,16 @@
--- What the readers of the devices did. This project's own.
+-- What the readers of the devices did.
 use Rattle.std.specs.Prelude.{◌≡◌, List, ◌++◌, map, Option, Some, None}
 use Rattle.std.specs.List.{AllZip}
 use Rattle.gps_fixed.specs.Moment.{Moment}
 use Rattle.gps_outside.specs.Told.{Goes, Stream}
-use Rattle.hub_laws.specs.declared.ends.DeviceEnd.{DeviceEnd}
-use Rattle.hub_laws.specs.declared.ends.DeviceEnd.TheVariants.{Ended}
-use Rattle.hub_laws.specs.Parts.{LaneNames, Lanes, names_of}
-use Rattle.serve_parts.specs.declared.done.DeviceDone.{DeviceDone}
-use Rattle.serve_settling.specs.declared.device.DeviceRun.{DeviceRun}
-use Rattle.serve_settling.specs.Failing.{source_of}
-use Rattle.serve_settling.specs.Lanes.{tx_of}
-use Rattle.serve_settling.specs.Runs.{Ran, SourceFacts}
+use Rattle.hub_promise.specs.declared.ends.DeviceEnd.{DeviceEnd}
+use Rattle.hub_promise.specs.declared.ends.DeviceEnd.TheVariants.{Ended}
+use Rattle.hub_promise.specs.Parts.{LaneNames, InletsView, names_of}
+use Rattle.serve_end_parts.specs.declared.done.DeviceDone.{DeviceDone}
+use Rattle.serve_end_settling.specs.declared.device.DeviceRun.{DeviceRun}
+use Rattle.serve_end_settling.specs.Failing.{source_of}
+use Rattle.serve_end_settling.specs.Lanes.{tx_of}
+use Rattle.serve_end_settling.specs.Runs.{Ran, SourceFacts}
 use Rattle.gps_serve.specs.declared.lanes.DeviceStart.{DeviceStart}
 use Rattle.gps_serve.specs.AtEnd.{DeviceServed, TakesFirst}
 use Rattle.gps_serve.specs.Starts.{IsFreshDevice, edge_source_of, starts_of}
@@ -34,22 +34,22 @@ EdgesRead facts end (Some first) (Some source) = Goes (TakesBy end) (facts.conte
 -- the readers of each device did their work, on lanes of these names through which nothing had gone and on sources from which nothing was taken
 pub record DevicesRan {S R : Type 0} (may : Option (List Moment)) (facts : SourceFacts S) (lanes : List LaneNames) (runs : List (DeviceRun S R)) : Type 0 where
   pub starts : List (DeviceStart S R)
-  pub first : List Lanes
+  pub first : List InletsView
   pub fresh : AllZip (IsFreshDevice facts) starts first
   pub lanes_are : map names_of first ≡ lanes
   pub ran : AllZip (RanOn may facts) starts runs
 
 -- the readers of one device did so; its lanes are still the same
-pub record DeviceReady {S R : Type 0} (may : Option (List Moment)) (facts : SourceFacts S) (x : Lanes) (run : DeviceRun S R) : Type 0 where
+pub record DeviceReady {S R : Type 0} (may : Option (List Moment)) (facts : SourceFacts S) (x : InletsView) (run : DeviceRun S R) : Type 0 where
   pub start : DeviceStart S R
-  pub first : Lanes
+  pub first : InletsView
   pub fresh : IsFreshDevice facts start first
   pub lanes : names_of x ≡ names_of first
   pub ran : RanOn may facts start run
 
 -- these devices are put together, and those are left
-pub record DevicesSoFar {S R : Type 0} (may : Option (List Moment)) (facts : SourceFacts S) (inlets left : List Lanes) (runs : List (DeviceRun S R)) (devices : List (DeviceDone S R)) : Type 0 where
-  pub done : List Lanes
+pub record DevicesSoFar {S R : Type 0} (may : Option (List Moment)) (facts : SourceFacts S) (inlets left : List InletsView) (runs : List (DeviceRun S R)) (devices : List (DeviceDone S R)) : Type 0 where
+  pub done : List InletsView
   pub split : inlets ≡ done ++ left
   pub served : AllZip (DeviceServed may facts) done devices
   pub ready : AllZip (DeviceReady may facts) left runs

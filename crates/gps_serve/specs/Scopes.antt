@@ -1,4 +1,4 @@
--- What came of the threads, where those of the door and the publisher could be started. This project's own.
+-- What came of the threads, where those of the door and the publisher could be started.
 use Rattle.std.specs.Prelude.{◌≡◌, ℕ, List, Option, Some, None}
 use Rattle.std.specs.List.{AllZip}
 use Rattle.std.specs.Vec.{vec_len}
@@ -8,8 +8,8 @@ use Rattle.gps_outside.specs.declared.sink.Sink.{Ghosts as SinkGhosts}
 use Rattle.gps_outside.specs.declared.source.Source.{Ghosts as SourceGhosts}
 use Rattle.gps_hub.specs.declared.naming.HubNaming.{Ghosts as HubGhosts}
 use Rattle.hub_door.specs.declared.naming.DoorNaming.{Ghosts as DoorNamingGhosts}
-use Rattle.serve_settling.specs.Runs.{EachRun, RunCause, SourceFacts}
-use Rattle.serve_threads.specs.declared.monitors.Watcher.{Watcher}
+use Rattle.serve_end_settling.specs.Runs.{EachRun, RunCause, SourceFacts}
+use Rattle.serve_threads.specs.declared.monitors.MonitorStart.{MonitorStart}
 use Rattle.serve_threads.specs.Sessions.{SessionRuns}
 use Rattle.gps_serve.specs.declared.lanes.DeviceStart.{DeviceStart}
 use Rattle.gps_serve.specs.declared.scope.Ended.{Ended}
@@ -42,7 +42,7 @@ RanIf may facts starts None = Unit {0}
 RanIf may facts starts (Some ended) = AllZip (RanOn may facts) starts ended.runs.items
 
 -- the monitors worked on these segments
-abbrev pub WatchedIf : {S K G J R : Type 0} {s : SourceGhosts S} {k : SinkGhosts K} {g : DoorGhosts G S K} {j : HubGhosts J} {d : DoorNamingGhosts J} → ℕ → List Watcher → Option (Ended S K G J R s k g j d) → Type 0
+abbrev pub WatchedIf : {S K G J R : Type 0} {s : SourceGhosts S} {k : SinkGhosts K} {g : DoorGhosts G S K} {j : HubGhosts J} {d : DoorNamingGhosts J} → ℕ → List MonitorStart → Option (Ended S K G J R s k g j d) → Type 0
 WatchedIf tries watchers None = Unit {0}
 WatchedIf tries watchers (Some ended) = AllZip (WatchedBy tries) watchers ended.watched.items
 

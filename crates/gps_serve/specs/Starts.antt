@@ -1,10 +1,10 @@
--- The devices' sources and lanes before anything went through them. This project's own.
+-- The devices' sources and lanes before anything went through them.
 use Rattle.std.specs.Prelude.{◌≡◌, List, [], Option, Some, None, map, option_map}
 use Rattle.gps_lane.specs.Ends.{Putting, Taking}
 use Rattle.gps_outside.specs.Links.{IsUnread}
 use Rattle.serve_pieces.specs.declared.piece.Piece.{Piece}
-use Rattle.hub_laws.specs.Parts.{Lanes}
-use Rattle.serve_settling.specs.Runs.{ReaderStart, ReaderStarts, SourceFacts}
+use Rattle.hub_promise.specs.Parts.{InletsView}
+use Rattle.serve_end_settling.specs.Runs.{ReaderStart, ReaderStarts, SourceFacts}
 use Rattle.gps_serve.specs.declared.lanes.DeviceStart.{DeviceStart}
 use Rattle.gps_serve.specs.declared.lanes.EdgeStart.{EdgeStart}
 
@@ -24,7 +24,7 @@ IsFreshEdge facts None (Some rx) = ⊥
 IsFreshEdge facts (Some start) None = ⊥
 IsFreshEdge facts (Some start) (Some rx) = IsFreshLane start.lines rx × IsUnreadBy facts start.source
 
-pub record IsFreshDevice {S R : Type 0} (facts : SourceFacts S) (start : DeviceStart S R) (inlets : Lanes) : Type 0 where
+pub record IsFreshDevice {S R : Type 0} (facts : SourceFacts S) (start : DeviceStart S R) (inlets : InletsView) : Type 0 where
   pub bytes : IsFreshLane start.bytes inlets.bytes
   pub unread : IsUnreadBy facts start.source
   pub edges : IsFreshEdge facts start.edges inlets.edges

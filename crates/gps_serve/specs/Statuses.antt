@@ -1,23 +1,23 @@
--- When want of memory was met, and when a device was lost by a fault. This project's own.
+-- When want of memory was met, and when a device was lost by a fault.
 use Rattle.std.specs.Prelude.{◌≡◌, Bool, true, not, ◌&&◌, ◌||◌, is_some, List, Option, Some, None}
 use Rattle.std.specs.List.{list_all}
 use Rattle.gps_lane.specs.Ends.{Putting}
-use Rattle.hub_laws.specs.declared.ends.DeviceEnd.{DeviceEnd}
-use Rattle.hub_laws.specs.declared.ends.DeviceEnd.TheVariants.{ReadFault}
-use Rattle.hub_laws.specs.Given.{ending_of, is_end}
-use Rattle.serve_parts.specs.declared.done.DeviceDone.{DeviceDone}
+use Rattle.hub_promise.specs.declared.ends.DeviceEnd.{DeviceEnd}
+use Rattle.hub_promise.specs.declared.ends.DeviceEnd.TheVariants.{ReadFault}
+use Rattle.hub_promise.specs.Given.{ending_of, is_end}
+use Rattle.serve_end_parts.specs.declared.done.DeviceDone.{DeviceDone}
 use Rattle.serve_pieces.specs.declared.piece.Ending.TheVariants.{Failed}
 use Rattle.serve_pieces.specs.declared.piece.Piece.{Piece}
-use Rattle.serve_threads.specs.declared.monitors.WatchDone.{WatchDone}
-use Rattle.gps_serve.specs.declared.status.Outcome.{Outcome}
+use Rattle.serve_threads.specs.declared.monitors.ReadingsDone.{ReadingsDone}
+use Rattle.gps_serve.specs.declared.status.DaemonOutcome.{DaemonOutcome}
 
 -- it was seen; or a device was lost, and no source failed
-abbrev pub lacks_memory : Outcome → Bool
+abbrev pub lacks_memory : DaemonOutcome → Bool
 lacks_memory o = o.no_memory || (not o.read_fault && not o.ended)
 
 -- each monitor made all its readings
-abbrev pub EachWhole : List WatchDone → Type 0
-EachWhole watched = list_all (λ (watch : WatchDone). watch.whole) watched ≡ true
+abbrev pub EachWhole : List ReadingsDone → Type 0
+EachWhole watched = list_all (λ (watch : ReadingsDone). watch.whole) watched ≡ true
 
 -- a device has ended or was lost
 abbrev pub HasStopped : Option DeviceEnd → Type 0

@@ -1,17 +1,17 @@
--- Of a device that has ended, or was lost by a fault of a source, all that was taken went through its lanes. This project's own.
+-- Of a device that has ended, or was lost by a fault of a source, all that was taken went through its lanes.
 use Rattle.std.specs.Prelude.{◌≡◌, ◌⊎◌, List, [], ◌++◌, Option, Some, None}
 use Rattle.gps_fixed.specs.Moment.{Moment}
 use Rattle.gps_lane.specs.Ends.{Putting, Taking}
 use Rattle.gps_outside.specs.Told.{Goes, Stream}
-use Rattle.hub_laws.specs.declared.ends.DeviceEnd.{DeviceEnd}
-use Rattle.hub_laws.specs.declared.ends.DeviceEnd.TheVariants.{Ended, ReadFault}
-use Rattle.hub_laws.specs.Given.{end_of}
-use Rattle.serve_parts.specs.declared.done.DeviceDone.{DeviceDone}
+use Rattle.hub_promise.specs.declared.ends.DeviceEnd.{DeviceEnd}
+use Rattle.hub_promise.specs.declared.ends.DeviceEnd.TheVariants.{Ended, ReadFault}
+use Rattle.hub_promise.specs.Given.{end_of}
+use Rattle.serve_end_parts.specs.declared.done.DeviceDone.{DeviceDone}
 use Rattle.serve_pieces.specs.Carried.{device_part}
 use Rattle.serve_pieces.specs.declared.piece.Ending.{Ending}
 use Rattle.serve_pieces.specs.declared.piece.Ending.TheVariants.{End}
 use Rattle.serve_pieces.specs.declared.piece.Piece.{Piece}
-use Rattle.serve_settling.specs.Runs.{SourceFacts}
+use Rattle.serve_end_settling.specs.Runs.{SourceFacts}
 use Rattle.serve_workers.specs.EdgeLines.{HandsLines}
 use Rattle.serve_workers.specs.Readings.{HandsOn, IsDevicePiece}
 use Rattle.gps_serve.specs.Starts.{IsUnreadBy}

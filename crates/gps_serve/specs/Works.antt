@@ -1,4 +1,4 @@
--- The readers of the devices at work. This project's own.
+-- The readers of the devices at work.
 use Rattle.std.specs.Prelude.{◌≡◌, ℕ, List, [], Option, Some, None, ◌==◌, if◌then◌else◌}
 use Rattle.std.specs.Arc.{arc_value}
 use Rattle.std.specs.List.{AllZip}
@@ -6,15 +6,15 @@ use Rattle.serve_threads.specs.declared.reading.DeviceReading.{DeviceReading}
 use Rattle.serve_threads.specs.declared.reading.EdgeReading.{EdgeReading}
 use Rattle.gps_fixed.specs.Moment.{Moment}
 use Rattle.shm_segment.specs.Seats.{SegmentId}
-use Rattle.serve_threads.specs.declared.monitors.WatchDone.{WatchDone}
-use Rattle.serve_threads.specs.declared.monitors.Watcher.{Watcher}
-use Rattle.serve_threads.specs.declared.monitors.Watching.{Watching}
-use Rattle.serve_threads.specs.Monitors.{Watched}
+use Rattle.serve_threads.specs.declared.monitors.ReadingsDone.{ReadingsDone}
+use Rattle.serve_threads.specs.declared.monitors.MonitorStart.{MonitorStart}
+use Rattle.serve_threads.specs.declared.monitors.MonitorPromise.{MonitorPromise}
+use Rattle.serve_threads.specs.Monitors.{MonitorRan}
 use Rattle.serve_threads.specs.Segments.{segments_of}
 use Rattle.gps_serve.specs.declared.lanes.DeviceStart.{DeviceStart}
 use Rattle.gps_serve.specs.declared.lanes.EdgeStart.{EdgeStart}
-use Rattle.serve_settling.specs.declared.device.DeviceRun.{DeviceRun}
-use Rattle.serve_settling.specs.Runs.{SourceFacts}
+use Rattle.serve_end_settling.specs.declared.device.DeviceRun.{DeviceRun}
+use Rattle.serve_end_settling.specs.Runs.{SourceFacts}
 use Rattle.gps_serve.specs.declared.readers.DeviceWork.{DeviceWork}
 use Rattle.gps_serve.specs.Runs.{RanOn}
 
@@ -35,28 +35,28 @@ pub record ReadersAre {S R D : Type 0} (start : DeviceStart S R) (work : DeviceW
   pub edges : EdgesAre start.edges work.edges
 
 -- a unit's monitor works on its segment, with so many readings
-pub record WatchesFor (tries : ℕ) (watcher : Watcher) (work : Watching) : Type 0 where
+pub record WatchesFor (tries : ℕ) (watcher : MonitorStart) (work : MonitorPromise) : Type 0 where
   pub segment : work.segment.value ≡ watcher.segment
   pub tries_are : work.tries ≡ tries
 
 -- a unit's monitor did its work
-pub record WatchedBy (tries : ℕ) (watcher : Watcher) (done : WatchDone) : Type 0 where
+pub record WatchedBy (tries : ℕ) (watcher : MonitorStart) (done : ReadingsDone) : Type 0 where
   pub segment : done.segment ≡ watcher.segment
-  pub watched : Watched (arc_value done.segment) tries done.whole done.monitor done.taken.items
+  pub watched : MonitorRan (arc_value done.segment) tries done.whole done.monitor done.taken.items
 
 -- whatever the readers of a device were started on, they did their work on it
 abbrev pub JoinsDevice : {S R D : Type 0} → Option (List Moment) → SourceFacts S → DeviceWork S D R → DeviceRun S R → Type 0
 JoinsDevice {S} {R} may facts work run = (start : DeviceStart S R) → ReadersAre start work → RanOn may facts start run
 
-abbrev pub JoinsWatcher : Watching → WatchDone → Type 0
-JoinsWatcher work done = (tries : ℕ) (watcher : Watcher) → WatchesFor tries watcher work → WatchedBy tries watcher done
+abbrev pub JoinsWatcher : MonitorPromise → ReadingsDone → Type 0
+JoinsWatcher work done = (tries : ℕ) (watcher : MonitorStart) → WatchesFor tries watcher work → WatchedBy tries watcher done
 
 -- the segments that are monitored: all of them, or none where no reading is asked for
 abbrev pub monitored : ℕ → List SegmentId → List SegmentId
 monitored tries segments = if tries == 0 then [] else segments
 
 -- the monitors of these segments did their work
-pub record WatchersRan (tries : ℕ) (segments : List SegmentId) (watched : List WatchDone) : Type 0 where
-  pub watchers : List Watcher
+pub record WatchersRan (tries : ℕ) (segments : List SegmentId) (watched : List ReadingsDone) : Type 0 where
+  pub watchers : List MonitorStart
   pub segments_are : segments_of watchers ≡ monitored tries segments
   pub by : AllZip (WatchedBy tries) watchers watched

@@ -6,7 +6,7 @@ use crate::floor::Floor;
 use crate::release::release_lanes;
 use gps_hub::{DoorSeat, HubNaming};
 use gps_outside::{Sink, Source};
-use serve_threads::{Attending, Link, SessionRun, Work};
+use serve_threads::{Attending, LinkDone, SessionLink, Work};
 use std::marker::Model;
 use std::snapshot::Snapshot;
 use std::sync::{Mutex, Wait};
@@ -15,17 +15,17 @@ use std::thread::Threads;
 /// A session's threads at work, or what they handed back. Contracts see the link on which they work.
 #[derive(Drop)]
 pub(crate) struct Attended<S: Source, K: Sink, R: Wait + Copy> {
-    link: Snapshot<Link<S, K, R>>,
-    work: Option<Work<SessionRun<S, K, R>, Attending<S, K, R>>>,
-    run: Option<SessionRun<S, K, R>>,
+    link: Snapshot<SessionLink<S, K, R>>,
+    work: Option<Work<LinkDone<S, K, R>, Attending<S, K, R>>>,
+    run: Option<LinkDone<S, K, R>>,
 }
 
 impl<S: Source, K: Sink, R: Wait + Copy> Model for Attended<S, K, R> {
     ghost use Rattle.std.specs.Prelude.{◌≡◌, IfSome, IsSome, None};
-    ghost use Rattle.serve_threads.specs.declared.session.Link.{Link};
+    ghost use Rattle.serve_threads.specs.declared.session.SessionLink.{SessionLink};
     ghost use Rattle.serve_threads.specs.Sessions.{SessionRuns};
 
-    ghost Value = { Link S K R };
+    ghost Value = { SessionLink S K R };
 
     ghost view = { λ a. a.link.value };
 
@@ -36,8 +36,8 @@ impl<S: Source, K: Sink, R: Wait + Copy> Model for Attended<S, K, R> {
 
 impl<S: Source, K: Sink, R: Wait + Copy> Attended<S, K, R> {
     pub(crate) fn new(
-        link: Snapshot<Link<S, K, R>>,
-        work: Work<SessionRun<S, K, R>, Attending<S, K, R>>,
+        link: Snapshot<SessionLink<S, K, R>>,
+        work: Work<LinkDone<S, K, R>, Attending<S, K, R>>,
     ) -> Attended<S, K, R>
         requires { work.link.value ≡ link.value }
         ensures { result ≡ link.value }
@@ -102,7 +102,7 @@ impl<S: Source, K: Sink, R: Wait + Copy> Attended<S, K, R> {
     }
 
     /// Waits for the threads, and takes what they handed back.
-    pub(crate) fn join<T: Threads>(self, rt: &T) -> SessionRun<S, K, R>
+    pub(crate) fn join<T: Threads>(self, rt: &T) -> LinkDone<S, K, R>
         ensures { SessionRuns S.content S.faults S.quiets K.written K.faults self result }
     {
         let Attended { link: _, work, run } = self;

@@ -15,8 +15,8 @@ use gps_hub::{DoorSeat, HubNaming};
 use gps_lane::Bell;
 use gps_outside::{Door, DoorStep, Sink, Source};
 use report_book::BookFault;
-use serve_parts::SessionDone;
-use serve_threads::{Bells, Link, SessionRun, start_session};
+use serve_end_parts::SessionDone;
+use serve_threads::{Bells, LinkDone, SessionLink, start_session};
 use std::alloc::Global;
 use std::snapshot::Snapshot;
 use std::sync::{Mutex, Wait};
@@ -37,7 +37,7 @@ pub(crate) struct DoorDone<
 > {
     pub(crate) gate: G,
     pub(crate) seat: DoorSeat<J>,
-    pub(crate) runs: Vec<SessionRun<S, K, R>>,
+    pub(crate) runs: Vec<LinkDone<S, K, R>>,
     pub(crate) room: Vec<SessionDone<S, K, R>>,
     pub(crate) full: u64,
     pub(crate) no_memory: bool,
@@ -148,7 +148,8 @@ impl<S: Source, K: Sink, G: Door<In = S, Out = K>, J: HubNaming, R: Wait + Copy>
         ensures gate { self.new.gate ≡ self.old.gate }
         ensures failed { self.new.failed ≡ self.old.failed }
         ensures done { self.new.seat.done ≡ self.old.seat.done }
-        ensures deals { Deals (source, sink) (map way_of (links_at self.old.sessions.seated.items)) (map way_of (links_at self.new.sessions.seated.items)) self.old.full self.new.full self.old.no_memory self.new.no_memory }
+        ensures deals { Deals (source, sink) (map way_of (links_at self.old.sessions.seated.items))
+            (map way_of (links_at self.new.sessions.seated.items)) self.old.full self.new.full self.old.no_memory self.new.no_memory }
     {
         let Ok(places) = make_places(rt, alloc, queue) else {
             self.no_memory = true;
@@ -175,7 +176,7 @@ impl<S: Source, K: Sink, G: Door<In = S, Out = K>, J: HubNaming, R: Wait + Copy>
         match admitted {
             Ok(_) => {
                 bells.pump.ring();
-                let link = Link {
+                let link = SessionLink {
                     source,
                     sink,
                     pieces,
@@ -238,7 +239,11 @@ impl<S: Source, K: Sink, G: Door<In = S, Out = K>, J: HubNaming, R: Wait + Copy>
         ensures seated { AreSeated (IsNewLink S.content S.faults S.quiets K.written K.faults) queue (links_at self.new.sessions.seated.items) self.new.seat }
         ensures faults_stay { G.faults self.old.gate ≤ G.faults self.new.gate }
         ensures failed { self.new.failed ≡ true → (self.old.failed ≡ true) ⊎ Rose (G.faults self.old.gate) (G.faults self.new.gate) }
-        ensures tends { (told : Option (List (Way S K))) → Tends told (door_now (G.links self.old.gate) (G.faults self.old.gate) (G.quiets self.old.gate) self.old.full self.old.no_memory) (map way_of (links_at self.old.sessions.seated.items)) self.old.seat.done true → Tends told (door_now (G.links self.new.gate) (G.faults self.new.gate) (G.quiets self.new.gate) self.new.full self.new.no_memory) (map way_of (links_at self.new.sessions.seated.items)) self.new.seat.done false }
+        ensures tends { (told : Option (List (Way S K)))
+            → Tends told (door_now (G.links self.old.gate) (G.faults self.old.gate) (G.quiets self.old.gate) self.old.full self.old.no_memory)
+            (map way_of (links_at self.old.sessions.seated.items)) self.old.seat.done true
+            → Tends told (door_now (G.links self.new.gate) (G.faults self.new.gate) (G.quiets self.new.gate) self.new.full self.new.no_memory)
+            (map way_of (links_at self.new.sessions.seated.items)) self.new.seat.done false }
     {
         match self.gate.accept() {
             DoorStep::Link(source, sink) => {
@@ -261,7 +266,7 @@ impl<S: Source, K: Sink, G: Door<In = S, Out = K>, J: HubNaming, R: Wait + Copy>
         }
     }
 
-    /// Asks the door, unless it has closed or failed; then waits, unless this is the last turn. False where the door has closed or failed.
+    /// Asks the door, unless it has closed or failed; then waits, unless this is the last step. False where the door has closed or failed.
     #[tactic(auto, using(crate::proofs::Seating::fails_more))]
     fn ask_if<'s, E>(
         &mut self,
@@ -283,7 +288,11 @@ impl<S: Source, K: Sink, G: Door<In = S, Out = K>, J: HubNaming, R: Wait + Copy>
         requires seated { AreSeated (IsNewLink S.content S.faults S.quiets K.written K.faults) queue (links_at self.old.sessions.seated.items) self.old.seat }
         ensures seated { AreSeated (IsNewLink S.content S.faults S.quiets K.written K.faults) queue (links_at self.new.sessions.seated.items) self.new.seat }
         ensures fails { (first : ℕ) → FailsBy self.old.failed first (G.faults self.old.gate) → FailsBy self.new.failed first (G.faults self.new.gate) }
-        ensures tends { (told : Option (List (Way S K))) → Tends told (door_now (G.links self.old.gate) (G.faults self.old.gate) (G.quiets self.old.gate) self.old.full self.old.no_memory) (map way_of (links_at self.old.sessions.seated.items)) self.old.seat.done to_ask → Tends told (door_now (G.links self.new.gate) (G.faults self.new.gate) (G.quiets self.new.gate) self.new.full self.new.no_memory) (map way_of (links_at self.new.sessions.seated.items)) self.new.seat.done false }
+        ensures tends { (told : Option (List (Way S K)))
+            → Tends told (door_now (G.links self.old.gate) (G.faults self.old.gate) (G.quiets self.old.gate) self.old.full self.old.no_memory)
+            (map way_of (links_at self.old.sessions.seated.items)) self.old.seat.done to_ask
+            → Tends told (door_now (G.links self.new.gate) (G.faults self.new.gate) (G.quiets self.new.gate) self.new.full self.new.no_memory)
+            (map way_of (links_at self.new.sessions.seated.items)) self.new.seat.done false }
     {
         if to_ask {
             self.ask(rt, alloc, scope, floor, bells, queue)
@@ -311,9 +320,9 @@ impl<S: Source, K: Sink, G: Door<In = S, Out = K>, J: HubNaming, R: Wait + Copy>
         self.sessions.join_gone(rt, floor, &mut self.seat);
     }
 
-    /// A turn of the door worker: it asks the door, and joins the threads that have ended.
+    /// A step of the door worker: it asks the door, and joins the threads that have ended.
     #[tactic(auto, using(crate::proofs::Released::have_lanes))]
-    fn turn<'s, E>(
+    fn step<'s, E>(
         &mut self,
         rt: R,
         alloc: Global,
@@ -333,7 +342,11 @@ impl<S: Source, K: Sink, G: Door<In = S, Out = K>, J: HubNaming, R: Wait + Copy>
         requires seated { AreSeated (IsNewLink S.content S.faults S.quiets K.written K.faults) queue (links_at self.old.sessions.seated.items) self.old.seat }
         ensures seated { AreSeated (IsNewLink S.content S.faults S.quiets K.written K.faults) queue (links_at self.new.sessions.seated.items) self.new.seat }
         ensures fails { (first : ℕ) → FailsBy self.old.failed first (G.faults self.old.gate) → FailsBy self.new.failed first (G.faults self.new.gate) }
-        ensures tends { (told : Option (List (Way S K))) → Tends told (door_now (G.links self.old.gate) (G.faults self.old.gate) (G.quiets self.old.gate) self.old.full self.old.no_memory) (map way_of (links_at self.old.sessions.seated.items)) self.old.seat.done to_ask → Tends told (door_now (G.links self.new.gate) (G.faults self.new.gate) (G.quiets self.new.gate) self.new.full self.new.no_memory) (map way_of (links_at self.new.sessions.seated.items)) self.new.seat.done false }
+        ensures tends { (told : Option (List (Way S K)))
+            → Tends told (door_now (G.links self.old.gate) (G.faults self.old.gate) (G.quiets self.old.gate) self.old.full self.old.no_memory)
+            (map way_of (links_at self.old.sessions.seated.items)) self.old.seat.done to_ask
+            → Tends told (door_now (G.links self.new.gate) (G.faults self.new.gate) (G.quiets self.new.gate) self.new.full self.new.no_memory)
+            (map way_of (links_at self.new.sessions.seated.items)) self.new.seat.done false }
     {
         let to_ask = self.ask_if(rt, alloc, scope, floor, bells, queue, to_ask, last);
         self.join_gone(&rt, floor);
@@ -389,7 +402,9 @@ pub(crate) fn tend<
     bells: &'s Bells,
     begin: DoorBegin<S, K, G, J, R>,
 ) -> DoorDone<S, K, G, J, R>
-    ensures tended { Tended (IsNewLink S.content S.faults S.quiets K.written K.faults) (SessionRuns S.content S.faults S.quiets K.written K.faults) begin.queue (G.links begin.gate) (door_now (G.links result.gate) (G.faults result.gate) (G.quiets result.gate) result.full result.no_memory) result.seat result.runs.items }
+    ensures tended { Tended (IsNewLink S.content S.faults S.quiets K.written K.faults)
+        (SessionRuns S.content S.faults S.quiets K.written K.faults) begin.queue (G.links begin.gate)
+        (door_now (G.links result.gate) (G.faults result.gate) (G.quiets result.gate) result.full result.no_memory) result.seat result.runs.items }
     ensures fails { FailsBy result.failed (G.faults begin.gate) (G.faults result.gate) }
 {
     let DoorBegin {
@@ -410,7 +425,7 @@ pub(crate) fn tend<
     let mut to_ask = true;
     'asks: for _ in rt.forever() {
         let last = bells.door.is_closed();
-        to_ask = doorman.turn(rt, alloc, scope, floor, bells, queue, to_ask, last);
+        to_ask = doorman.step(rt, alloc, scope, floor, bells, queue, to_ask, last);
         if last {
             return doorman.leave(&rt);
         }

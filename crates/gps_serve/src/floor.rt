@@ -2,7 +2,7 @@ ghost use Rattle.std.specs.Prelude.{◌≡◌, ◌<◌, [], length, IfOk, IfErr,
 ghost use Rattle.std.specs.List.{All};
 ghost use Rattle.gps_serve.specs.declared.floor.Burst.TheVariants.{Over};
 ghost use Rattle.gps_hub.specs.Admitting.{IsCrowded};
-ghost use Rattle.hub_laws.specs.Keeping.{IsClosed};
+ghost use Rattle.hub_promise.specs.Keeping.{IsClosed};
 ghost use Rattle.hub_door.specs.Admissions.{admitting, finished, link_of};
 ghost use Rattle.gps_serve.specs.Statuses.{HasStopped};
 ghost use Rattle.gps_serve.specs.Units.{AreAtRest, IsAtRestIn};

@@ -3,20 +3,20 @@ ghost use Rattle.std.specs.List.{All, AllZip};
 ghost use Rattle.book_units.specs.Units.{segment_of};
 ghost use Rattle.serve_threads.specs.Segments.{segments_of};
 ghost use Rattle.gps_serve.specs.Works.{monitored};
-ghost use Rattle.hub_laws.specs.Keeping.{IsUnused, NothingGot};
-ghost use Rattle.serve_opening.specs.Opening.{AreUnread, sources_in};
-ghost use Rattle.serve_settling.specs.Runs.{source_facts};
+ghost use Rattle.hub_promise.specs.Keeping.{IsUnused, NothingGot};
+ghost use Rattle.world_opening.specs.Opening.{AreUnread, sources_in};
+ghost use Rattle.serve_end_settling.specs.Runs.{source_facts};
 ghost use Rattle.gps_serve.specs.Starts.{IsFreshDevice, edges_at, sources_at};
 ghost use Rattle.gps_serve.specs.Units.{CountFromZero};
 
-use crate::lanes::{Lanes, lay};
+use crate::lanes::{DeviceLanes, lay};
 use gps_fixed::NoMemory;
 use gps_hub::DoorTable;
 use gps_lane::Tx;
 use gps_outside::Source;
 use gps_report::Names;
 use report_book::Book;
-use serve_threads::{Bells, Watcher, watchers};
+use serve_threads::{Bells, MonitorStart, watchers};
 use session_core::Item;
 use std::alloc::Global;
 use std::sync::Wait;
@@ -25,9 +25,9 @@ use std::sync::Wait;
 #[derive(Drop)]
 pub(crate) struct Ground<S: Source, R: Wait + Copy> {
     pub(crate) book: Book<Tx<Item, R>>,
-    pub(crate) lanes: Lanes<S, R>,
+    pub(crate) lanes: DeviceLanes<S, R>,
     pub(crate) doors: DoorTable,
-    pub(crate) watchers: Vec<Watcher>,
+    pub(crate) watchers: Vec<MonitorStart>,
     pub(crate) bells: Bells,
 }
 
@@ -56,7 +56,7 @@ fn watchers_if<R: Wait + Copy>(
     alloc: Global,
     book: &mut Book<Tx<Item, R>>,
     tries: u32,
-) -> Result<Vec<Watcher>, NoMemory>
+) -> Result<Vec<MonitorStart>, NoMemory>
     requires few { length book.old.units ≤ 16 }
     ensures book { book.new ≡ book.old }
     ensures segments { IfOk result (λ watchers. segments_of watchers.items ≡ monitored tries (map segment_of book.old.units)) }

@@ -2,8 +2,8 @@ ghost use Rattle.std.specs.Prelude.{◌≡◌, ◌≤◌, ◌<◌, ◌∷◌, []
 ghost use Rattle.std.specs.List.{AllZip};
 ghost use Rattle.std.specs.Option.{option_to_list};
 ghost use Rattle.std.specs.Vec.Iter.{into_iter_items};
-ghost use Rattle.serve_opening.specs.Opening.{AreUnread, sources_in};
-ghost use Rattle.serve_settling.specs.Runs.{source_facts};
+ghost use Rattle.world_opening.specs.Opening.{AreUnread, sources_in};
+ghost use Rattle.serve_end_settling.specs.Runs.{source_facts};
 ghost use Rattle.gps_serve.specs.Starts.{IsFreshDevice, IsFreshEdge, IsUnreadBy, edge_source_of, edges_at, sources_at};
 
 use crate::places::PIECES;
@@ -47,7 +47,7 @@ struct LaidEdges<S: Source, R> {
 
 /// The lanes of all devices.
 #[derive(Drop)]
-pub(crate) struct Lanes<S: Source, R> {
+pub(crate) struct DeviceLanes<S: Source, R> {
     pub(crate) starts: Vec<DeviceStart<S, R>>,
     pub(crate) inlets: Vec<Inlets<R>>,
 }
@@ -125,7 +125,7 @@ pub(crate) fn lay<S: Source, R: Wait + Copy>(
     alloc: Global,
     inputs: Vec<S>,
     edges: Vec<Option<S>>,
-) -> Result<Lanes<S, R>, NoMemory>
+) -> Result<DeviceLanes<S, R>, NoMemory>
     requires inputs { AreUnread S.content S.faults S.quiets inputs.items }
     requires edges { AreUnread S.content S.faults S.quiets (sources_in edges.items) }
     requires each { length edges.items ≡ length inputs.items }
@@ -144,5 +144,5 @@ pub(crate) fn lay<S: Source, R: Wait + Copy>(
         starts.push_reserved(laid.start);
         inlets.push_reserved(laid.inlets);
     }
-    Ok(Lanes { starts, inlets })
+    Ok(DeviceLanes { starts, inlets })
 }

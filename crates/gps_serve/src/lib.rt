@@ -21,5 +21,7 @@ mod served;
 mod settling;
 mod status;
 
-pub use serve_parts::{DeviceDone, DeviceEnd, MonitorDone, Plan, Served, SessionDone, SessionEnd};
+pub use serve_end_parts::{
+    DeviceDone, DeviceEnd, MonitorDone, Plan, Served, SessionDone, SessionEnd,
+};
 pub use served::serve;

@@ -1,5 +1,5 @@
 ghost use Rattle.std.specs.Prelude.{◌≡◌, option_map};
-ghost use Rattle.serve_settling.specs.Runs.{EdgeCause, EdgesRan, RunCause, source_facts};
+ghost use Rattle.serve_end_settling.specs.Runs.{EdgeCause, EdgesRan, RunCause, source_facts};
 ghost use Rattle.gps_serve.specs.Starts.{edge_start_of};
 ghost use Rattle.gps_serve.specs.Works.{BytesAre, EdgesAre, JoinsDevice, ReadersAre};
 
@@ -7,7 +7,7 @@ use crate::floor::Floor;
 use crate::lanes::{DeviceStart, EdgeStart};
 use gps_lane::Bell;
 use gps_outside::{Clock, Source};
-use serve_settling::DeviceRun;
+use serve_end_settling::DeviceRun;
 use serve_threads::{
     DeviceBells, DeviceReading, EdgeReading, ReaderDone, Work, start_device, start_edges,
 };
@@ -75,7 +75,7 @@ pub(crate) fn start_readers<
     DeviceWork { bytes, edges }
 }
 
-#[tactic(auto, using(serve_settling::proofs::Causes::lines_cause))]
+#[tactic(auto, using(serve_end_settling::proofs::Causes::lines_cause))]
 fn join_edges<S: Source, R: Wait + Copy, T: Threads>(
     rt: &T,
     work: Option<Work<ReaderDone<S, R>, EdgeReading<S, R>>>,
@@ -90,7 +90,7 @@ fn join_edges<S: Source, R: Wait + Copy, T: Threads>(
 }
 
 /// Waits for the readers of a device.
-#[tactic(auto, using(serve_settling::proofs::Causes::reads_cause))]
+#[tactic(auto, using(serve_end_settling::proofs::Causes::reads_cause))]
 pub(crate) fn join_readers<S: Source, D: Dials, R: Wait + Copy, T: Threads>(
     rt: &T,
     work: DeviceWork<S, D, R>,

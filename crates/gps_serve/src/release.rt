@@ -1,8 +1,8 @@
 ghost use Rattle.std.specs.Prelude.{◌≡◌, ◌<◌, ◌++◌, [], length, get_or};
 ghost use Rattle.std.specs.Option.{option_to_list};
-ghost use Rattle.hub_door.specs.Admissions.{Link as Lanes};
-ghost use Rattle.hub_laws.specs.Given.{TellsOnce};
-ghost use Rattle.serve_threads.specs.declared.session.Link.{Link};
+ghost use Rattle.hub_door.specs.Admissions.{SessionLanes};
+ghost use Rattle.hub_promise.specs.Given.{TellsOnce};
+ghost use Rattle.serve_threads.specs.declared.session.SessionLink.{SessionLink};
 ghost use Rattle.serve_threads.specs.Sessions.{SessionRuns};
 ghost use Rattle.gps_serve.specs.Released.{AreEndsOf, WritesItem, WritesOn};
 
@@ -10,8 +10,8 @@ use crate::floor::Floor;
 use gps_hub::{DoorSeat, HubNaming};
 use gps_lane::Rx;
 use gps_outside::{Sink, Source, write_all};
-use serve_threads::{SessionRun, WriterDone};
-use serve_workers::SessionEnd;
+use serve_threads::{LinkDone, WriterDone};
+use serve_workers::WriterEnd;
 use session_core::Item;
 use std::sync::{Mutex, Wait};
 
@@ -24,7 +24,7 @@ fn next_item<J: HubNaming, R: Wait + Copy>(
     items: &mut Rx<Item, R>,
 ) -> Option<Item>
     requires there { number < length seat.old.links }
-    requires outlet { (free : Lanes) → items.old.lane ≡ (get_or seat.old.links number free).outlet }
+    requires outlet { (free : SessionLanes) → items.old.lane ≡ (get_or seat.old.links number free).outlet }
     ensures seat { seat.new ≡ seat.old }
     ensures items { items.new ≡ record items.old { got = items.old.got ++ option_to_list result } }
 {
@@ -33,17 +33,17 @@ fn next_item<J: HubNaming, R: Wait + Copy>(
 
 /// Writes an item, unless the sink had failed.
 #[tactic(auto, using(crate::proofs::Released::item_written, crate::proofs::Released::item_cut, crate::proofs::Released::item_skipped))]
-fn write_item<K: Sink>(end: SessionEnd, sink: &mut K, item: Item) -> SessionEnd
+fn write_item<K: Sink>(end: WriterEnd, sink: &mut K, item: Item) -> WriterEnd
     ensures { WritesItem item end result (K.written sink.old) (K.written sink.new) (K.faults sink.old) (K.faults sink.new) }
 {
     match end {
-        SessionEnd::WriteFault => return SessionEnd::WriteFault,
-        SessionEnd::Drained => {}
+        WriterEnd::WriteFault => return WriterEnd::WriteFault,
+        WriterEnd::Drained => {}
     }
     if write_all(sink, item.bytes()) {
-        return SessionEnd::Drained;
+        return WriterEnd::Drained;
     }
-    SessionEnd::WriteFault
+    WriterEnd::WriteFault
 }
 
 /// Gets the next item of a closed session's outlet, and writes it unless the sink had failed. False where there is none.
@@ -56,7 +56,7 @@ fn write_next<K: Sink, J: HubNaming, R: Wait + Copy>(
     writer: &mut WriterDone<K, R>,
 ) -> bool
     requires there { number < length seat.old.links }
-    requires outlet { (free : Lanes) → writer.old.items.lane ≡ (get_or seat.old.links number free).outlet }
+    requires outlet { (free : SessionLanes) → writer.old.items.lane ≡ (get_or seat.old.links number free).outlet }
     ensures seat { seat.new ≡ seat.old }
     ensures on { WritesOn K.written K.faults writer.old writer.new }
 {
@@ -77,7 +77,7 @@ fn empty_outlet<K: Sink, J: HubNaming, R: Wait + Copy>(
     writer: &mut WriterDone<K, R>,
 )
     requires there { number < length seat.old.links }
-    requires outlet { (free : Lanes) → writer.old.items.lane ≡ (get_or seat.old.links number free).outlet }
+    requires outlet { (free : SessionLanes) → writer.old.items.lane ≡ (get_or seat.old.links number free).outlet }
     ensures seat { seat.new ≡ seat.old }
     ensures on { WritesOn K.written K.faults writer.old writer.new }
 {
@@ -97,14 +97,15 @@ pub(crate) fn release_lanes<S: Source, K: Sink, J: HubNaming, R: Wait + Copy>(
     floor: &Mutex<Floor<J, R>>,
     seat: &mut DoorSeat<J>,
     number: u32,
-    run: SessionRun<S, K, R>,
-) -> SessionRun<S, K, R>
+    run: LinkDone<S, K, R>,
+) -> LinkDone<S, K, R>
     requires ends { AreEndsOf seat.old number run.writer.items run.reader.pieces }
     requires once { TellsOnce run.reader.pieces.put }
     ensures seat { seat.new ≡ seat.old }
-    ensures runs { (link : Link S K R) → SessionRuns S.content S.faults S.quiets K.written K.faults link run → SessionRuns S.content S.faults S.quiets K.written K.faults link result }
+    ensures runs { (link : SessionLink S K R) → SessionRuns S.content S.faults S.quiets K.written K.faults link run
+        → SessionRuns S.content S.faults S.quiets K.written K.faults link result }
 {
-    let SessionRun {
+    let LinkDone {
         mut reader,
         mut writer,
     } = run;
@@ -114,5 +115,5 @@ pub(crate) fn release_lanes<S: Source, K: Sink, J: HubNaming, R: Wait + Copy>(
         .lock(rt)
         .hub
         .settle_input(seat, number, &mut reader.pieces);
-    SessionRun { reader, writer }
+    LinkDone { reader, writer }
 }

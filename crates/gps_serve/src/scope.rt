@@ -1,7 +1,7 @@
 ghost use Rattle.std.specs.Prelude.{◌≡◌, ◌≤◌, [], length, IfOk};
 ghost use Rattle.std.specs.List.{AllZip};
 ghost use Rattle.std.specs.Vec.{vec_len, vec_capacity};
-ghost use Rattle.serve_settling.specs.Runs.{RunCause, EachRun, source_facts};
+ghost use Rattle.serve_end_settling.specs.Runs.{RunCause, EachRun, source_facts};
 ghost use Rattle.gps_serve.specs.AtEnd.{gate_facts, sink_facts};
 ghost use Rattle.gps_serve.specs.Runs.{RanOn};
 ghost use Rattle.gps_serve.specs.Scopes.{CausesIf, CountsIf, FailsIf, RanIf, TendedIf, WatchedIf};
@@ -16,8 +16,8 @@ use crate::readers::{DeviceWork, join_readers, start_readers};
 use gps_fixed::NoMemory;
 use gps_hub::HubNaming;
 use gps_outside::{Clock, Door, Sink, Source};
-use serve_settling::DeviceRun;
-use serve_threads::{Bells, WatchDone, Watcher, Watching, Work, start_watcher};
+use serve_end_settling::DeviceRun;
+use serve_threads::{Bells, MonitorPromise, MonitorStart, ReadingsDone, Work, start_monitor};
 use serve_workers::{Dials, SharedClock};
 use std::alloc::Global;
 use std::sync::{Mutex, Wait};
@@ -35,12 +35,12 @@ pub(crate) struct Setup<
     R: Wait + Copy,
 > {
     starts: Vec<DeviceStart<S, R>>,
-    watchers: Vec<Watcher>,
+    watchers: Vec<MonitorStart>,
     door: DoorBegin<S, K, G, J, R>,
     works: Vec<DeviceWork<S, D, R>>,
     runs: Vec<DeviceRun<S, R>>,
-    watching: Vec<Work<WatchDone, Watching>>,
-    watched: Vec<WatchDone>,
+    watching: Vec<Work<ReadingsDone, MonitorPromise>>,
+    watched: Vec<ReadingsDone>,
     ghost works_none: { works.items ≡ [] },
     ghost runs_none: { runs.items ≡ [] },
     ghost watching_none: { watching.items ≡ [] },
@@ -65,7 +65,7 @@ pub(crate) struct Ended<
     R: Wait + Copy,
 > {
     pub(crate) runs: Vec<DeviceRun<S, R>>,
-    pub(crate) watched: Vec<WatchDone>,
+    pub(crate) watched: Vec<ReadingsDone>,
     pub(crate) door: DoorDone<S, K, G, J, R>,
 }
 
@@ -92,7 +92,7 @@ pub(crate) fn set_up<
 >(
     alloc: Global,
     starts: Vec<DeviceStart<S, R>>,
-    watchers: Vec<Watcher>,
+    watchers: Vec<MonitorStart>,
     door: DoorBegin<S, K, G, J, R>,
 ) -> Result<Setup<S, K, G, D, J, R>, NoMemory>
     ensures starts { IfOk result (λ setup. setup.starts ≡ starts) }
@@ -121,11 +121,11 @@ fn start_watchers<'s, E, R: Threads + Wait + Copy + Send + Sync + 's>(
     rt: R,
     alloc: Global,
     scope: &'s Scope<'s, E>,
-    watchers: Vec<Watcher>,
+    watchers: Vec<MonitorStart>,
     tries: u32,
     bells: &'s Bells,
-    room: Vec<Work<WatchDone, Watching>>,
-) -> Vec<Work<WatchDone, Watching>>
+    room: Vec<Work<ReadingsDone, MonitorPromise>>,
+) -> Vec<Work<ReadingsDone, MonitorPromise>>
     requires none { room.items ≡ [] }
     requires empty { vec_len room ≡ 0 }
     requires enough { vec_len watchers ≤ vec_capacity room }
@@ -135,7 +135,7 @@ fn start_watchers<'s, E, R: Threads + Wait + Copy + Send + Sync + 's>(
     let mut works = room;
     'watchers: for watcher in watchers {
         let own = bells.monitor(works.len());
-        works.push_reserved(start_watcher(rt, alloc, scope, watcher, tries, own));
+        works.push_reserved(start_monitor(rt, alloc, scope, watcher, tries, own));
     }
     works
 }
@@ -173,7 +173,7 @@ fn start_devices<
 }
 
 /// Waits for the readers of the devices.
-#[tactic(auto, using(crate::proofs::Zips::ran_none, crate::proofs::Zips::ran_more, crate::proofs::Zips::ran_all, serve_settling::proofs::Causes::each_run_more))]
+#[tactic(auto, using(crate::proofs::Zips::ran_none, crate::proofs::Zips::ran_more, crate::proofs::Zips::ran_all, serve_end_settling::proofs::Causes::each_run_more))]
 fn join_devices<S: Source, D: Dials, R: Wait + Copy, T: Threads>(
     rt: &T,
     works: Vec<DeviceWork<S, D, R>>,
@@ -197,9 +197,9 @@ fn join_devices<S: Source, D: Dials, R: Wait + Copy, T: Threads>(
 #[tactic(auto, using(crate::proofs::Zips::ran_none, crate::proofs::Zips::ran_more, crate::proofs::Zips::ran_all))]
 fn join_watchers<T: Threads>(
     rt: &T,
-    works: Vec<Work<WatchDone, Watching>>,
-    room: Vec<WatchDone>,
-) -> Vec<WatchDone>
+    works: Vec<Work<ReadingsDone, MonitorPromise>>,
+    room: Vec<ReadingsDone>,
+) -> Vec<ReadingsDone>
     requires none { room.items ≡ [] }
     requires empty { vec_len room ≡ 0 }
     requires enough { vec_len works ≤ vec_capacity room }
@@ -237,7 +237,8 @@ fn work<
     setup: Setup<S, K, G, D, J, R>,
 ) -> Option<Ended<S, K, G, J, R>>
     ensures fails { FailsIf G.faults setup.door.gate result }
-    ensures tended { TendedIf (source_facts S.content S.faults S.quiets) (sink_facts K.written K.faults) (gate_facts G.links G.faults G.quiets) setup.door.queue setup.door.gate result }
+    ensures tended { TendedIf (source_facts S.content S.faults S.quiets) (sink_facts K.written K.faults)
+        (gate_facts G.links G.faults G.quiets) setup.door.queue setup.door.gate result }
     ensures causes { CausesIf S.faults result }
     ensures ran { RanIf D.may (source_facts S.content S.faults S.quiets) setup.starts.items result }
     ensures watched { WatchedIf tries setup.watchers.items result }
@@ -299,7 +300,8 @@ pub(crate) fn in_scope<
     setup: Setup<S, K, G, D, J, R>,
 ) -> Option<Ended<S, K, G, J, R>>
     ensures fails { FailsIf G.faults setup.door.gate result }
-    ensures tended { TendedIf (source_facts S.content S.faults S.quiets) (sink_facts K.written K.faults) (gate_facts G.links G.faults G.quiets) setup.door.queue setup.door.gate result }
+    ensures tended { TendedIf (source_facts S.content S.faults S.quiets) (sink_facts K.written K.faults)
+        (gate_facts G.links G.faults G.quiets) setup.door.queue setup.door.gate result }
     ensures causes { CausesIf S.faults result }
     ensures ran { RanIf D.may (source_facts S.content S.faults S.quiets) setup.starts.items result }
     ensures watched { WatchedIf tries setup.watchers.items result }

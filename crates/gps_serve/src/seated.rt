@@ -9,7 +9,7 @@ use crate::floor::Floor;
 use gps_fixed::NoMemory;
 use gps_hub::{DoorSeat, HubNaming};
 use gps_outside::{Sink, Source};
-use serve_threads::{SessionBells, SessionRun};
+use serve_threads::{LinkDone, SessionBells};
 use std::alloc::Global;
 use std::sync::{Arc, Mutex, Wait};
 use std::thread::Threads;
@@ -27,7 +27,7 @@ pub(crate) struct Sessions<S: Source, K: Sink, R: Wait + Copy> {
     pub(crate) seated: Vec<Seated<S, K, R>>,
     // Those whose lanes were not let go of yet.
     pub(crate) live: Vec<usize>,
-    pub(crate) runs: Vec<SessionRun<S, K, R>>,
+    pub(crate) runs: Vec<LinkDone<S, K, R>>,
     ghost none: { runs.items ≡ [] },
     ghost room: { vec_len seated ≤ vec_capacity runs },
 }
@@ -162,7 +162,7 @@ impl<S: Source, K: Sink, R: Wait + Copy> Sessions<S, K, R> {
     }
 
     /// Waits for all threads.
-    pub(crate) fn join_all<T: Threads>(self, rt: &T) -> Vec<SessionRun<S, K, R>>
+    pub(crate) fn join_all<T: Threads>(self, rt: &T) -> Vec<LinkDone<S, K, R>>
         ensures runs { AllZip (SessionRuns S.content S.faults S.quiets K.written K.faults) (links_at self.seated.items) result.items }
         ensures count { vec_len result ≡ vec_len self.seated }
     {

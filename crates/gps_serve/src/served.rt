@@ -3,16 +3,16 @@ ghost use Rattle.std.specs.List.{All, AllZip};
 ghost use Rattle.std.specs.Vec.{vec_len, vec_capacity};
 ghost use Rattle.gps_outside.specs.Counts.{Rose};
 ghost use Rattle.book_units.specs.Units.{segment_of};
-ghost use Rattle.hub_laws.specs.Keeping.{IsClosed, IsUnused, NothingGot};
-ghost use Rattle.hub_laws.specs.Parts.{terms_of};
+ghost use Rattle.hub_promise.specs.Keeping.{IsClosed, IsUnused, NothingGot};
+ghost use Rattle.hub_promise.specs.Parts.{terms_of};
 ghost use Rattle.gps_world.specs.Asking.{asked_nothing};
-ghost use Rattle.serve_opening.specs.Opening.{AsksAll, AsksSome, GivenOnce, dial_of, places_in};
-ghost use Rattle.serve_parts.specs.Plans.{IsPlan};
-ghost use Rattle.serve_settling.specs.Failing.{DeviceFailed, SomeFailed, SourceFailed};
-ghost use Rattle.serve_settling.specs.Runs.{RunCause, EachRun, source_facts};
+ghost use Rattle.world_opening.specs.Opening.{AsksAll, AsksSome, GivenOnce, dial_of, places_in};
+ghost use Rattle.serve_end_parts.specs.Plans.{IsPlan};
+ghost use Rattle.serve_end_settling.specs.Failing.{DeviceFailed, SomeFailed, SourceFailed};
+ghost use Rattle.serve_end_settling.specs.Runs.{RunCause, EachRun, source_facts};
 ghost use Rattle.serve_threads.specs.Segments.{segments_of};
 ghost use Rattle.serve_threads.specs.Sessions.{SessionRuns};
-ghost use Rattle.gps_serve.specs.AtEnd.{AtEnd, BytesHeld, EdgesHeld, gate_facts, sink_facts, told_in, told_of};
+ghost use Rattle.gps_serve.specs.AtEnd.{AtEnd, BytesHeld, EdgesHeld, gate_facts, sink_facts, settings_in, settings_of};
 ghost use Rattle.gps_serve.specs.Doors.{IsNewLink, Tended, door_now};
 ghost use Rattle.gps_serve.specs.Lost.{NoneLost};
 ghost use Rattle.gps_serve.specs.Runs.{DeviceReads, DevicesRan, IsLeftOf};
@@ -25,22 +25,22 @@ ghost use Rattle.gps_serve.specs.Works.{WatchersRan, monitored};
 use crate::door::{DoorBegin, DoorDone};
 use crate::floor::{Burst, Floor};
 use crate::ground::{Ground, prepare};
-use crate::lanes::Lanes;
+use crate::lanes::DeviceLanes;
 use crate::scope::{Ended, in_scope, room, set_up};
 use crate::settling::{DevicesDone, devices_done, monitors_done, sessions_done};
-use crate::status::{Outcome, all_ended, lacked};
+use crate::status::{DaemonOutcome, all_ended, lacked};
 use gps_fixed::NoMemory;
 use gps_hub::{DoorSeat, Hub, HubNaming, Parted};
 use gps_outside::{Door, Sink, Source};
 use gps_world::World;
-use serve_opening::{Outside, Stop, open};
-use serve_parts::{DeviceDone, MonitorDone, Plan, Served};
+use serve_end_parts::{DeviceDone, MonitorDone, Plan, Served};
 use serve_workers::{Dials, SharedClock};
 use std::alloc::Global;
 use std::marker::Brand;
 use std::snapshot::Snapshot;
 use std::sync::{Mutex, Wait};
 use std::thread::Threads;
+use world_opening::{Outside, Stop, open};
 
 /// The numbers of a plan.
 #[derive(Clone, Copy)]
@@ -160,7 +160,9 @@ fn gather<W: World, J: HubNaming, D: Dials, R: Wait + Copy>(
     requires ran { DevicesRan D.may (source_facts W.In.content W.In.faults W.In.quiets) J.terms.lanes ended.runs.items }
     requires causes { EachRun (RunCause W.In.faults) ended.runs.items }
     requires cause { ended.door.failed ≡ true → 0 < W.Gate.faults ended.door.gate }
-    requires tended { Tended (IsNewLink W.In.content W.In.faults W.In.quiets W.Out.written W.Out.faults) (SessionRuns W.In.content W.In.faults W.In.quiets W.Out.written W.Out.faults) numbers.queue (W.Gate.links first.value) (door_now (W.Gate.links ended.door.gate) (W.Gate.faults ended.door.gate) (W.Gate.quiets ended.door.gate) ended.door.full ended.door.no_memory) ended.door.seat ended.door.runs.items }
+    requires tended { Tended (IsNewLink W.In.content W.In.faults W.In.quiets W.Out.written W.Out.faults)
+        (SessionRuns W.In.content W.In.faults W.In.quiets W.Out.written W.Out.faults) numbers.queue (W.Gate.links first.value)
+        (door_now (W.Gate.links ended.door.gate) (W.Gate.faults ended.door.gate) (W.Gate.quiets ended.door.gate) ended.door.full ended.door.no_memory) ended.door.seat ended.door.runs.items }
     requires watched { WatchersRan numbers.tries J.terms.segments ended.watched.items }
     requires wait { J.terms.wait ≡ numbers.wait }
     requires closed { All IsClosed hub.book.sessions }
@@ -180,7 +182,9 @@ fn gather<W: World, J: HubNaming, D: Dials, R: Wait + Copy>(
     ensures ended { result.status ≡ 0 → AllEnded result.devices.items }
     ensures lacks { result.no_memory ≡ false → IfSome result.book (λ book. NoneLost book result.devices.items) }
     ensures left { AllZip IsLeftOf ended.runs.items result.devices.items }
-    ensures at_end { IfSome result.book (λ book. AtEnd (told_of J.terms numbers.queue numbers.tries) D.may (source_facts W.In.content W.In.faults W.In.quiets) (sink_facts W.Out.written W.Out.faults) (gate_facts W.Gate.links W.Gate.faults W.Gate.quiets) (W.Gate.links first.value) result.full result.no_memory book result.devices.items result.sessions.items result.monitors.items result.gate) }
+    ensures at_end { IfSome result.book (λ book. AtEnd (settings_of J.terms numbers.queue numbers.tries) D.may
+        (source_facts W.In.content W.In.faults W.In.quiets) (sink_facts W.Out.written W.Out.faults) (gate_facts W.Gate.links W.Gate.faults W.Gate.quiets)
+        (W.Gate.links first.value) result.full result.no_memory book result.devices.items result.sessions.items result.monitors.items result.gate) }
 {
     let Ended {
         runs,
@@ -219,7 +223,7 @@ fn gather<W: World, J: HubNaming, D: Dials, R: Wait + Copy>(
     } = devices_done::<W::In, D, R>(runs, inlets, ends, devices);
     let sessions = sessions_done(rt, &mut book, session_runs, sessions, room);
     let monitors = monitors_done(&mut book, watched, numbers.tries, no_memory, monitors);
-    let outcome = Outcome {
+    let outcome = DaemonOutcome {
         read_fault,
         door_fault: failed,
         ended,
@@ -316,8 +320,11 @@ fn run<
     ensures ended { result.status ≡ 0 → AllEnded result.devices.items }
     ensures lacks { result.no_memory ≡ false → IfSome result.book (λ book. NoneLost book result.devices.items) }
     ensures none { result.book ≡ None → result.status ≡ 7 }
-    ensures reads { IsSome result.book → AllZip (DeviceReads (source_facts W.In.content W.In.faults W.In.quiets)) ground.lanes.starts.items result.devices.items }
-    ensures at_end { IfSome result.book (λ book. AtEnd (told_of J.terms numbers.queue numbers.tries) D.may (source_facts W.In.content W.In.faults W.In.quiets) (sink_facts W.Out.written W.Out.faults) (gate_facts W.Gate.links W.Gate.faults W.Gate.quiets) (W.Gate.links gate) result.full result.no_memory book result.devices.items result.sessions.items result.monitors.items result.gate) }
+    ensures reads { IsSome result.book
+        → AllZip (DeviceReads (source_facts W.In.content W.In.faults W.In.quiets)) ground.lanes.starts.items result.devices.items }
+    ensures at_end { IfSome result.book (λ book. AtEnd (settings_of J.terms numbers.queue numbers.tries) D.may
+        (source_facts W.In.content W.In.faults W.In.quiets) (sink_facts W.Out.written W.Out.faults) (gate_facts W.Gate.links W.Gate.faults W.Gate.quiets)
+        (W.Gate.links gate) result.full result.no_memory book result.devices.items result.sessions.items result.monitors.items result.gate) }
 {
     let Ground {
         book,
@@ -326,7 +333,7 @@ fn run<
         watchers,
         bells,
     } = ground;
-    let Lanes { starts, inlets } = lanes;
+    let DeviceLanes { starts, inlets } = lanes;
     let devices = inlets.len() as u8;
     let Ok(rooms) = make_done_rooms::<W, R>(alloc, starts.len(), watchers.len()) else {
         return nothing(alloc, world, Stop::NoMemory);
@@ -371,10 +378,15 @@ pub fn serve<W: World, R: Threads + Wait + Copy + Send + Sync>(
     ensures zero { result.status ≡ 0 → (result.no_memory ≡ false) × IsSome result.book }
     ensures ended { result.status ≡ 0 → AllEnded result.devices.items }
     ensures lacks { result.no_memory ≡ false → IfSome result.book (λ book. NoneLost book result.devices.items) }
-    ensures none { result.book ≡ None → ((result.status ≡ 3) × Rose (W.input_faults world) (W.input_faults result.world)) ⊎ ((result.status ≡ 8) × Rose (W.listen_faults world) (W.listen_faults result.world)) ⊎ (result.status ≡ 7) }
-    ensures at_end { IfSome result.book (λ book. AtEnd (told_in plan) (dial_of (W.stamps world)) (source_facts W.In.content W.In.faults W.In.quiets) (sink_facts W.Out.written W.Out.faults) (gate_facts W.Gate.links W.Gate.faults W.Gate.quiets) (W.links world) result.full result.no_memory book result.devices.items result.sessions.items result.monitors.items result.gate) }
+    ensures none { result.book ≡ None → ((result.status ≡ 3) × Rose (W.input_faults world) (W.input_faults result.world))
+        ⊎ ((result.status ≡ 8) × Rose (W.listen_faults world) (W.listen_faults result.world)) ⊎ (result.status ≡ 7) }
+    ensures at_end { IfSome result.book (λ book. AtEnd (settings_in plan) (dial_of (W.stamps world)) (source_facts W.In.content W.In.faults W.In.quiets)
+        (sink_facts W.Out.written W.Out.faults) (gate_facts W.Gate.links W.Gate.faults W.Gate.quiets)
+        (W.links world) result.full result.no_memory book result.devices.items result.sessions.items result.monitors.items result.gate) }
     ensures whole { IsSome result.book → All (IsWhole (dial_of (W.stamps world)) (source_facts W.In.content W.In.faults W.In.quiets)) result.devices.items }
-    ensures held { GivenOnce (plan.inputs.items ++ places_in plan.edges.items) → IsSome result.book → AllZip (BytesHeld (W.behind world) (source_facts W.In.content W.In.faults W.In.quiets)) plan.inputs.items result.devices.items × AllZip (EdgesHeld (W.behind world) (source_facts W.In.content W.In.faults W.In.quiets)) plan.edges.items result.devices.items }
+    ensures held { GivenOnce (plan.inputs.items ++ places_in plan.edges.items) → IsSome result.book
+        → AllZip (BytesHeld (W.behind world) (source_facts W.In.content W.In.faults W.In.quiets)) plan.inputs.items result.devices.items
+        × AllZip (EdgesHeld (W.behind world) (source_facts W.In.content W.In.faults W.In.quiets)) plan.edges.items result.devices.items }
     ensures edges { IsSome result.book → map (λ device. is_some device.edges) result.devices.items ≡ map is_some plan.edges.items }
     ensures asked { AsksSome (W.asked result.world) (plan.inputs.items ++ places_in plan.edges.items) plan.listen }
     ensures all_asked { IsSome result.book → AsksAll (W.asked result.world) (plan.inputs.items ++ places_in plan.edges.items) plan.listen }

@@ -2,11 +2,11 @@ ghost use Rattle.std.specs.Prelude.{◌≡◌, ◌≤◌, ◌<◌, ◌||◌, [],
 ghost use Rattle.std.specs.List.{AllZip, range_with_len};
 ghost use Rattle.std.specs.Vec.{vec_len, vec_capacity};
 ghost use Rattle.std.specs.Vec.Iter.{into_iter_items};
-ghost use Rattle.book_sessions.specs.Attendance.{Attendance};
+ghost use Rattle.book_sessions.specs.MemberView.{MemberView};
 ghost use Rattle.book_units.specs.Units.{UnitView};
-ghost use Rattle.serve_settling.specs.Failing.{DeviceFailed, SomeFailed, source_of};
-ghost use Rattle.serve_settling.specs.Lanes.{tx_of};
-ghost use Rattle.serve_settling.specs.Runs.{RunCause, EachRun, source_facts};
+ghost use Rattle.serve_end_settling.specs.Failing.{DeviceFailed, SomeFailed, source_of};
+ghost use Rattle.serve_end_settling.specs.Lanes.{tx_of};
+ghost use Rattle.serve_end_settling.specs.Runs.{RunCause, EachRun, source_facts};
 ghost use Rattle.gps_serve.specs.AtEnd.{DeviceServed, MonitorServed, OutletServed, sink_facts, watched_units};
 ghost use Rattle.gps_serve.specs.Readies.{AllServed, AreReady, InputLeft, IsSourceOf, MonitorReady, SessionReady};
 ghost use Rattle.gps_serve.specs.Runs.{DeviceReady, IsLeftOf};
@@ -17,10 +17,10 @@ use gps_hub::{DeviceEnd, Inlets};
 use gps_lane::{Rx, Tx};
 use gps_outside::{Sink, Source};
 use report_book::Book;
-use serve_parts::{DeviceDone, MonitorDone, SessionDone};
+use serve_end_parts::{DeviceDone, MonitorDone, SessionDone};
+use serve_end_settling::{DeviceRun, device_done, device_failed, monitor_done, session_done};
 use serve_pieces::Piece;
-use serve_settling::{DeviceRun, device_done, device_failed, monitor_done, session_done};
-use serve_threads::{SessionRun, WatchDone};
+use serve_threads::{LinkDone, ReadingsDone};
 use serve_workers::Dials;
 use session_core::Item;
 use std::sync::Wait;
@@ -44,7 +44,7 @@ struct Left<S: Source, R> {
     failed: bool,
 }
 
-#[tactic(auto, using(crate::proofs::Devices::bytes_lane, crate::proofs::Devices::edges_lane, serve_settling::proofs::Causes::failed_done))]
+#[tactic(auto, using(crate::proofs::Devices::bytes_lane, crate::proofs::Devices::edges_lane, serve_end_settling::proofs::Causes::failed_done))]
 fn left_of<S: Source, D: Dials, R: Wait + Copy>(
     run: DeviceRun<S, R>,
     inlets: Inlets<R>,
@@ -113,16 +113,17 @@ fn settled<S: Source, K: Sink, R: Wait + Copy>(
     rt: &R,
     book: &mut Book<Tx<Item, R>>,
     number: u32,
-    run: SessionRun<S, K, R>,
+    run: LinkDone<S, K, R>,
     input: Rx<Piece, R>,
 ) -> SessionDone<S, K, R>
     requires there { number < length book.old.sessions }
-    requires ready { (free : Attendance) → SessionReady (source_facts S.content S.faults S.quiets) (sink_facts K.written K.faults) (get_or book.old.sessions number free) input run }
+    requires ready { (free : MemberView)
+        → SessionReady (source_facts S.content S.faults S.quiets) (sink_facts K.written K.faults) (get_or book.old.sessions number free) input run }
     ensures book { book.new ≡ book.old }
     ensures number { result.number ≡ number }
     ensures source { result.source ≡ run.reader.source }
     ensures input { InputLeft (source_facts S.content S.faults S.quiets) input result }
-    ensures outlet { (free : Attendance) → OutletServed (sink_facts K.written K.faults) (get_or book.old.sessions number free) result }
+    ensures outlet { (free : MemberView) → OutletServed (sink_facts K.written K.faults) (get_or book.old.sessions number free) result }
 {
     session_done(rt, book, number, run, input)
 }
@@ -132,7 +133,7 @@ fn settled<S: Source, K: Sink, R: Wait + Copy>(
 pub(crate) fn sessions_done<S: Source, K: Sink, R: Wait + Copy>(
     rt: &R,
     book: &mut Book<Tx<Item, R>>,
-    runs: Vec<SessionRun<S, K, R>>,
+    runs: Vec<LinkDone<S, K, R>>,
     inputs: Vec<Rx<Piece, R>>,
     room: Vec<SessionDone<S, K, R>>,
 ) -> Vec<SessionDone<S, K, R>>
@@ -160,7 +161,7 @@ pub(crate) fn sessions_done<S: Source, K: Sink, R: Wait + Copy>(
 fn compared<R: Wait + Copy>(
     book: &mut Book<Tx<Item, R>>,
     unit: u8,
-    watch: WatchDone,
+    watch: ReadingsDone,
     tries: u32,
     no_memory: bool,
 ) -> MonitorDone
@@ -176,7 +177,7 @@ fn compared<R: Wait + Copy>(
 /// Puts together what is left of the monitors, in the order of their units.
 pub(crate) fn monitors_done<R: Wait + Copy>(
     book: &mut Book<Tx<Item, R>>,
-    watched: Vec<WatchDone>,
+    watched: Vec<ReadingsDone>,
     tries: u32,
     no_memory: bool,
     room: Vec<MonitorDone>,

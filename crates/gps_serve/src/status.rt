@@ -1,6 +1,6 @@
 ghost use Rattle.std.specs.Prelude.{◌≡◌, ◌⊎◌, ◌||◌, true, false};
 ghost use Rattle.std.specs.List.{All, list_all};
-ghost use Rattle.hub_laws.specs.Given.{is_end};
+ghost use Rattle.hub_promise.specs.Given.{is_end};
 ghost use Rattle.gps_serve.specs.Lost.{IsNotCut, IsNotLost, is_cut, is_lost};
 ghost use Rattle.gps_serve.specs.Statuses.{EachWhole, lacks_memory};
 
@@ -8,8 +8,8 @@ use gps_hub::{DeviceEnd, Ending};
 use gps_lane::Tx;
 use gps_outside::{Sink, Source};
 use report_book::Book;
-use serve_settling::DeviceRun;
-use serve_threads::{ReaderDone, SessionRun, WatchDone};
+use serve_end_settling::DeviceRun;
+use serve_threads::{LinkDone, ReaderDone, ReadingsDone};
 use session_core::{Close, Item};
 use std::sync::Wait;
 
@@ -21,7 +21,7 @@ pub(crate) fn either(before: bool, now: bool) -> bool
 
 /// How a daemon's work ended.
 #[derive(Clone, Copy)]
-pub(crate) struct Outcome {
+pub(crate) struct DaemonOutcome {
     /// A source of a device or of its edges failed.
     pub(crate) read_fault: bool,
     /// The door failed.
@@ -32,7 +32,7 @@ pub(crate) struct Outcome {
     pub(crate) no_memory: bool,
 }
 
-impl Outcome {
+impl DaemonOutcome {
     /// Whether want of memory was met: it was seen, or a device was lost though no source failed. Where one failed, a device that was lost
     /// for want of memory is among what was seen.
     pub(crate) fn lacks(&self) -> bool
@@ -111,7 +111,7 @@ fn ends_lack(ends: &[Option<DeviceEnd>]) -> bool
 }
 
 /// Whether want of memory ended a reader of a session.
-fn session_lacks<S: Source, K: Sink, R: Wait + Copy>(runs: &[SessionRun<S, K, R>]) -> bool {
+fn session_lacks<S: Source, K: Sink, R: Wait + Copy>(runs: &[LinkDone<S, K, R>]) -> bool {
     let mut lacks = false;
     for run in runs {
         if reader_lacked(&run.reader) {
@@ -143,7 +143,7 @@ fn book_lacks<R: Wait + Copy>(book: &Book<Tx<Item, R>>) -> bool
 }
 
 /// Whether each monitor made all its readings, as it does unless memory is wanting.
-fn are_whole(watched: &[WatchDone]) -> bool
+fn are_whole(watched: &[ReadingsDone]) -> bool
     ensures { result ≡ list_all (λ watch. watch.whole) watched.now }
 {
     watched.iter().all(|watch| watch.whole)
@@ -154,8 +154,8 @@ pub(crate) fn lacked<S: Source, K: Sink, R: Wait + Copy>(
     before: bool,
     book: &Book<Tx<Item, R>>,
     runs: &[DeviceRun<S, R>],
-    session_runs: &[SessionRun<S, K, R>],
-    watched: &[WatchDone],
+    session_runs: &[LinkDone<S, K, R>],
+    watched: &[ReadingsDone],
     ends: &[Option<DeviceEnd>],
 ) -> bool
     ensures whole { result ≡ false → EachWhole watched.now }

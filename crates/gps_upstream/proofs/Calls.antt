@@ -6,7 +6,7 @@ use Rattle.gps_outside.specs.declared.source.ReadStep.TheVariants as answers
 use Rattle.gps_outside.specs.Counts.{Rose}
 use Rattle.gps_outside.specs.Reads.{FitsBuffer as FitsRead, Reads}
 use Rattle.gps_outside.specs.Told.{Stream, Goes, Stays, MayLose, Appends, AppendsPart}
-use Rattle.gps_outside.specs.Turns.{TakesAll}
+use Rattle.gps_outside.specs.ReadSteps.{TakesAll}
 use Rattle.gps_outside.proofs.Going.{goes_as}
 use Rattle.upstream_laws.specs.declared.stage.Stage.{Stage}
 use Rattle.upstream_laws.specs.declared.stage.Stage.TheVariants as stages

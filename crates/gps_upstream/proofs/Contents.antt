@@ -6,7 +6,7 @@ use Rattle.std.specs.Str.{bytes_eq}
 use Rattle.std.specs.Cmp.Lexicographic.{bytes_decides}
 use Rattle.gps_outside.specs.Told.{Stream, Goes, Stays, Passes, IsAtEnd, MayLose}
 use Rattle.gps_outside.specs.Reads.{Reads}
-use Rattle.gps_outside.specs.Turns.{TakesAll, TakesSome}
+use Rattle.gps_outside.specs.ReadSteps.{TakesAll, TakesSome}
 use Rattle.upstream_laws.specs.declared.stage.Stage.{Stage}
 use Rattle.upstream_laws.specs.declared.stage.Stage.TheVariants.{Inside, Behind, Nowhere}
 use Rattle.upstream_laws.specs.Head.{Stand, fresh, taken, behind}
@@ -95,8 +95,7 @@ pub left_is : (at : Head) (s : Stand) (bytes : List ℕ) → at ≡ head_at s.st
 left_is at s bytes e = subst (λ (h : Head). left_by h (behind s bytes) ≡ behind s bytes) (sym e) (left_from s bytes s.stage refl)
 
 -- A read of a source by pieces, whose head stood at `old` before it and stands at `new` behind it.
-module _ (before after : Head) (old new : Stand) (is_open : IsOpen before) (is_after : after ≡ head_at new.stage)
-    (raw : List ℕ) (stand : new ≡ taken old raw) where
+module _ (before after : Head) (old new : Stand) (is_open : IsOpen before) (is_after : after ≡ head_at new.stage) (raw : List ℕ) (stand : new ≡ taken old raw) where
   stand_is : (x y : Stream) → Took raw x y → old ≡ taken fresh x.taken → new ≡ taken fresh y.taken
   stand_is x y took e = stand ∙ ap (λ (s : Stand). taken s raw) e ∙ sym (taken_both fresh x.taken raw) ∙ ap (λ l. taken fresh l) (sym took)
 
@@ -172,9 +171,7 @@ pub reads : (step : HeadStep) (buffer : List ℕ) (before after : Head) (old new
     → Gives step buffer old new c d
     → Reads (answer_of step) buffer (content_by before old c) (content_by after new d)
 reads (steps.Got n) buffer before after old new c d is_open is_after g =
-    told (Passes g.raw) (Passes (take n buffer)) before after old new c d
-    (got before after old new is_open is_after g.raw g.stand (take n buffer) g.handed)
-    g.moved
+    told (Passes g.raw) (Passes (take n buffer)) before after old new c d (got before after old new is_open is_after g.raw g.stand (take n buffer) g.handed) g.moved
 reads steps.Bad buffer before after old new c d is_open is_after g =
     told (Passes g.raw) MayLose before after old new c d (bad before after old new is_open is_after g.raw g.stand g.handed) g.moved
 reads steps.End buffer before after old new c d is_open is_after g =

@@ -2,7 +2,7 @@
 use Rattle.std.proofs.Common.{◌≡◌, ◌≢◌, ℕ, List, [], ◌++◌, Option, Some, None, refl, sym, ap, ◌∙◌, append_assoc}
 use Rattle.std.proofs.lemmas.List.{append-nil}
 use Rattle.gps_outside.specs.Told.{Stream, Goes, Stays, Passes, IsAtEnd, MayLose}
-use Rattle.gps_outside.specs.Turns.{TakesAll, TakesSome}
+use Rattle.gps_outside.specs.ReadSteps.{TakesAll, TakesSome}
 use Rattle.gps_outside.proofs.Going.{goes_as, goes_on}
 use Rattle.upstream_laws.specs.declared.stage.Stage.TheVariants.{Nowhere}
 use Rattle.upstream_laws.specs.Head.{Stand, taken, behind}
@@ -64,9 +64,7 @@ in_head old now new c d e first more = record {
   stage = more.stage;
 }
 
-pub gives_on : (s : HeadStep) (buffer : List ℕ) (old now new : Stand) (c d e : Option Stream)
-    → IsInHead old now c d → Gives s buffer now new d e
-    → Gives s buffer old new c e
+pub gives_on : (s : HeadStep) (buffer : List ℕ) (old now new : Stand) (c d e : Option Stream) → IsInHead old now c d → Gives s buffer now new d e → Gives s buffer old new c e
 gives_on s buffer old now new c d e first more = record {
   raw = first.raw ++ more.raw;
   moved = goes_on (Passes first.raw) (Moves s more.raw) (Moves s (first.raw ++ more.raw)) c d e (moves_both s first.raw more.raw) first.moved more.moved;

@@ -1,4 +1,4 @@
--- What one read of another daemon does, and the causes of its answers. This project's own.
+-- What one read of another daemon does, and the causes of its answers.
 use Rattle.std.specs.Prelude.{◌≡◌, ◌≢◌, ◌≤◌, ◌⊎◌, ℕ, List, [], ◌++◌, take, Option, Some}
 use Rattle.gps_outside.specs.declared.source.ReadStep.{ReadStep}
 use Rattle.gps_outside.specs.declared.source.ReadStep.TheVariants as answers

@@ -1,7 +1,7 @@
--- What the reading of a head, and of what stands behind it, says of the bytes that it takes from its source. This project's own.
+-- What the reading of a head, and of what stands behind it, says of the bytes that it takes from its source.
 use Rattle.std.specs.Prelude.{◌≡◌, ◌≢◌, ℕ, ◌<◌, ◌≤◌, List, [], take, Option}
 use Rattle.gps_outside.specs.Told.{Stream, Goes, Passes}
-use Rattle.gps_outside.specs.Turns.{TakesAll, TakesSome}
+use Rattle.gps_outside.specs.ReadSteps.{TakesAll, TakesSome}
 use Rattle.upstream_laws.specs.declared.stage.Stage.{Stage}
 use Rattle.upstream_laws.specs.declared.stage.Stage.TheVariants.{Behind, Nowhere}
 use Rattle.upstream_laws.specs.Head.{Stand, taken, behind, most}

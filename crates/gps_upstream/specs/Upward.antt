@@ -1,4 +1,4 @@
--- Another daemon as a source: what is seen of it. This project's own.
+-- Another daemon as a source: what is seen of it.
 use Rattle.std.specs.Prelude.{◌≡◌, ℕ, ◌+◌, Bool, ◌&&◌, ◌==◌, true, false, List, [], Option, Some, None, if◌then◌else◌}
 use Rattle.std.specs.Str.{bytes_eq}
 use Rattle.gps_outside.specs.Told.{Stream}

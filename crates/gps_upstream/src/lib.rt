@@ -9,8 +9,6 @@ mod begin;
 mod cutter;
 mod head;
 mod reading;
-#[cfg(test)]
-mod tests;
 mod upstream;
 
 pub use head::Head;

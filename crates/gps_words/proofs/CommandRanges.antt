@@ -15,8 +15,8 @@ use Rattle.gps_words.specs.Replay.{queue_in, replay_app, replay_in, replay_of}
 use Rattle.gps_words.specs.Within.{IsHistory, IsInRange, IsQueue}
 use Rattle.gps_words.specs.declared.choice.Kind.{Kind}
 use Rattle.gps_words.specs.declared.choice.Kind.TheVariants as kind
-use Rattle.gps_words.specs.declared.command.Command.{Command}
-use Rattle.gps_words.specs.declared.command.Command.TheVariants.{Decode, Pseudo, Replay, Generate, Lines}
+use Rattle.gps_words.specs.declared.command.CommandLine.{CommandLine}
+use Rattle.gps_words.specs.declared.command.CommandLine.TheVariants.{Decode, Pseudo, Replay, Generate, Lines}
 use Rattle.gps_words.proofs.Within.{chosen, chosen_some, number_range}
 
 some_is : {X : Type 0} (x y : X) → Some x ≡ Some y → x ≡ y
@@ -38,43 +38,43 @@ size_range (Some text) n is =
     (omega (arith, leb-true 1 m q.1, c.1), omega (arith, leb-true m 10_000 p.1, c.1))
 
 -- a command of one number, or of two
-by_one : (make : ℕ → Command) (o : Option ℕ) (c : Command) → ((n : ℕ) → o ≡ Some n → IsInRange (make n)) → option_map make o ≡ Some c → IsInRange c
+by_one : (make : ℕ → CommandLine) (o : Option ℕ) (c : CommandLine) → ((n : ℕ) → o ≡ Some n → IsInRange (make n)) → option_map make o ≡ Some c → IsInRange c
 by_one make None c range is = absurd (cc)
 by_one make (Some n) c range is = subst (λ d. IsInRange d) (some_is (make n) c is) (range n refl)
 
-by_two : (make : ℕ → ℕ → Command) (o p : Option ℕ) (c : Command) → ((n m : ℕ) → o ≡ Some n → p ≡ Some m → IsInRange (make n m))
+by_two : (make : ℕ → ℕ → CommandLine) (o p : Option ℕ) (c : CommandLine) → ((n m : ℕ) → o ≡ Some n → p ≡ Some m → IsInRange (make n m))
     → option_and_then (λ n. option_map (λ m. make n m) p) o ≡ Some c → IsInRange c
 by_two make None p c range is = absurd (cc)
 by_two make (Some n) None c range is = absurd (cc)
 by_two make (Some n) (Some m) c range is = subst (λ d. IsInRange d) (some_is (make n m) c is) (range n m refl refl)
 
-read : (app : App) (reads : List Row → Option Command) (words : List Text) (c : Command) → ((rows : List Row) → reads rows ≡ Some c → IsInRange c)
+read : (app : App) (reads : List Row → Option CommandLine) (words : List Text) (c : CommandLine) → ((rows : List Row) → reads rows ≡ Some c → IsInRange c)
     → read_by app reads words ≡ Some c → IsInRange c
 unfolding read_by
 read app reads words c range is = range (matches_of app words) (chosen_some (are_taken app words) (reads (matches_of app words)) c is)
 
-decoded : (words : List Text) (c : Command) → decode_of words ≡ Some c → IsInRange c
+decoded : (words : List Text) (c : CommandLine) → decode_of words ≡ Some c → IsInRange c
 decoded words c is = read decode_app decode_in words c (λ rows at. by_one (λ h. Decode h) (history_in rows) c (history_range rows) at) is
 
-pseudo_done : (words : List Text) (c : Command) → pseudo_of words ≡ Some c → IsInRange c
+pseudo_done : (words : List Text) (c : CommandLine) → pseudo_of words ≡ Some c → IsInRange c
 pseudo_done words c is = read pseudo_app pseudo_in words c (λ rows at. by_one (λ h. Pseudo h) (history_in rows) c (history_range rows) at) is
 
-replayed : (words : List Text) (c : Command) → replay_of words ≡ Some c → IsInRange c
+replayed : (words : List Text) (c : CommandLine) → replay_of words ≡ Some c → IsInRange c
 unfolding replay_in
 replayed words c is =
     read replay_app replay_in words c
     (λ rows at. by_two (λ h q. Replay h q) (history_in rows) (queue_in rows) c (λ h q f g. (history_range rows h f, queue_range rows q g)) at) is
 
-generated : (words : List Text) (c : Command) → generate_of words ≡ Some c → IsInRange c
+generated : (words : List Text) (c : CommandLine) → generate_of words ≡ Some c → IsInRange c
 unfolding generate_in
 generated words c is =
     read generate_app generate_in words c
     (λ rows at. by_two (λ s n. Generate s n) (seed_in rows) (size_in rows) c (λ s n f g. size_range (first_of (codes "size") rows) n g) at) is
 
-counted : (words : List Text) (c : Command) → lines_of words ≡ Some c → IsInRange c
+counted : (words : List Text) (c : CommandLine) → lines_of words ≡ Some c → IsInRange c
 counted words c is = read lines_app lines_in words c (λ rows at. subst (λ d. IsInRange d) (some_is Lines c at) tt) is
 
-by_kind : (k : Option Kind) (words : List Text) (c : Command) → read_as k words ≡ Some c → IsInRange c
+by_kind : (k : Option Kind) (words : List Text) (c : CommandLine) → read_as k words ≡ Some c → IsInRange c
 by_kind None words c is = absurd (cc)
 by_kind (Some kind.Decode) words c is = decoded words c is
 by_kind (Some kind.Pseudo) words c is = pseudo_done words c is
@@ -82,6 +82,6 @@ by_kind (Some kind.Replay) words c is = replayed words c is
 by_kind (Some kind.Generate) words c is = generated words c is
 by_kind (Some kind.Lines) words c is = counted words c is
 
-pub in_range : (words : List Text) (c : Command) → asked_of words ≡ Some c → IsInRange c
+pub in_range : (words : List Text) (c : CommandLine) → asked_of words ≡ Some c → IsInRange c
 in_range [] c is = absurd (cc)
 in_range (word ∷ words) c is = by_kind (kind_named word) (word ∷ words) c is

@@ -12,12 +12,12 @@ use Rattle.gps_words.specs.Generate.{generate_in}
 use Rattle.gps_words.specs.Options.{read_by}
 use Rattle.gps_words.specs.Replay.{replay_in}
 use Rattle.gps_words.specs.Serve.{Serve, numbers_in, serve_asked_of, serve_in}
-use Rattle.gps_words.specs.declared.command.Command.{Command}
-use Rattle.gps_words.specs.declared.command.Command.TheVariants.{Decode, Generate, Lines, Replay}
+use Rattle.gps_words.specs.declared.command.CommandLine.{CommandLine}
+use Rattle.gps_words.specs.declared.command.CommandLine.TheVariants.{Decode, Generate, Lines, Replay}
 use Rattle.gps_words.specs.declared.device.Input.TheVariants.{File, Tcp, Gpsd}
 use Rattle.gps_words.specs.declared.serve.ServeNumbers.{ServeNumbers}
 
-abbrev decode_with : List Text → Option Command
+abbrev decode_with : List Text → Option CommandLine
 decode_with words = asked_of (codes "decode" ∷ words)
 
 no_word : asked_of [] ≡ None

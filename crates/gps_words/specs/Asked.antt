@@ -1,6 +1,5 @@
 -- What the words ask for, without the program's name: the first chooses the command, which reads them all.
--- No answer where the first is no command or is missing, where clap finds a fault, or where a number is none. This
--- project's own.
+-- No answer where the first is no command or is missing, where clap finds a fault, or where a number is none.
 use Rattle.std.specs.Prelude.{List, [], ◌∷◌, Option, Some, None, codes, if◌then◌else◌}
 use Rattle.std.specs.Str.{bytes_eq}
 use Rattle.clap.specs.Walk.{Text}
@@ -11,7 +10,7 @@ use Rattle.gps_words.specs.Pseudo.{pseudo_of}
 use Rattle.gps_words.specs.Replay.{replay_of}
 use Rattle.gps_words.specs.declared.choice.Kind.{Kind}
 use Rattle.gps_words.specs.declared.choice.Kind.TheVariants as kind
-use Rattle.gps_words.specs.declared.command.Command.{Command}
+use Rattle.gps_words.specs.declared.command.CommandLine.{CommandLine}
 
 -- the commands by their names
 unfoldable pub kind_named : Text → Option Kind
@@ -23,7 +22,7 @@ kind_named word =
     else (if bytes_eq word (codes "lines") then Some kind.Lines
     else None))))
 
-abbrev pub read_as : Option Kind → List Text → Option Command
+abbrev pub read_as : Option Kind → List Text → Option CommandLine
 read_as None words = None
 read_as (Some kind.Decode) words = decode_of words
 read_as (Some kind.Pseudo) words = pseudo_of words
@@ -31,6 +30,6 @@ read_as (Some kind.Replay) words = replay_of words
 read_as (Some kind.Generate) words = generate_of words
 read_as (Some kind.Lines) words = lines_of words
 
-abbrev pub asked_of : List Text → Option Command
+abbrev pub asked_of : List Text → Option CommandLine
 asked_of [] = None
 asked_of (word ∷ words) = read_as (kind_named word) (word ∷ words)

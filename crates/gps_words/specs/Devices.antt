@@ -1,4 +1,4 @@
--- The device words of `serve`, and what they say together. This project's own.
+-- The device words of `serve`, and what they say together.
 use Rattle.std.specs.Prelude.{ℕ, ◌+◌, Bool, true, false, not, ◌&&◌, ◌==◌, List, [], ◌∷◌, length, map, take, drop, nat_eq, nat_lt, nat_le, position, codes, Option, Some, None, option_and_then, option_map, if◌then◌else◌}
 use Rattle.std.specs.List.{flat_map, list_all, list_any}
 use Rattle.std.specs.Cmp.Lexicographic.{pointwise}

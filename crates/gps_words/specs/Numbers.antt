@@ -1,4 +1,4 @@
--- The texts of numbers in the words of a command. This project's own.
+-- The texts of numbers in the words of a command.
 use Rattle.std.specs.Prelude.{ℕ, ◌+◌, ◌-◌, ◌*◌, Bool, ◌&&◌, List, [], ◌∷◌, Option, Some, None, length, nat_le, nat_lt, if◌then◌else◌}
 use Rattle.std.specs.List.{list_all}
 

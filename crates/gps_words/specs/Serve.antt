@@ -1,5 +1,5 @@
 -- What the words of `serve` ask for: `serve [--listen HOST:PORT] [--queue N] [--history N] [--wait N] [--monitor N] WORD ..`, with 1 to 16
--- device words among the options. This project's own.
+-- device words among the options.
 use Rattle.std.specs.Prelude.{ℕ, List, [], ◌∷◌, codes, Option, Some, None, option_and_then, option_map, unwrap_or, if◌then◌else◌}
 use Rattle.std.specs.Str.{bytes_eq}
 use Rattle.clap.specs.Simple.{App, with_rule}

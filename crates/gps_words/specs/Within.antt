@@ -1,8 +1,8 @@
--- The ranges of what the words ask for. This project's own.
+-- The ranges of what the words ask for.
 use Rattle.std.specs.Prelude.{◌≡◌, ℕ, ◌≤◌, length}
 use Rattle.gps_words.specs.Serve.{Serve}
-use Rattle.gps_words.specs.declared.command.Command.{Command}
-use Rattle.gps_words.specs.declared.command.Command.TheVariants.{Decode, Pseudo, Replay, Generate, Lines}
+use Rattle.gps_words.specs.declared.command.CommandLine.{CommandLine}
+use Rattle.gps_words.specs.declared.command.CommandLine.TheVariants.{Decode, Pseudo, Replay, Generate, Lines}
 
 -- one input and one place of edges, or none, for each device, and each number in its range
 pub record IsWithin (s : Serve) : Type 0 where
@@ -22,7 +22,7 @@ abbrev pub IsQueue : ℕ → Type 0
 IsQueue queue = (1 ≤ queue) × (queue ≤ 65_536)
 
 -- each number of a command lies in its range
-abbrev pub IsInRange : Command → Type 0
+abbrev pub IsInRange : CommandLine → Type 0
 IsInRange (Decode history) = IsHistory history
 IsInRange (Pseudo history) = IsHistory history
 IsInRange (Replay history queue) = IsHistory history × IsQueue queue

@@ -7,7 +7,7 @@ use crate::generate::generate;
 use crate::lines::lines;
 use crate::pseudo::pseudo;
 use crate::replay::replay;
-use crate::{Command, WordsFault};
+use crate::{CommandLine, WordsFault};
 use std::alloc::Global;
 
 /// The commands of a run.
@@ -40,7 +40,7 @@ fn kind_named(word: &str) -> Option<Kind>
     }
 }
 
-fn read(alloc: Global, words: &[String]) -> Result<Command, WordsFault>
+fn read(alloc: Global, words: &[String]) -> Result<CommandLine, WordsFault>
     ensures ok { IfOk result (λ command. asked_of (map string_bytes words.now) ≡ Some command) }
     ensures refused { result ≡ Err WordsFault.Refused → asked_of (map string_bytes words.now) ≡ None }
 {
@@ -59,7 +59,7 @@ fn read(alloc: Global, words: &[String]) -> Result<Command, WordsFault>
 
 /// The command that the words ask for. `Refused` comes exactly where there is none.
 #[tactic(auto, using(crate::proofs::CommandRanges::in_range))]
-pub fn asked(alloc: Global, words: &[String]) -> Result<Command, WordsFault>
+pub fn asked(alloc: Global, words: &[String]) -> Result<CommandLine, WordsFault>
     ensures ok { IfOk result (λ command. asked_of (map string_bytes words.now) ≡ Some command) }
     ensures range { IfOk result (λ command. IsInRange command) }
     ensures refused { result ≡ Err WordsFault.Refused → asked_of (map string_bytes words.now) ≡ None }

@@ -2,7 +2,7 @@ use std::alloc::AllocError;
 
 /// A command with its options.
 #[derive(Clone, Copy, Debug, PartialEq, Eq)]
-pub enum Command {
+pub enum CommandLine {
     /// Reads device bytes and writes JSON lines; `history` is how many bytes are read at most.
     Decode { history: u32 },
     /// Reads device bytes and writes the sentences of their fixes; `history` is how many bytes are read at most.

@@ -5,7 +5,7 @@ ghost use Rattle.gps_words.specs.Decode.{decode_app, decode_in, decode_of, histo
 
 use crate::numbers::number_given;
 use crate::options::{bare, matches_in, with_option};
-use crate::{Command, WordsFault};
+use crate::{CommandLine, WordsFault};
 use clap::ArgMatches;
 use std::alloc::{AllocError, Global};
 
@@ -24,16 +24,16 @@ fn command<'a>(alloc: Global) -> Result<clap::Command<'a>, AllocError>
     Ok(command)
 }
 
-fn decode_in(matches: &ArgMatches) -> Option<Command>
+fn decode_in(matches: &ArgMatches) -> Option<CommandLine>
     ensures { result ≡ decode_in (rows_of (found_of matches.now)) }
 {
     let history = history(matches)?;
-    Some(Command::Decode { history })
+    Some(CommandLine::Decode { history })
 }
 
 /// The words of `decode`, its name among them.
 #[tactic(auto, using(crate::proofs::Readings::read_is, crate::proofs::Readings::read_refused))]
-pub(crate) fn decode(alloc: Global, words: &[String]) -> Result<Command, WordsFault>
+pub(crate) fn decode(alloc: Global, words: &[String]) -> Result<CommandLine, WordsFault>
     ensures ok { IfOk result (λ command. decode_of (map string_bytes words.now) ≡ Some command) }
     ensures refused { result ≡ Err WordsFault.Refused → decode_of (map string_bytes words.now) ≡ None }
 {

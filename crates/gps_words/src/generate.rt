@@ -5,7 +5,7 @@ ghost use Rattle.gps_words.specs.Generate.{generate_app, generate_in, generate_o
 
 use crate::numbers::number_within;
 use crate::options::{bare, matches_in, with_option};
-use crate::{Command, WordsFault};
+use crate::{CommandLine, WordsFault};
 use clap::ArgMatches;
 use std::alloc::{AllocError, Global};
 
@@ -34,17 +34,17 @@ fn command<'a>(alloc: Global) -> Result<clap::Command<'a>, AllocError>
 }
 
 #[tactic(auto, unfolding(crate::specs::Generate::generate_in))]
-fn generate_in(matches: &ArgMatches) -> Option<Command>
+fn generate_in(matches: &ArgMatches) -> Option<CommandLine>
     ensures { result ≡ generate_in (rows_of (found_of matches.now)) }
 {
     let seed = seed(matches)?;
     let size = size(matches)?;
-    Some(Command::Generate { seed, size })
+    Some(CommandLine::Generate { seed, size })
 }
 
 /// The words of `generate`, its name among them.
 #[tactic(auto, using(crate::proofs::Readings::read_is, crate::proofs::Readings::read_refused))]
-pub(crate) fn generate(alloc: Global, words: &[String]) -> Result<Command, WordsFault>
+pub(crate) fn generate(alloc: Global, words: &[String]) -> Result<CommandLine, WordsFault>
     ensures ok { IfOk result (λ command. generate_of (map string_bytes words.now) ≡ Some command) }
     ensures refused { result ≡ Err WordsFault.Refused → generate_of (map string_bytes words.now) ≡ None }
 {

@@ -16,7 +16,7 @@ mod replay;
 mod serve;
 
 pub use choice::asked;
-pub use command::{Command, WordsFault};
+pub use command::{CommandLine, WordsFault};
 pub use device::{Input, is_address};
 pub use numbers::number_within;
 pub use serve::{ServeNumbers, ServeOptions, serve_asked};

@@ -5,7 +5,7 @@ ghost use Rattle.gps_words.specs.Pseudo.{pseudo_app, pseudo_in, pseudo_of};
 
 use crate::decode::history;
 use crate::options::{bare, matches_in, with_option};
-use crate::{Command, WordsFault};
+use crate::{CommandLine, WordsFault};
 use clap::ArgMatches;
 use std::alloc::{AllocError, Global};
 
@@ -16,16 +16,16 @@ fn command<'a>(alloc: Global) -> Result<clap::Command<'a>, AllocError>
     Ok(command)
 }
 
-fn pseudo_in(matches: &ArgMatches) -> Option<Command>
+fn pseudo_in(matches: &ArgMatches) -> Option<CommandLine>
     ensures { result ≡ pseudo_in (rows_of (found_of matches.now)) }
 {
     let history = history(matches)?;
-    Some(Command::Pseudo { history })
+    Some(CommandLine::Pseudo { history })
 }
 
 /// The words of `pseudo`, its name among them.
 #[tactic(auto, using(crate::proofs::Readings::read_is, crate::proofs::Readings::read_refused))]
-pub(crate) fn pseudo(alloc: Global, words: &[String]) -> Result<Command, WordsFault>
+pub(crate) fn pseudo(alloc: Global, words: &[String]) -> Result<CommandLine, WordsFault>
     ensures ok { IfOk result (λ command. pseudo_of (map string_bytes words.now) ≡ Some command) }
     ensures refused { result ≡ Err WordsFault.Refused → pseudo_of (map string_bytes words.now) ≡ None }
 {

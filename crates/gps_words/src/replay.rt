@@ -6,7 +6,7 @@ ghost use Rattle.gps_words.specs.Replay.{queue_in, replay_app, replay_in, replay
 use crate::decode::history;
 use crate::numbers::number_given;
 use crate::options::{bare, matches_in, with_option};
-use crate::{Command, WordsFault};
+use crate::{CommandLine, WordsFault};
 use clap::ArgMatches;
 use std::alloc::{AllocError, Global};
 
@@ -27,17 +27,17 @@ fn command<'a>(alloc: Global) -> Result<clap::Command<'a>, AllocError>
 }
 
 #[tactic(auto, unfolding(crate::specs::Replay::replay_in))]
-fn replay_in(matches: &ArgMatches) -> Option<Command>
+fn replay_in(matches: &ArgMatches) -> Option<CommandLine>
     ensures { result ≡ replay_in (rows_of (found_of matches.now)) }
 {
     let history = history(matches)?;
     let queue = queue(matches)?;
-    Some(Command::Replay { history, queue })
+    Some(CommandLine::Replay { history, queue })
 }
 
 /// The words of `replay`, its name among them.
 #[tactic(auto, using(crate::proofs::Readings::read_is, crate::proofs::Readings::read_refused))]
-pub(crate) fn replay(alloc: Global, words: &[String]) -> Result<Command, WordsFault>
+pub(crate) fn replay(alloc: Global, words: &[String]) -> Result<CommandLine, WordsFault>
     ensures ok { IfOk result (λ command. replay_of (map string_bytes words.now) ≡ Some command) }
     ensures refused { result ≡ Err WordsFault.Refused → replay_of (map string_bytes words.now) ≡ None }
 {

@@ -7,7 +7,7 @@ use Rattle.std.specs.Cmp.Lexicographic.{same_text}
 use Rattle.gps_outside.specs.Told.{Stream}
 use Rattle.gps_world.specs.declared.place.Place.{Place}
 use Rattle.gps_world.specs.declared.place.Place.TheVariants.{File, Tcp, Gpsd}
-use Rattle.gps_world.specs.Opening.{Holds}
+use Rattle.gps_world.specs.Opening.{IsAllLeft}
 use Rattle.gps_world.specs.Places.{same_place}
 use Rattle.gps_world.specs.MemoryWorlds.{source_at, without_first, differs, HaveSources, bytes_at}
 
@@ -26,24 +26,24 @@ apart : (one two three : Place) → three ≢ two → same_place one two ≡ tru
 apart one two three differ same true e = absurd (differ (sym (same_is one three e) ∙ same_is one two same))
 apart one two three differ same false e = refl
 
-held : (content : Option Stream) → IfSome content (λ (stream : Stream). stream.taken ≡ []) → Holds (option_map (λ (stream : Stream). stream.left) content) content
+held : (content : Option Stream) → IfSome content (λ (stream : Stream). stream.taken ≡ []) → IsAllLeft (option_map (λ (stream : Stream). stream.left) content) content
 held None nothing = tt
 held (Some stream) nothing = ap (λ (taken : List ℕ). Some (record { taken = taken; left = stream.left })) nothing
 
 module _ {I : Type 0} where
   -- what `take_first` gives and leaves, where k sources of other places stand before
-  abbrev pub Takes : Option I → List (Place × I) → List (Place × I) → ℕ → Place × I → Type 0
-  Takes source rest places k gave = (source ≡ Some gave.1) × (rest ≡ remove places k)
+  abbrev pub TakesFirst : Option I → List (Place × I) → List (Place × I) → ℕ → Place × I → Type 0
+  TakesFirst source rest places k gave = (source ≡ Some gave.1) × (rest ≡ remove places k)
 
   found_step : (same : Bool) (first : Place × I) (rest : List (Place × I)) (k next : ℕ) (source : Option I) (without : List (Place × I)) (gave : Place × I)
       → next ≡ suc k
-      → (k < length rest → gave ≡ slice_index_or rest k gave → Takes source without rest k gave)
+      → (k < length rest → gave ≡ slice_index_or rest k gave → TakesFirst source without rest k gave)
       → cond (not same) next 0 < length (first ∷ rest)
       → gave ≡ slice_index_or (first ∷ rest) (cond (not same) next 0) gave
-      → Takes (if same then Some first.1 else source) (if same then rest else first ∷ without) (first ∷ rest) (cond (not same) next 0) gave
+      → TakesFirst (if same then Some first.1 else source) (if same then rest else first ∷ without) (first ∷ rest) (cond (not same) next 0) gave
   found_step true first rest k next source without gave e on less is = (ap (λ (p : Place × I). Some p.1) (sym is), refl)
   found_step false first rest k next source without gave e on less is =
-      let h : Takes source without rest k gave = on (omega (arith, less, e)) (is ∙ ap (λ n. slice_index_or (first ∷ rest) n gave) e) in
+      let h : TakesFirst source without rest k gave = on (omega (arith, less, e)) (is ∙ ap (λ n. slice_index_or (first ∷ rest) n gave) e) in
       (h.0, ap (λ l. first ∷ l) h.1 ∙ ap (λ n. remove (first ∷ rest) n) (sym e))
 
   missing_step : (same : Bool) (first : Place × I) (rest : List (Place × I)) (k next : ℕ) (source : Option I) (without : List (Place × I))
@@ -59,7 +59,7 @@ module _ {I : Type 0} where
   pub found_takes : (place : Place) (places : List (Place × I)) (gave : Place × I)
       → prefix_len (differs place) places < length places
       → gave ≡ slice_index_or places (prefix_len (differs place) places) gave
-      → Takes (source_at place places) (without_first place places) places (prefix_len (differs place) places) gave
+      → TakesFirst (source_at place places) (without_first place places) places (prefix_len (differs place) places) gave
   unfolding source_at without_first
   found_takes place [] gave less is = absurd (omega (arith, less))
   found_takes place (first ∷ rest) gave less is =
@@ -124,6 +124,6 @@ module _ {I : Type 0} where
   pub holds_all : (content : I → Option Stream) (place : Place) (places : List (Place × I)) (source : I)
       → source_at place places ≡ Some source
       → IfSome (content source) (λ (stream : Stream). stream.taken ≡ [])
-      → Holds (bytes_at content places place) (content source)
+      → IsAllLeft (bytes_at content places place) (content source)
   holds_all content place places source is nothing =
       rw is (held (content source) nothing)

@@ -1,4 +1,4 @@
--- What a world was asked. This project's own.
+-- What a world was asked.
 use Rattle.std.specs.Prelude.{ℕ, List, [], ◌∷◌, ◌++◌, Option, Some, None}
 use Rattle.gps_world.specs.declared.place.Place.{Place}
 

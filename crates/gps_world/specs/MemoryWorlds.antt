@@ -1,4 +1,4 @@
--- A world in memory: what it still holds. This project's own.
+-- A world in memory: what it still holds.
 use Rattle.std.specs.Prelude.{◌≡◌, ℕ, Bool, not, List, [], ◌∷◌, if◌then◌else◌, Option, Some, None, option_map}
 use Rattle.std.specs.Option.{option_and_then}
 use Rattle.gps_fixed.specs.Moment.{Moment}

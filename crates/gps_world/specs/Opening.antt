@@ -1,4 +1,4 @@
--- What a world gives, and what it told of it before. This project's own.
+-- What a world gives, and what it told of it before.
 use Rattle.std.specs.Prelude.{◌≡◌, ℕ, List, [], Option, Some, None}
 use Rattle.gps_outside.specs.Told.{Stream}
 use Rattle.gps_world.specs.declared.world.Opened.{Opened}
@@ -15,6 +15,6 @@ Tells None shown = Unit {0}
 Tells (Some x) shown = shown ≡ Some x
 
 -- where the bytes behind a place were told, they are all left in the source
-abbrev pub Holds : Option (List ℕ) → Option Stream → Type 0
-Holds None content = Unit {0}
-Holds (Some bytes) content = content ≡ Some (record { taken = []; left = bytes })
+abbrev pub IsAllLeft : Option (List ℕ) → Option Stream → Type 0
+IsAllLeft None content = Unit {0}
+IsAllLeft (Some bytes) content = content ≡ Some (record { taken = []; left = bytes })

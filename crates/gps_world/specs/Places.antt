@@ -1,4 +1,4 @@
--- When two places are the same. This project's own.
+-- When two places are the same.
 use Rattle.std.specs.Prelude.{Bool, false, nat_eq}
 use Rattle.std.specs.Cmp.Lexicographic.{pointwise}
 use Rattle.gps_world.specs.declared.place.Place.{Place}

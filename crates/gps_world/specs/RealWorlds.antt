@@ -1,4 +1,4 @@
--- What contracts see of the real world. This project's own.
+-- What contracts see of the real world.
 use Rattle.std.specs.Prelude.{ℕ}
 use Rattle.gps_world.specs.Asking.{Asking}
 

@@ -121,7 +121,7 @@ impl<I: Source + Send, K: Sink + Send> World for MemoryWorld<I, K> {
     ghost use Rattle.gps_world.specs.declared.place.Place.{Place};
     ghost use Rattle.gps_world.specs.declared.world.Opened.{Opened};
     ghost use Rattle.gps_world.specs.Asking.{asked_for, listened_to};
-    ghost use Rattle.gps_world.specs.Opening.{IfReady, Holds, Tells};
+    ghost use Rattle.gps_world.specs.Opening.{IfReady, IsAllLeft, Tells};
     ghost use Rattle.gps_world.specs.MemoryWorlds.{source_at, opened_of, after_input, after_listen, after_clock, bytes_at, links_in};
 
     type In = I;
@@ -148,7 +148,7 @@ impl<I: Source + Send, K: Sink + Send> World for MemoryWorld<I, K> {
         requires { length self.old.asked.places < 16 }
         ensures asked { self.new.asked ≡ asked_for place self.old.asked }
         ensures unread { IfReady result (λ source. IsUnread (I.content source) (I.faults source) (I.quiets source)) }
-        ensures bytes { IfReady result (λ source. Holds (bytes_at I.content self.old.places place) (I.content source)) }
+        ensures bytes { IfReady result (λ source. IsAllLeft (bytes_at I.content self.old.places place) (I.content source)) }
         ensures failed { result ≡ Opened.Failed → Rose self.old.input_faults self.new.input_faults }
         ensures faults_stay { self.old.input_faults ≤ self.new.input_faults }
         ensures listen_faults { self.new.listen_faults ≡ self.old.listen_faults }

@@ -19,7 +19,7 @@ pub trait World: Drop {
     ghost use Rattle.gps_world.specs.declared.place.Place.{Place};
     ghost use Rattle.gps_world.specs.declared.world.Opened.{Opened};
     ghost use Rattle.gps_world.specs.Asking.{Asking, asked_for, listened_to};
-    ghost use Rattle.gps_world.specs.Opening.{IfReady, Holds, Tells};
+    ghost use Rattle.gps_world.specs.Opening.{IfReady, IsAllLeft, Tells};
 
     type In: Source + Send;
 
@@ -52,7 +52,7 @@ pub trait World: Drop {
         requires { length (asked self.old).places < 16 }
         ensures asked { asked self.new ≡ asked_for place (asked self.old) }
         ensures unread { IfReady result (λ source. IsUnread (Self.In.content source) (Self.In.faults source) (Self.In.quiets source)) }
-        ensures bytes { IfReady result (λ source. Holds (behind self.old place) (Self.In.content source)) }
+        ensures bytes { IfReady result (λ source. IsAllLeft (behind self.old place) (Self.In.content source)) }
         ensures failed { result ≡ Opened.Failed → Rose (input_faults self.old) (input_faults self.new) }
         ensures faults_stay { input_faults self.old ≤ input_faults self.new }
         ensures listen_faults { listen_faults self.new ≡ listen_faults self.old }

@@ -3,12 +3,12 @@ use Rattle.std.proofs.Common.{◌≡◌, ℕ, List, [], Option, Some, None, ◌�
 use Rattle.gps_outside.specs.Counts.{Rose}
 use Rattle.gps_outside.specs.Told.{Stream}
 use Rattle.gps_outside.proofs.Writing.{appends_none, part_of}
-use Rattle.text_lines.specs.Lines.{lines as lines_in_text, open_line}
+use Rattle.line_cut.specs.Lines.{lines as lines_in_text, open_line}
 use Rattle.gps_outside.specs.Ticks.{Dial}
-use Rattle.gps_words.specs.declared.command.Command.{Command}
-use Rattle.gps_words.specs.declared.command.Command.TheVariants.{Decode, Pseudo, Replay, Generate, Lines}
-use Rattle.line_counts.specs.declared.outcome.Outcome.TheVariants as lines
-use Rattle.gpsrelay.specs.declared.outcome.Outcome.TheVariants.{NoMemory}
+use Rattle.gps_words.specs.declared.command.CommandLine.{CommandLine}
+use Rattle.gps_words.specs.declared.command.CommandLine.TheVariants.{Decode, Pseudo, Replay, Generate, Lines}
+use Rattle.class_counts.specs.declared.outcome.CountOutcome.TheVariants as lines
+use Rattle.gpsrelay.specs.declared.outcome.CommandOutcome.TheVariants.{NoMemory}
 use Rattle.gpsrelay.specs.Commands.{Does, EndsAt, IsWithinLimits, NothingFails}
 use Rattle.gpsrelay.specs.Outcomes.{HasReadCause}
 use Rattle.gpsrelay.specs.Texts.{line_of, sentences_of}
@@ -16,8 +16,8 @@ use Rattle.gpsrelay.proofs.Decoding as decoding
 use Rattle.gpsrelay.proofs.Statuses as device
 use Rattle.gpsrelay.proofs.LineStatuses as counted
 use Rattle.gpsrelay.proofs.PlayStatuses as played
-use Rattle.line_play.specs.declared.outcome.Outcome.TheVariants as play
-use Rattle.line_play.proofs.Complete.{completes as replays}
+use Rattle.line_player.specs.declared.outcome.PlayOutcome.TheVariants as play
+use Rattle.line_player.proofs.Complete.{completes as replays}
 use Rattle.gps_replay.specs.Replayed.{Replayed, most_bytes}
 use Rattle.gps_replay.specs.Run.{rules_of}
 use Rattle.gps_replay.proofs.Making.{nothing_played}
@@ -30,7 +30,7 @@ nothing_replayed queue source sink = record {
 }
 
 -- want of memory before anything is done
-pub nothing_done : (command : Command) (status : ℕ) → status ≡ 7 → (source : Option Stream) (faults quiets : ℕ) (clock : Option Dial) (sink : Option (List ℕ)) (sunk : ℕ)
+pub nothing_done : (command : CommandLine) (status : ℕ) → status ≡ 7 → (source : Option Stream) (faults quiets : ℕ) (clock : Option Dial) (sink : Option (List ℕ)) (sunk : ℕ)
     → Does command status source source faults faults quiets quiets clock clock sink sink sunk sunk
 nothing_done (Decode history) status is source faults quiets clock sink sunk = (NoMemory, is, tt, decoding.nothing_done line_of history source clock sink)
 nothing_done (Pseudo history) status is source faults quiets clock sink sunk = (NoMemory, is, tt, decoding.nothing_done sentences_of history source clock sink)
@@ -39,31 +39,31 @@ nothing_done (Generate seed size) status is source faults quiets clock sink sunk
 nothing_done Lines status is source faults quiets clock sink sunk = (lines.NoMemory, is, tt, counted.nothing_counted source sink, refl)
 
 module _ (status : ℕ) (source source' : Option Stream) (faults faults' quiets quiets' : ℕ) (clock clock' : Option Dial) (sink sink' : Option (List ℕ)) (sunk sunk' : ℕ) where
-  abbrev IsDone : Command → Type 0
+  abbrev IsDone : CommandLine → Type 0
   IsDone command = Does command status source source' faults faults' quiets quiets' clock clock' sink sink' sunk sunk'
 
-  pub not_refused : (command : Command) → IsDone command → status ≡ 2 → ⊥
+  pub not_refused : (command : CommandLine) → IsDone command → status ≡ 2 → ⊥
   not_refused (Decode history) done e = device.not_refused done.0 (sym done.1 ∙ e)
   not_refused (Pseudo history) done e = device.not_refused done.0 (sym done.1 ∙ e)
   not_refused (Replay history queue) done e = played.not_refused done.0 (sym done.1 ∙ e)
   not_refused (Generate seed size) done e = played.not_refused done.0 (sym done.1 ∙ e)
   not_refused Lines done e = counted.not_refused done.0 (sym done.1 ∙ e)
 
-  read_cause : (command : Command) → IsDone command → status ≡ 3 → HasReadCause faults faults' quiets quiets'
+  read_cause : (command : CommandLine) → IsDone command → status ≡ 3 → HasReadCause faults faults' quiets quiets'
   read_cause (Decode history) done e = device.read_cause done.0 faults faults' quiets quiets' sunk sunk' done.2 (sym done.1 ∙ e)
   read_cause (Pseudo history) done e = device.read_cause done.0 faults faults' quiets quiets' sunk sunk' done.2 (sym done.1 ∙ e)
   read_cause (Replay history queue) done e = played.read_cause done.0 faults faults' quiets quiets' sunk sunk' done.2 (sym done.1 ∙ e)
   read_cause (Generate seed size) done e = absurd (played.made_no_read_fault done.0 sunk sunk' done.2 (sym done.1 ∙ e))
   read_cause Lines done e = counted.read_cause done.0 faults faults' quiets quiets' sunk sunk' done.2 (sym done.1 ∙ e)
 
-  write_cause : (command : Command) → IsDone command → status ≡ 4 → Rose sunk sunk'
+  write_cause : (command : CommandLine) → IsDone command → status ≡ 4 → Rose sunk sunk'
   write_cause (Decode history) done e = device.write_cause done.0 faults faults' quiets quiets' sunk sunk' done.2 (sym done.1 ∙ e)
   write_cause (Pseudo history) done e = device.write_cause done.0 faults faults' quiets quiets' sunk sunk' done.2 (sym done.1 ∙ e)
   write_cause (Replay history queue) done e = played.write_cause done.0 faults faults' quiets quiets' sunk sunk' done.2 (sym done.1 ∙ e)
   write_cause (Generate seed size) done e = played.made_write_cause done.0 sunk sunk' done.2 (sym done.1 ∙ e)
   write_cause Lines done e = counted.write_cause done.0 faults faults' quiets quiets' sunk sunk' done.2 (sym done.1 ∙ e)
 
-  pub ends : (command : Command) → IsDone command → NothingFails faults faults' quiets quiets' sunk sunk' → EndsAt command status
+  pub ends : (command : CommandLine) → IsDone command → NothingFails faults faults' quiets quiets' sunk sunk' → EndsAt command status
   ends (Decode history) done sound =
       subst (λ s. EndsAt (Decode history) s) (sym done.1) (device.ends_by_itself done.0 faults faults' quiets quiets' sunk sunk' done.2 sound.0 sound.1 sound.2)
   ends (Pseudo history) done sound =
@@ -75,7 +75,7 @@ module _ (status : ℕ) (source source' : Option Stream) (faults faults' quiets 
   ends Lines done sound =
       subst (λ s. EndsAt Lines s) (sym done.1) (counted.ends_by_itself done.0 faults faults' quiets quiets' sunk sunk' done.2 sound.0 sound.1 sound.2)
 
-  pub completes : (command : Command) → IsDone command → IsWithinLimits command source → NothingFails faults faults' quiets quiets' sunk sunk'
+  pub completes : (command : CommandLine) → IsDone command → IsWithinLimits command source → NothingFails faults faults' quiets quiets' sunk sunk'
       → (status ≡ 0) ⊎ (status ≡ 7)
   completes (Decode history) done within sound =
       subst (λ s. (s ≡ 0) ⊎ (s ≡ 7)) (sym done.1)
@@ -92,12 +92,12 @@ module _ (status : ℕ) (source source' : Option Stream) (faults faults' quiets 
       (counted.completes done.0 source source' sink sink' faults faults' quiets quiets' sunk sunk' done.3 done.2 within sound.0 sound.1 sound.2)
 
   -- for words that may ask for none
-  pub read_fault : (asked : Option Command) → (asked ≡ None → (status ≡ 2) ⊎ (status ≡ 7)) → ((command : Command) → asked ≡ Some command → IsDone command)
+  pub read_fault : (asked : Option CommandLine) → (asked ≡ None → (status ≡ 2) ⊎ (status ≡ 7)) → ((command : CommandLine) → asked ≡ Some command → IsDone command)
       → status ≡ 3 → HasReadCause faults faults' quiets quiets'
   read_fault None only does e = elim (only refl) [ inl two ↦ absurd (omega (arith, two, e)) | inr seven ↦ absurd (omega (arith, seven, e)) ]
   read_fault (Some command) only does e = read_cause command (does command refl) e
 
-  pub write_fault : (asked : Option Command) → (asked ≡ None → (status ≡ 2) ⊎ (status ≡ 7)) → ((command : Command) → asked ≡ Some command → IsDone command)
+  pub write_fault : (asked : Option CommandLine) → (asked ≡ None → (status ≡ 2) ⊎ (status ≡ 7)) → ((command : CommandLine) → asked ≡ Some command → IsDone command)
       → status ≡ 4 → Rose sunk sunk'
   write_fault None only does e = elim (only refl) [ inl two ↦ absurd (omega (arith, two, e)) | inr seven ↦ absurd (omega (arith, seven, e)) ]
   write_fault (Some command) only does e = write_cause command (does command refl) e

@@ -1,5 +1,6 @@
--- The reading of `decode`, turn by turn, and how it ends.
-use Rattle.std.proofs.Common.{◌≡◌, ℕ, ◌≤◌, ◌⊎◌, inl, inr, List, [], ◌∷◌, ◌++◌, length, take, Option, Some, None, Result, Ok, Err, refl, sym, ◌∙◌, ap, subst, arith}
+-- The reading of `decode`, step by step, and how it ends.
+use Rattle.std.proofs.Common.{◌≡◌, ℕ, ◌≤◌, ◌⊎◌, inl, inr, false, true, List, [], ◌∷◌, ◌++◌, length, take, Option, Some, None, Result, Ok, Err, refl, sym, ◌∙◌, ap, subst, arith}
+use Rattle.std.proofs.lemmas.Bool.{false≢true}
 use Rattle.std.proofs.lemmas.List.{append-nil, map-append}
 use Rattle.std.proofs.lemmas.List.Concat.{flat_map-append}
 use Rattle.std.proofs.lemmas.Grind.{common_steps}
@@ -10,18 +11,18 @@ use Rattle.gps_outside.specs.Told.{Stream, Goes, Stays, Passes, Appends, Appends
 use Rattle.gps_outside.specs.Waiting.{Waits}
 use Rattle.gps_outside.specs.Ticks.{Dial, Gives, GivesAll}
 use Rattle.gps_outside.specs.Counts.{Rose}
-use Rattle.gps_outside.specs.Turns.{Budget, FitsRoom, Spends, Hands, HasTaken, TakesAll, TakesSome, PassesMore}
+use Rattle.gps_outside.specs.ReadSteps.{Budget, FitsRoom, Spends, Hands, HasTaken, TakesAll, TakesSome, PassesMore}
 use Rattle.gps_outside.specs.declared.intake.IntakeStep.TheVariants.{Piece, Quiet, Last, End, Failed, TooQuiet}
 use Rattle.gps_outside.proofs.Going.{goes_on}
 use Rattle.gps_outside.proofs.Dials.{gives_more}
-use Rattle.gps_outside.proofs.Writing.{begun as nothing_waits, appends_on, part_of, part_longer, waits_more, waits_on, waits_part, waits_all, waits_none, none_waits, appends_none}
-use Rattle.gps_outside.proofs.Turns.{taken_none, taken_piece, taken_quiet, ends_at_end, ends_full, ends_failed, ends_too_quiet}
+use Rattle.gps_outside.proofs.Writing.{begun as nothing_waits, part_of, part_longer, waits_more, waits_on, waits_part, waits_all, waits_none, none_waits, appends_none}
+use Rattle.gps_outside.proofs.ReadSteps.{taken_none, taken_piece, taken_quiet, ends_at_end, ends_full, ends_failed, ends_too_quiet}
 use Rattle.device_core.specs.Stream.{piece}
 use Rattle.device_core.specs.Reports.{reports_from, device_reports, device_close, Gains}
-use Rattle.device_core.specs.Standing.{Kept, StandsFor}
+use Rattle.device_core.specs.Standing.{DeviceKept, StandsFor}
 use Rattle.device_core.proofs.Streams.{reports-append}
-use Rattle.gpsrelay.specs.declared.outcome.Outcome.{Outcome}
-use Rattle.gpsrelay.specs.declared.outcome.Outcome.TheVariants.{Done, ReadFault, TooQuiet as QuietOutcome, WriteFault, Full, NoMemory}
+use Rattle.gpsrelay.specs.declared.outcome.CommandOutcome.{CommandOutcome}
+use Rattle.gpsrelay.specs.declared.outcome.CommandOutcome.TheVariants.{Done, ReadFault, TooQuiet as QuietOutcome, WriteFault, Full, NoMemory}
 use Rattle.gpsrelay.specs.declared.outcome.Fault.{Fault}
 use Rattle.gpsrelay.specs.declared.outcome.Fault.TheVariants.{Sink, NoMemory as NoMemoryFault}
 use Rattle.gpsrelay.specs.Outcomes.{outcome_of}
@@ -81,6 +82,11 @@ pub passes_none : (source : Option Stream) → Goes (Passes []) source source
 passes_none None = tt
 passes_none (Some stream) = record { next = refl; joins = sym (append-nil stream.taken) }
 
+-- a write of what waits that failed had something to write
+pub had_some : {A B C : Type 0} → A ⊎ B → (A → false ≡ true) → (B → C) → C
+had_some (inl a) none kept = absurd (false≢true (none a))
+had_some (inr b) none kept = kept b
+
 -- over what is written of a report
 module _ (says : Texts) where
   texts_join : (a b : List Body) → texts_of says (a ++ b) ≡ texts_of says a ++ texts_of says b
@@ -90,7 +96,7 @@ module _ (says : Texts) where
   texts_next stream more out gains = ap (texts_of says) gains ∙ texts_join (device_reports stream) out
 
   -- So far these readings were handed on, the device stands for their stream, and its lines were written but for those that wait.
-  pub record UnderWay (history : ℕ) (budget : Budget) (kept : Kept) (source source' : Option Stream) (quiets quiets' : ℕ) (clock clock' : Option Dial) (waits : List ℕ) (sink sink' : Option (List ℕ)) : Type 0 where
+  pub record UnderWay (history : ℕ) (budget : Budget) (kept : DeviceKept) (source source' : Option Stream) (quiets quiets' : ℕ) (clock clock' : Option Dial) (waits : List ℕ) (sink sink' : Option (List ℕ)) : Type 0 where
     pub readings : List Reading
     pub pieces : ArePieces readings
     pub taken : HasTaken history (bytes_of readings) budget source source' quiets quiets'
@@ -102,19 +108,19 @@ module _ (says : Texts) where
   unfolding reports_from
   no_texts = refl
 
-  pub begun : (history : ℕ) (budget : Budget) (kept : Kept) (source : Option Stream) (quiets : ℕ) (clock : Option Dial) (sink : Option (List ℕ))
-      → budget ≡ record { room = history; quiets = 0 } → StandsFor kept []
-      → UnderWay history budget kept source source quiets quiets clock clock [] sink sink
-  begun history budget kept source quiets clock sink new stands = record {
+  pub begun : (history : ℕ) (budget : Budget) (kept : DeviceKept) (source : Option Stream) (quiets : ℕ) (clock : Option Dial) (waits : List ℕ) (sink : Option (List ℕ))
+      → budget ≡ record { room = history; quiets = 0 } → StandsFor kept [] → waits ≡ []
+      → UnderWay history budget kept source source quiets quiets clock clock waits sink sink
+  begun history budget kept source quiets clock waits sink new stands none = record {
     readings = [];
     pieces = tt;
     taken = taken_none history budget source quiets new;
     stamps = no_stamps clock;
     stands = stands;
-    wrote = subst (λ l. Waits l [] sink sink) (sym no_texts) (nothing_waits [] sink);
+    wrote = subst (λ w. Waits (texts_so_far says []) w sink sink) (sym none) (subst (λ l. Waits l [] sink sink) (sym no_texts) (nothing_waits [] sink));
   }
 
-  pub after_piece : (n history : ℕ) (buf : List ℕ) (budget budget' : Budget) (kept kept' : Kept) (at : Moment)
+  pub after_piece : (n history : ℕ) (buf : List ℕ) (budget budget' : Budget) (kept kept' : DeviceKept) (at : Moment)
       (source now after : Option Stream) (quiets quiets' quiets'' : ℕ) (clock clock' clock'' : Option Dial) (waits waits' : List ℕ) (sink sink' sink'' : Option (List ℕ))
       → UnderWay history budget kept source now quiets quiets' clock clock' waits sink sink'
       → length buf ≡ 512 → FitsRoom (Piece n) (length buf) → Spends (Piece n) budget budget' → Hands (Piece n) buf now after → quiets' ≤ quiets''
@@ -137,7 +143,7 @@ module _ (says : Texts) where
             (waits_more (texts_so_far says s) waits (texts_of says h.1.0) sink sink' u.wrote) h.1.1.1));
       }
 
-  pub after_quiet : (history : ℕ) (buf : List ℕ) (budget budget' : Budget) (kept : Kept)
+  pub after_quiet : (history : ℕ) (buf : List ℕ) (budget budget' : Budget) (kept : DeviceKept)
       (source now after : Option Stream) (quiets quiets' quiets'' : ℕ) (clock clock' : Option Dial) (waits : List ℕ) (sink sink' : Option (List ℕ))
       → UnderWay history budget kept source now quiets quiets' clock clock' waits sink sink'
       → Spends Quiet budget budget' → Hands Quiet buf now after → Rose quiets' quiets''
@@ -152,7 +158,7 @@ module _ (says : Texts) where
   }
 
   -- where a fault ends the writing: the lines that were due have the written part at their beginning
-  broken_texts : (fault : Fault) (s more : List Symbol) (kept : Kept) (waits waits' : List ℕ) (sink sink' sink'' : Option (List ℕ))
+  broken_texts : (fault : Fault) (s more : List Symbol) (kept : DeviceKept) (waits waits' : List ℕ) (sink sink' sink'' : Option (List ℕ))
       → Waits (texts_so_far says s) waits sink sink' → HandsOn {X = Unit {0}} says (Err fault) s more kept waits waits' sink' sink''
       → Goes (AppendsPart (texts_so_far says (s ++ more))) sink sink''
   broken_texts Sink s more kept waits waits' sink sink' sink'' wrote h =
@@ -163,7 +169,7 @@ module _ (says : Texts) where
       subst (λ l. Goes (AppendsPart l) sink sink'') (sym (texts_next s more (reports_from s more) (reports-append [] s more)))
       (part_of (texts_so_far says s) (texts_of says (reports_from s more)) sink sink'' (waits_all (texts_so_far says s) waits sink sink' sink'' wrote h))
 
-  broken_so_far : (fault : Fault) (history : ℕ) (readings : List Reading) (at : Moment) (bytes : List ℕ) (kept : Kept)
+  broken_so_far : (fault : Fault) (history : ℕ) (readings : List Reading) (at : Moment) (bytes : List ℕ) (kept : DeviceKept)
       (source after : Option Stream) (waits waits' : List ℕ) (sink sink' sink'' : Option (List ℕ))
       → HasReadSoFar history (bytes_of readings ++ bytes) source after
       → Waits (texts_so_far says (stream_of readings)) waits sink sink'
@@ -177,7 +183,7 @@ module _ (says : Texts) where
       )
 
   -- a command that was broken off by a fault, with the readings up to it
-  broken_off : (fault : Fault) (history : ℕ) (readings : List Reading) (at : Moment) (bytes : List ℕ) (kept : Kept)
+  broken_off : (fault : Fault) (history : ℕ) (readings : List Reading) (at : Moment) (bytes : List ℕ) (kept : DeviceKept)
       (source after : Option Stream) (clock clock' clock'' : Option Dial) (waits waits' : List ℕ) (sink sink' sink'' : Option (List ℕ))
       → ArePieces (with_next readings at bytes) ⊎ PassHistory (with_next readings at bytes)
       → HasReadSoFar history (bytes_of readings ++ bytes) source after
@@ -198,13 +204,13 @@ module _ (says : Texts) where
     ends = broken_so_far NoMemoryFault history readings at bytes kept source after waits waits' sink sink' sink'' read wrote h;
   }
 
-  pub broken_in_piece : (n history : ℕ) (buf : List ℕ) (budget budget' : Budget) (kept kept' : Kept) (at : Moment) (fault : Fault)
+  pub broken_in_piece : (n history : ℕ) (buf : List ℕ) (budget budget' : Budget) (kept kept' : DeviceKept) (at : Moment) (fault : Fault)
       (source now after : Option Stream) (quiets quiets' quiets'' : ℕ) (clock clock' clock'' : Option Dial) (waits waits' : List ℕ) (sink sink' sink'' : Option (List ℕ))
       → UnderWay history budget kept source now quiets quiets' clock clock' waits sink sink'
       → length buf ≡ 512 → FitsRoom (Piece n) (length buf) → Spends (Piece n) budget budget' → Hands (Piece n) buf now after → quiets' ≤ quiets''
       → Goes (Gives at) clock' clock''
       → ((stream : List Symbol) → StandsFor kept stream → HandsOn {X = Unit {0}} says (Err fault) stream (piece at (take n buf)) kept' waits waits' sink' sink'')
-      → (outcome : Outcome) → outcome ≡ outcome_of fault
+      → (outcome : CommandOutcome) → outcome ≡ outcome_of fault
       → Decoded says outcome history source after clock clock'' sink sink''
   broken_in_piece n history buf budget budget' kept kept' at fault source now after quiets quiets' quiets'' clock clock' clock'' waits waits' sink sink' sink'' u long fits spent handed more given lines outcome is =
       let all : HasTaken history (bytes_of u.readings ++ take n buf) budget' source after quiets quiets'' =
@@ -214,13 +220,13 @@ module _ (says : Texts) where
       (inl (let r = all.room in omega arith, all.passed))
       u.stamps given u.wrote (lines (stream_of u.readings) u.stands))
 
-  pub broken_in_last : (n history : ℕ) (buf : List ℕ) (budget budget' : Budget) (kept kept' : Kept) (at : Moment) (fault : Fault)
+  pub broken_in_last : (n history : ℕ) (buf : List ℕ) (budget budget' : Budget) (kept kept' : DeviceKept) (at : Moment) (fault : Fault)
       (source now after : Option Stream) (quiets quiets' : ℕ) (clock clock' clock'' : Option Dial) (waits waits' : List ℕ) (sink sink' sink'' : Option (List ℕ))
       → UnderWay history budget kept source now quiets quiets' clock clock' waits sink sink'
       → length buf ≡ 512 → FitsRoom (Last n) (length buf) → Spends (Last n) budget budget' → Hands (Last n) buf now after
       → Goes (Gives at) clock' clock''
       → ((stream : List Symbol) → StandsFor kept stream → HandsOn {X = Unit {0}} says (Err fault) stream (piece at (take n buf)) kept' waits waits' sink' sink'')
-      → (outcome : Outcome) → outcome ≡ outcome_of fault
+      → (outcome : CommandOutcome) → outcome ≡ outcome_of fault
       → Decoded says outcome history source after clock clock'' sink sink''
   broken_in_last n history buf budget budget' kept kept' at fault source now after quiets quiets' clock clock' clock'' waits waits' sink sink' sink'' u long fits spent handed given lines outcome is =
       let all : (length (bytes_of u.readings ++ take n buf) ≡ history) × Goes (PassesMore (bytes_of u.readings ++ take n buf)) source after =
@@ -230,7 +236,7 @@ module _ (says : Texts) where
       (inr all)
       u.stamps given u.wrote (lines (stream_of u.readings) u.stands))
 
-  pub filled : (n history : ℕ) (buf : List ℕ) (budget budget' : Budget) (kept kept' : Kept) (at : Moment)
+  pub filled : (n history : ℕ) (buf : List ℕ) (budget budget' : Budget) (kept kept' : DeviceKept) (at : Moment)
       (source now after : Option Stream) (quiets quiets' : ℕ) (clock clock' clock'' : Option Dial) (waits : List ℕ) (sink sink' sink'' : Option (List ℕ))
       → UnderWay history budget kept source now quiets quiets' clock clock' waits sink sink'
       → length buf ≡ 512 → FitsRoom (Last n) (length buf) → Spends (Last n) budget budget' → Hands (Last n) buf now after
@@ -259,7 +265,7 @@ module _ (says : Texts) where
         );
       }
 
-  pub ended : (history : ℕ) (buf : List ℕ) (budget : Budget) (kept : Kept)
+  pub ended : (history : ℕ) (buf : List ℕ) (budget : Budget) (kept : DeviceKept)
       (source now after : Option Stream) (quiets quiets' : ℕ) (clock clock' : Option Dial) (waits : List ℕ) (sink sink' sink'' : Option (List ℕ))
       → UnderWay history budget kept source now quiets quiets' clock clock' waits sink sink'
       → Hands End buf now after
@@ -281,7 +287,7 @@ module _ (says : Texts) where
         );
       }
 
-  at_end_broken : (history : ℕ) (buf : List ℕ) (budget : Budget) (kept : Kept) (fault : Fault)
+  at_end_broken : (history : ℕ) (buf : List ℕ) (budget : Budget) (kept : DeviceKept) (fault : Fault)
       (source now after : Option Stream) (quiets quiets' : ℕ) (clock clock' : Option Dial) (waits : List ℕ) (sink sink' sink'' : Option (List ℕ))
       → UnderWay history budget kept source now quiets quiets' clock clock' waits sink sink'
       → Hands End buf now after
@@ -316,18 +322,18 @@ module _ (says : Texts) where
         );
       }
 
-  pub broken_at_end : (history : ℕ) (buf : List ℕ) (budget : Budget) (kept : Kept) (fault : Fault)
+  pub broken_at_end : (history : ℕ) (buf : List ℕ) (budget : Budget) (kept : DeviceKept) (fault : Fault)
       (source now after : Option Stream) (quiets quiets' : ℕ) (clock clock' : Option Dial) (waits : List ℕ) (sink sink' sink'' : Option (List ℕ))
       → UnderWay history budget kept source now quiets quiets' clock clock' waits sink sink'
       → Hands End buf now after
       → ((stream : List Symbol) → StandsFor kept stream → Written {X = Unit {0}} (Err fault) (texts_of says (device_close stream)) waits [] sink' sink'')
-      → (outcome : Outcome) → outcome ≡ outcome_of fault
+      → (outcome : CommandOutcome) → outcome ≡ outcome_of fault
       → Decoded says outcome history source after clock clock' sink sink''
   broken_at_end history buf budget kept fault source now after quiets quiets' clock clock' waits sink sink' sink'' u handed lines outcome is =
       subst (λ o. Decoded says o history source after clock clock' sink sink'') (sym is)
       (at_end_broken history buf budget kept fault source now after quiets quiets' clock clock' waits sink sink' sink'' u handed lines)
 
-  pub failed : (history : ℕ) (buf : List ℕ) (budget : Budget) (kept : Kept)
+  pub failed : (history : ℕ) (buf : List ℕ) (budget : Budget) (kept : DeviceKept)
       (source now after : Option Stream) (quiets quiets' : ℕ) (clock clock' : Option Dial) (waits : List ℕ) (sink sink' sink'' : Option (List ℕ))
       → UnderWay history budget kept source now quiets quiets' clock clock' waits sink sink'
       → Hands Failed buf now after
@@ -338,7 +344,7 @@ module _ (says : Texts) where
       ends_failed history (bytes_of u.readings) buf budget source now after quiets quiets' u.taken handed in
       record { readings = u.readings; reads = u.pieces; stamps = u.stamps; ends = (read.0, read.1, waits_all (texts_so_far says (stream_of u.readings)) waits sink sink' sink'' u.wrote flushed) }
 
-  pub too_quiet : (history : ℕ) (buf : List ℕ) (budget : Budget) (kept : Kept)
+  pub too_quiet : (history : ℕ) (buf : List ℕ) (budget : Budget) (kept : DeviceKept)
       (source now after : Option Stream) (quiets quiets' : ℕ) (clock clock' : Option Dial) (waits : List ℕ) (sink sink' sink'' : Option (List ℕ))
       → UnderWay history budget kept source now quiets quiets' clock clock' waits sink sink'
       → Hands TooQuiet buf now after
@@ -350,7 +356,7 @@ module _ (says : Texts) where
       record { readings = u.readings; reads = u.pieces; stamps = u.stamps; ends = (all.0, all.1, waits_all (texts_so_far says (stream_of u.readings)) waits sink sink' sink'' u.wrote flushed) }
 
   -- the sink failed before the next read
-  pub unsettled : (history : ℕ) (budget : Budget) (kept : Kept)
+  pub unsettled : (history : ℕ) (budget : Budget) (kept : DeviceKept)
       (source now : Option Stream) (quiets quiets' : ℕ) (clock clock' : Option Dial) (waits : List ℕ) (sink sink' sink'' : Option (List ℕ))
       → UnderWay history budget kept source now quiets quiets' clock clock' waits sink sink'
       → Goes (AppendsPart waits) sink' sink''
@@ -366,17 +372,22 @@ module _ (says : Texts) where
   }
 
   -- what waited was written before the next read, or goes on waiting
-  pub settled : (history : ℕ) (budget : Budget) (kept : Kept)
+  pub settled : (history : ℕ) (budget : Budget) (kept : DeviceKept)
       (source now : Option Stream) (quiets quiets' : ℕ) (clock clock' : Option Dial) (waits waits' : List ℕ) (sink sink' sink'' : Option (List ℕ))
       → UnderWay history budget kept source now quiets quiets' clock clock' waits sink sink'
       → Waits waits waits' sink' sink''
       → UnderWay history budget kept source now quiets quiets' clock clock' waits' sink sink''
-  settled history budget kept source now quiets quiets' clock clock' waits waits' sink sink' sink'' u wrote = record u {
+  settled history budget kept source now quiets quiets' clock clock' waits waits' sink sink' sink'' u wrote = record {
+    readings = u.readings;
+    pieces = u.pieces;
+    taken = u.taken;
+    stamps = u.stamps;
+    stands = u.stands;
     wrote = waits_on (texts_so_far says (stream_of u.readings)) waits waits' sink sink' sink'' u.wrote wrote;
   }
 
   -- the sink failed after a read that brought nothing and lost nothing
-  pub unwritten : (history : ℕ) (buf : List ℕ) (budget : Budget) (kept : Kept)
+  pub unwritten : (history : ℕ) (buf : List ℕ) (budget : Budget) (kept : DeviceKept)
       (source now after : Option Stream) (quiets quiets' : ℕ) (clock clock' : Option Dial) (waits : List ℕ) (sink sink' sink'' : Option (List ℕ))
       → UnderWay history budget kept source now quiets quiets' clock clock' waits sink sink'
       → Goes Stays now after
@@ -407,7 +418,7 @@ module _ (says : Texts) where
   }
 
   -- what the device gained was written or waits
-  pub handed_on : (result : Result (Unit {0}) Fault) (gained : List Body) (stream more : List Symbol) (kept : Kept) (waited waits : List ℕ) (before after : Option (List ℕ))
+  pub handed_on : (result : Result (Unit {0}) Fault) (gained : List Body) (stream more : List Symbol) (kept : DeviceKept) (waited waits : List ℕ) (before after : Option (List ℕ))
       → StandsFor kept (stream ++ more) → Gains stream more gained → Written result (texts_of says gained) waited waits before after
       → HandsOn says result stream more kept waited waits before after
   handed_on (Ok _) gained stream more kept waited waits before after stands gains wrote = (stands, (gained, (gains, wrote)))
@@ -415,20 +426,20 @@ module _ (says : Texts) where
   handed_on (Err NoMemoryFault) gained stream more kept waited waits before after stands gains wrote = wrote
 
   -- there was no memory for what the device gained
-  pub fed_none : (fault : Fault) (stream more : List Symbol) (kept : Kept) (waited waits : List ℕ) (before after : Option (List ℕ))
+  pub fed_none : (fault : Fault) (stream more : List Symbol) (kept : DeviceKept) (waited waits : List ℕ) (before after : Option (List ℕ))
       → GaveUp fault waited before after → HandsOn {X = Unit {0}} says (Err fault) stream more kept waited waits before after
   fed_none Sink stream more kept waited waits before after gave =
       (reports_from stream more, (reports-append [] stream more, part_longer waited (texts_of says (reports_from stream more)) before after gave))
   fed_none NoMemoryFault stream more kept waited waits before after gave = gave
 
   -- and at the last nothing waits
-  pub flushed : (stream more : List Symbol) (kept : Kept) (waited waits : List ℕ) (before now after : Option (List ℕ))
+  pub flushed : (stream more : List Symbol) (kept : DeviceKept) (waited waits : List ℕ) (before now after : Option (List ℕ))
       → HandsOn {X = Unit {0}} says (Ok tt) stream more kept waited waits before now → Goes (Appends waits) now after
       → HandsOn {X = Unit {0}} says (Ok tt) stream more kept waited [] before after
   flushed stream more kept waited waits before now after h wrote =
       (h.0, (h.1.0, (h.1.1.0, waits_none (waited ++ texts_of says h.1.0) before after (waits_all (waited ++ texts_of says h.1.0) waits before now after h.1.1.1 wrote))))
 
-  pub flushed_part : (stream more : List Symbol) (kept : Kept) (waited waits : List ℕ) (before now after : Option (List ℕ))
+  pub flushed_part : (stream more : List Symbol) (kept : DeviceKept) (waited waits : List ℕ) (before now after : Option (List ℕ))
       → HandsOn {X = Unit {0}} says (Ok tt) stream more kept waited waits before now → Goes (AppendsPart waits) now after
       → HandsOn {X = Unit {0}} says (Err Sink) stream more kept waited [] before after
   flushed_part stream more kept waited waits before now after h part =

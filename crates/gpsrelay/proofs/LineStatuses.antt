@@ -2,16 +2,16 @@
 use Rattle.std.proofs.Common.{◌≡◌, ℕ, List, [], Option, Some, None, ◌⊎◌, inl, inr, refl, arith}
 use Rattle.gps_outside.specs.Counts.{Rose, RoseBy}
 use Rattle.gps_outside.specs.Told.{Stream}
-use Rattle.line_counts.specs.declared.outcome.Outcome.{Outcome}
-use Rattle.line_counts.specs.declared.outcome.Outcome.TheVariants.{Done, ReadFault, TooQuiet, WriteFault, Full, BadLine, NoMemory}
-use Rattle.line_counts.specs.Outcomes.{status_of, HasCause}
-use Rattle.line_counts.specs.Counted.{Counted, IsWithin}
-use Rattle.line_counts.proofs.Within.{within}
+use Rattle.class_counts.specs.declared.outcome.CountOutcome.{CountOutcome}
+use Rattle.class_counts.specs.declared.outcome.CountOutcome.TheVariants.{Done, ReadFault, TooQuiet, WriteFault, Full, BadLine, NoMemory}
+use Rattle.class_counts.specs.Outcomes.{status_of, CountHasCause}
+use Rattle.class_counts.specs.Counted.{Counted, IsWithin}
+use Rattle.class_counts.proofs.Within.{within}
 use Rattle.gpsrelay.specs.Outcomes.{HasReadCause}
 use Rattle.gpsrelay.proofs.Decoding.{passes_none}
 
-pub read_cause : (outcome : Outcome) (faults faults' quiets quiets' sunk sunk' : ℕ)
-    → HasCause outcome faults faults' quiets quiets' sunk sunk' → status_of outcome ≡ 3 → HasReadCause faults faults' quiets quiets'
+pub read_cause : (outcome : CountOutcome) (faults faults' quiets quiets' sunk sunk' : ℕ)
+    → CountHasCause outcome faults faults' quiets quiets' sunk sunk' → status_of outcome ≡ 3 → HasReadCause faults faults' quiets quiets'
 read_cause Done faults faults' quiets quiets' sunk sunk' cause e = absurd (omega (arith, e))
 read_cause ReadFault faults faults' quiets quiets' sunk sunk' cause e = inl cause
 read_cause TooQuiet faults faults' quiets quiets' sunk sunk' cause e = inr cause
@@ -20,8 +20,8 @@ read_cause Full faults faults' quiets quiets' sunk sunk' cause e = absurd (omega
 read_cause BadLine faults faults' quiets quiets' sunk sunk' cause e = absurd (omega (arith, e))
 read_cause NoMemory faults faults' quiets quiets' sunk sunk' cause e = absurd (omega (arith, e))
 
-pub write_cause : (outcome : Outcome) (faults faults' quiets quiets' sunk sunk' : ℕ)
-    → HasCause outcome faults faults' quiets quiets' sunk sunk' → status_of outcome ≡ 4 → Rose sunk sunk'
+pub write_cause : (outcome : CountOutcome) (faults faults' quiets quiets' sunk sunk' : ℕ)
+    → CountHasCause outcome faults faults' quiets quiets' sunk sunk' → status_of outcome ≡ 4 → Rose sunk sunk'
 write_cause Done faults faults' quiets quiets' sunk sunk' cause e = absurd (omega (arith, e))
 write_cause ReadFault faults faults' quiets quiets' sunk sunk' cause e = absurd (omega (arith, e))
 write_cause TooQuiet faults faults' quiets quiets' sunk sunk' cause e = absurd (omega (arith, e))
@@ -30,7 +30,7 @@ write_cause Full faults faults' quiets quiets' sunk sunk' cause e = absurd (omeg
 write_cause BadLine faults faults' quiets quiets' sunk sunk' cause e = absurd (omega (arith, e))
 write_cause NoMemory faults faults' quiets quiets' sunk sunk' cause e = absurd (omega (arith, e))
 
-pub not_refused : (outcome : Outcome) → status_of outcome ≡ 2 → ⊥
+pub not_refused : (outcome : CountOutcome) → status_of outcome ≡ 2 → ⊥
 not_refused Done e = omega (arith, e)
 not_refused ReadFault e = omega (arith, e)
 not_refused TooQuiet e = omega (arith, e)
@@ -40,8 +40,8 @@ not_refused BadLine e = omega (arith, e)
 not_refused NoMemory e = omega (arith, e)
 
 -- where nothing outside failed
-pub ends_by_itself : (outcome : Outcome) (faults faults' quiets quiets' sunk sunk' : ℕ)
-    → HasCause outcome faults faults' quiets quiets' sunk sunk'
+pub ends_by_itself : (outcome : CountOutcome) (faults faults' quiets quiets' sunk sunk' : ℕ)
+    → CountHasCause outcome faults faults' quiets quiets' sunk sunk'
     → (Rose faults faults' → ⊥) → (RoseBy 1000 quiets quiets' → ⊥) → (Rose sunk sunk' → ⊥)
     → (status_of outcome ≡ 0) ⊎ ((status_of outcome ≡ 5) ⊎ ((status_of outcome ≡ 6) ⊎ (status_of outcome ≡ 7)))
 ends_by_itself Done faults faults' quiets quiets' sunk sunk' cause sound lively unbroken = inl refl
@@ -52,8 +52,8 @@ ends_by_itself Full faults faults' quiets quiets' sunk sunk' cause sound lively 
 ends_by_itself BadLine faults faults' quiets quiets' sunk sunk' cause sound lively unbroken = inr (inr (inl refl))
 ends_by_itself NoMemory faults faults' quiets quiets' sunk sunk' cause sound lively unbroken = inr (inr (inr refl))
 
-pub completes : (outcome : Outcome) (source source' : Option Stream) (sink sink' : Option (List ℕ)) (faults faults' quiets quiets' sunk sunk' : ℕ)
-    → Counted outcome source source' sink sink' → HasCause outcome faults faults' quiets quiets' sunk sunk'
+pub completes : (outcome : CountOutcome) (source source' : Option Stream) (sink sink' : Option (List ℕ)) (faults faults' quiets quiets' sunk sunk' : ℕ)
+    → Counted outcome source source' sink sink' → CountHasCause outcome faults faults' quiets quiets' sunk sunk'
     → IsWithin source → (Rose faults faults' → ⊥) → (RoseBy 1000 quiets quiets' → ⊥) → (Rose sunk sunk' → ⊥)
     → (status_of outcome ≡ 0) ⊎ (status_of outcome ≡ 7)
 completes Done source source' sink sink' faults faults' quiets quiets' sunk sunk' done cause inside sound lively unbroken = inl refl

@@ -4,10 +4,10 @@ use Rattle.std.specs.List.{AllZip}
 use Rattle.gps_words.specs.Serve.{Serve}
 use Rattle.gps_world.specs.Asking.{Asking, asked_nothing}
 use Rattle.gps_world.specs.declared.place.Place.{Place}
-use Rattle.serve_parts.specs.declared.done.DeviceDone.{DeviceDone}
-use Rattle.serve_settling.specs.Runs.{SourceFacts}
-use Rattle.gps_serve.specs.AtEnd.{BytesHeld, EdgesHeld, Told}
-use Rattle.serve_opening.specs.Opening.{AsksAll, AsksSome, GivenOnce, places_in}
+use Rattle.serve_end_parts.specs.declared.done.DeviceDone.{DeviceDone}
+use Rattle.serve_end_settling.specs.Runs.{SourceFacts}
+use Rattle.gps_serve.specs.AtEnd.{BytesHeld, EdgesHeld, DaemonSettings}
+use Rattle.world_opening.specs.Opening.{AsksAll, AsksSome, GivenOnce, places_in}
 use Rattle.gpsrelay.specs.Served.{AsksFor, AsksWhole, HaveEdges, HeldBehind, edge_place_of, place_of, places_of, told_by}
 
 -- a world that was not asked was asked for the first of any places
@@ -26,11 +26,11 @@ asks_for o s asked places listen is places_are listen_is asks =
     (subst (λ (l : List ℕ). AsksSome asked (places_of s) l) listen_is (subst (λ (p : List Place). AsksSome asked p listen) places_are asks))
 
 -- what holds of a book for what was told holds for the words
-pub told_for : {B : Type 0} (P : Told → B → Type 0) (o : Option Serve) (s : Serve) (told : Told) (book : Option B) → o ≡ Some s → told ≡ told_by s
+pub told_for : {B : Type 0} (P : DaemonSettings → B → Type 0) (o : Option Serve) (s : Serve) (told : DaemonSettings) (book : Option B) → o ≡ Some s → told ≡ told_by s
     → IfSome book (λ b. P told b) → IfSome book (λ b. IfSome o (λ t. P (told_by t) b))
 told_for P o s told None is same so = tt
 told_for P o s told (Some b) is same so =
-    subst (λ (x : Option Serve). IfSome x (λ t. P (told_by t) b)) (sym is) (subst (λ (t : Told). P t b) same so)
+    subst (λ (x : Option Serve). IfSome x (λ t. P (told_by t) b)) (sym is) (subst (λ (t : DaemonSettings). P t b) same so)
 
 -- what holds for the words that were read
 pub for_words : (P : Serve → Type 0) (o : Option Serve) (s : Serve) → o ≡ Some s → P s → IfSome o P

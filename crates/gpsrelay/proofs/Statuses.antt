@@ -3,16 +3,16 @@ use Rattle.std.proofs.Common.{◌≡◌, ℕ, ◌+◌, ◌<◌, List, ◌++◌, 
 use Rattle.gps_outside.specs.Counts.{Rose, RoseBy}
 use Rattle.gps_outside.specs.Told.{Stream, Goes}
 use Rattle.gps_outside.specs.Ticks.{Dial}
-use Rattle.gps_outside.specs.Turns.{PassesMore}
-use Rattle.gpsrelay.specs.declared.outcome.Outcome.{Outcome}
-use Rattle.gpsrelay.specs.declared.outcome.Outcome.TheVariants.{Done, ReadFault, TooQuiet, WriteFault, Full, NoMemory}
-use Rattle.gpsrelay.specs.Outcomes.{status_of, HasCause, HasReadCause}
+use Rattle.gps_outside.specs.ReadSteps.{PassesMore}
+use Rattle.gpsrelay.specs.declared.outcome.CommandOutcome.{CommandOutcome}
+use Rattle.gpsrelay.specs.declared.outcome.CommandOutcome.TheVariants.{Done, ReadFault, TooQuiet, WriteFault, Full, NoMemory}
+use Rattle.gpsrelay.specs.Outcomes.{status_of, CommandHasCause, HasReadCause}
 use Rattle.gpsrelay.specs.Decode.{Decoded, IsWithin}
 use Rattle.gpsrelay.specs.Readings.{bytes_of}
 use Rattle.gpsrelay.specs.Texts.{Texts}
 
-pub read_cause : (outcome : Outcome) (faults faults' quiets quiets' sunk sunk' : ℕ)
-    → HasCause outcome faults faults' quiets quiets' sunk sunk' → status_of outcome ≡ 3 → HasReadCause faults faults' quiets quiets'
+pub read_cause : (outcome : CommandOutcome) (faults faults' quiets quiets' sunk sunk' : ℕ)
+    → CommandHasCause outcome faults faults' quiets quiets' sunk sunk' → status_of outcome ≡ 3 → HasReadCause faults faults' quiets quiets'
 read_cause Done faults faults' quiets quiets' sunk sunk' cause e = absurd (omega (arith, e))
 read_cause ReadFault faults faults' quiets quiets' sunk sunk' cause e = inl cause
 read_cause TooQuiet faults faults' quiets quiets' sunk sunk' cause e = inr cause
@@ -20,8 +20,8 @@ read_cause WriteFault faults faults' quiets quiets' sunk sunk' cause e = absurd 
 read_cause Full faults faults' quiets quiets' sunk sunk' cause e = absurd (omega (arith, e))
 read_cause NoMemory faults faults' quiets quiets' sunk sunk' cause e = absurd (omega (arith, e))
 
-pub write_cause : (outcome : Outcome) (faults faults' quiets quiets' sunk sunk' : ℕ)
-    → HasCause outcome faults faults' quiets quiets' sunk sunk' → status_of outcome ≡ 4 → Rose sunk sunk'
+pub write_cause : (outcome : CommandOutcome) (faults faults' quiets quiets' sunk sunk' : ℕ)
+    → CommandHasCause outcome faults faults' quiets quiets' sunk sunk' → status_of outcome ≡ 4 → Rose sunk sunk'
 write_cause Done faults faults' quiets quiets' sunk sunk' cause e = absurd (omega (arith, e))
 write_cause ReadFault faults faults' quiets quiets' sunk sunk' cause e = absurd (omega (arith, e))
 write_cause TooQuiet faults faults' quiets quiets' sunk sunk' cause e = absurd (omega (arith, e))
@@ -29,7 +29,7 @@ write_cause WriteFault faults faults' quiets quiets' sunk sunk' cause e = cause
 write_cause Full faults faults' quiets quiets' sunk sunk' cause e = absurd (omega (arith, e))
 write_cause NoMemory faults faults' quiets quiets' sunk sunk' cause e = absurd (omega (arith, e))
 
-pub not_refused : (outcome : Outcome) → status_of outcome ≡ 2 → ⊥
+pub not_refused : (outcome : CommandOutcome) → status_of outcome ≡ 2 → ⊥
 not_refused Done e = omega (arith, e)
 not_refused ReadFault e = omega (arith, e)
 not_refused TooQuiet e = omega (arith, e)
@@ -50,8 +50,8 @@ no_more history bytes (Some stream) (Some after) within full passed =
     omega (arith, within, full)
 
 -- where nothing outside failed
-pub ends_by_itself : (outcome : Outcome) (faults faults' quiets quiets' sunk sunk' : ℕ)
-    → HasCause outcome faults faults' quiets quiets' sunk sunk'
+pub ends_by_itself : (outcome : CommandOutcome) (faults faults' quiets quiets' sunk sunk' : ℕ)
+    → CommandHasCause outcome faults faults' quiets quiets' sunk sunk'
     → (Rose faults faults' → ⊥) → (RoseBy 1000 quiets quiets' → ⊥) → (Rose sunk sunk' → ⊥)
     → (status_of outcome ≡ 0) ⊎ ((status_of outcome ≡ 5) ⊎ (status_of outcome ≡ 7))
 ends_by_itself Done faults faults' quiets quiets' sunk sunk' cause sound lively unbroken = inl refl
@@ -61,9 +61,9 @@ ends_by_itself WriteFault faults faults' quiets quiets' sunk sunk' cause sound l
 ends_by_itself Full faults faults' quiets quiets' sunk sunk' cause sound lively unbroken = inr (inl refl)
 ends_by_itself NoMemory faults faults' quiets quiets' sunk sunk' cause sound lively unbroken = inr (inr refl)
 
-pub completes : (says : Texts) (outcome : Outcome) (history : ℕ) (source source' : Option Stream) (clock clock' : Option Dial) (sink sink' : Option (List ℕ))
+pub completes : (says : Texts) (outcome : CommandOutcome) (history : ℕ) (source source' : Option Stream) (clock clock' : Option Dial) (sink sink' : Option (List ℕ))
     (faults faults' quiets quiets' sunk sunk' : ℕ)
-    → Decoded says outcome history source source' clock clock' sink sink' → HasCause outcome faults faults' quiets quiets' sunk sunk'
+    → Decoded says outcome history source source' clock clock' sink sink' → CommandHasCause outcome faults faults' quiets quiets' sunk sunk'
     → IsWithin history source → (Rose faults faults' → ⊥) → (RoseBy 1000 quiets quiets' → ⊥) → (Rose sunk sunk' → ⊥)
     → (status_of outcome ≡ 0) ⊎ (status_of outcome ≡ 7)
 completes says Done history source source' clock clock' sink sink' faults faults' quiets quiets' sunk sunk' done cause within sound lively unbroken = inl refl

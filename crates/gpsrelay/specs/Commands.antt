@@ -1,21 +1,21 @@
 -- What each command does: how it ends, its status, what must have happened outside, and what was read and written. The values are what the source
 -- tells of its content, its faults and quiets, what the clock tells of its stamps, what the sink tells that was written, and its faults, each before
--- and after. This project's own.
+-- and after.
 use Rattle.std.specs.Prelude.{◌≡◌, ℕ, ◌⊎◌, List, Option}
 use Rattle.gps_outside.specs.Counts.{Rose, RoseBy}
 use Rattle.gps_outside.specs.Told.{Stream}
 use Rattle.gps_outside.specs.Ticks.{Dial}
-use Rattle.gps_words.specs.declared.command.Command.{Command}
-use Rattle.gps_words.specs.declared.command.Command.TheVariants.{Decode, Pseudo, Replay, Generate, Lines}
-use Rattle.line_counts.specs.declared.outcome.Outcome.{Outcome as LinesOutcome}
-use Rattle.line_counts.specs.Outcomes.{status_of as lines_status, HasCause as LinesCause}
-use Rattle.line_counts.specs.Counted.{Counted, IsWithin as AreLinesWithin}
-use Rattle.line_play.specs.declared.outcome.Outcome.{Outcome as PlayOutcome}
-use Rattle.line_play.specs.Outcomes.{status_of as play_status, HasCause as PlayCause}
+use Rattle.gps_words.specs.declared.command.CommandLine.{CommandLine}
+use Rattle.gps_words.specs.declared.command.CommandLine.TheVariants.{Decode, Pseudo, Replay, Generate, Lines}
+use Rattle.class_counts.specs.declared.outcome.CountOutcome.{CountOutcome}
+use Rattle.class_counts.specs.Outcomes.{status_of as lines_status, CountHasCause}
+use Rattle.class_counts.specs.Counted.{Counted, IsWithin as AreLinesWithin}
+use Rattle.line_player.specs.declared.outcome.PlayOutcome.{PlayOutcome}
+use Rattle.line_player.specs.Outcomes.{status_of as play_status, PlayHasCause}
 use Rattle.gps_replay.specs.Replayed.{IsScript, Replayed}
 use Rattle.gps_replay.specs.Generated.{Generated, GeneratedCause}
-use Rattle.gpsrelay.specs.declared.outcome.Outcome.{Outcome}
-use Rattle.gpsrelay.specs.Outcomes.{status_of, HasCause}
+use Rattle.gpsrelay.specs.declared.outcome.CommandOutcome.{CommandOutcome}
+use Rattle.gpsrelay.specs.Outcomes.{status_of, CommandHasCause}
 use Rattle.gpsrelay.specs.Decode.{Decoded, IsWithin}
 use Rattle.gpsrelay.specs.Texts.{Texts, line_of, sentences_of}
 
@@ -23,21 +23,21 @@ use Rattle.gpsrelay.specs.Texts.{Texts, line_of, sentences_of}
 abbrev pub DoesDecode : Texts → ℕ → ℕ → Option Stream → Option Stream → ℕ → ℕ → ℕ → ℕ → Option Dial → Option Dial
     → Option (List ℕ) → Option (List ℕ) → ℕ → ℕ → Type 0
 DoesDecode says history status source source' faults faults' quiets quiets' clock clock' sink sink' sunk sunk' =
-    (outcome : Outcome) × (status ≡ status_of outcome) × HasCause outcome faults faults' quiets quiets' sunk sunk'
+    (outcome : CommandOutcome) × (status ≡ status_of outcome) × CommandHasCause outcome faults faults' quiets quiets' sunk sunk'
     × Decoded says outcome history source source' clock clock' sink sink'
 
 -- `lines`, which asks no clock
 abbrev pub DoesLines : ℕ → Option Stream → Option Stream → ℕ → ℕ → ℕ → ℕ → Option Dial → Option Dial
     → Option (List ℕ) → Option (List ℕ) → ℕ → ℕ → Type 0
 DoesLines status source source' faults faults' quiets quiets' clock clock' sink sink' sunk sunk' =
-    (outcome : LinesOutcome) × (status ≡ lines_status outcome) × LinesCause outcome faults faults' quiets quiets' sunk sunk'
+    (outcome : CountOutcome) × (status ≡ lines_status outcome) × CountHasCause outcome faults faults' quiets quiets' sunk sunk'
     × Counted outcome source source' sink sink' × (clock ≡ clock')
 
 -- `replay`, which asks no clock
 abbrev pub DoesReplay : ℕ → ℕ → Option Stream → Option Stream → ℕ → ℕ → ℕ → ℕ → Option Dial → Option Dial
     → Option (List ℕ) → Option (List ℕ) → ℕ → ℕ → Type 0
 DoesReplay queue status source source' faults faults' quiets quiets' clock clock' sink sink' sunk sunk' =
-    (outcome : PlayOutcome) × (status ≡ play_status outcome) × PlayCause outcome faults faults' quiets quiets' sunk sunk'
+    (outcome : PlayOutcome) × (status ≡ play_status outcome) × PlayHasCause outcome faults faults' quiets quiets' sunk sunk'
     × Replayed outcome queue source source' sink sink' × (clock ≡ clock')
 
 -- `generate`, which reads no source and asks no clock
@@ -48,7 +48,7 @@ DoesGenerate seed size status source source' faults faults' quiets quiets' clock
     × Generated outcome seed size sink sink'
     × (source ≡ source') × (faults ≡ faults') × (quiets ≡ quiets') × (clock ≡ clock')
 
-abbrev pub Does : Command → ℕ → Option Stream → Option Stream → ℕ → ℕ → ℕ → ℕ → Option Dial → Option Dial
+abbrev pub Does : CommandLine → ℕ → Option Stream → Option Stream → ℕ → ℕ → ℕ → ℕ → Option Dial → Option Dial
     → Option (List ℕ) → Option (List ℕ) → ℕ → ℕ → Type 0
 Does (Decode history) status source source' faults faults' quiets quiets' clock clock' sink sink' sunk sunk' =
     DoesDecode line_of history status source source' faults faults' quiets quiets' clock clock' sink sink' sunk sunk'
@@ -67,7 +67,7 @@ NothingFails faults faults' quiets quiets' sunk sunk' =
     (Rose faults faults' → ⊥) × (RoseBy 1000 quiets quiets' → ⊥) × (Rose sunk sunk' → ⊥)
 
 -- the statuses of a command where nothing fails
-abbrev pub EndsAt : Command → ℕ → Type 0
+abbrev pub EndsAt : CommandLine → ℕ → Type 0
 EndsAt (Decode history) status = (status ≡ 0) ⊎ ((status ≡ 5) ⊎ (status ≡ 7))
 EndsAt (Pseudo history) status = (status ≡ 0) ⊎ ((status ≡ 5) ⊎ (status ≡ 7))
 EndsAt (Replay history queue) status = (status ≡ 0) ⊎ ((status ≡ 5) ⊎ ((status ≡ 6) ⊎ (status ≡ 7)))
@@ -75,7 +75,7 @@ EndsAt (Generate seed size) status = (status ≡ 0) ⊎ (status ≡ 7)
 EndsAt Lines status = (status ≡ 0) ⊎ ((status ≡ 5) ⊎ ((status ≡ 6) ⊎ (status ≡ 7)))
 
 -- the source tells that what is left lies within the limits of the command, and that no line of it is refused; a made script is always within them
-abbrev pub IsWithinLimits : Command → Option Stream → Type 0
+abbrev pub IsWithinLimits : CommandLine → Option Stream → Type 0
 IsWithinLimits (Decode history) source = IsWithin history source
 IsWithinLimits (Pseudo history) source = IsWithin history source
 IsWithinLimits (Replay history queue) source = IsScript queue source

@@ -1,5 +1,5 @@
 -- What `decode` and `pseudo` promise of the bytes that they read, of the stamps that they ask for, and of the bytes that they write: for each report
--- what is said of it. This project's own.
+-- what is said of it.
 use Rattle.std.specs.Prelude.{◌≡◌, ℕ, ◌≤◌, ◌⊎◌, List, ◌++◌, length, Option, Some, None, Result, Ok, Err}
 use Rattle.gps_report.specs.declared.edge.Symbol.{Symbol}
 use Rattle.gps_report.specs.declared.report.Body.{Body}
@@ -7,11 +7,11 @@ use Rattle.gps_outside.specs.Counts.{Rose}
 use Rattle.gps_outside.specs.Told.{Stream, Goes, Passes, Appends, AppendsPart}
 use Rattle.gps_outside.specs.Waiting.{Waits}
 use Rattle.gps_outside.specs.Ticks.{Dial, GivesAll}
-use Rattle.gps_outside.specs.Turns.{PassesMore, TakesAll, TakesSome}
+use Rattle.gps_outside.specs.ReadSteps.{PassesMore, TakesAll, TakesSome}
 use Rattle.device_core.specs.Reports.{Gains}
-use Rattle.device_core.specs.Standing.{Kept, StandsFor}
-use Rattle.gpsrelay.specs.declared.outcome.Outcome.{Outcome}
-use Rattle.gpsrelay.specs.declared.outcome.Outcome.TheVariants.{Done, ReadFault, TooQuiet, WriteFault, Full, NoMemory}
+use Rattle.device_core.specs.Standing.{DeviceKept, StandsFor}
+use Rattle.gpsrelay.specs.declared.outcome.CommandOutcome.{CommandOutcome}
+use Rattle.gpsrelay.specs.declared.outcome.CommandOutcome.TheVariants.{Done, ReadFault, TooQuiet, WriteFault, Full, NoMemory}
 use Rattle.gpsrelay.specs.declared.outcome.Fault.{Fault}
 use Rattle.gpsrelay.specs.declared.outcome.Fault.TheVariants.{Sink, NoMemory as NoMemoryFault}
 use Rattle.gpsrelay.specs.Readings.{ArePieces, PassHistory, Reading, bytes_of, stamps_of, stream_of}
@@ -33,7 +33,7 @@ BrokeOff says history readings source source' sink sink' =
 -- Which bytes were read, and what was written for their stream: all that was left, and all its lines; those before a fault, after which the
 -- rest may be lost, those before a thousand quiets, or those before one more than the history allows, and the lines so far; or those before the
 -- command broke off, and a part of the lines due.
-abbrev pub Ends : Texts → Outcome → ℕ → List Reading → Option Stream → Option Stream → Option (List ℕ) → Option (List ℕ) → Type 0
+abbrev pub Ends : Texts → CommandOutcome → ℕ → List Reading → Option Stream → Option Stream → Option (List ℕ) → Option (List ℕ) → Type 0
 Ends says Done history readings source source' sink sink' =
     (length (bytes_of readings) ≤ history) × Goes (TakesAll (bytes_of readings)) source source' × Goes (Appends (texts_to_end says (stream_of readings))) sink sink'
 Ends says ReadFault history readings source source' sink sink' =
@@ -46,7 +46,7 @@ Ends says Full history readings source source' sink sink' =
 Ends says NoMemory history readings source source' sink sink' = BrokeOff says history readings source source' sink sink'
 
 -- which bytes one reading has: those of one read, and where the history was passed the last has what lay within it
-abbrev pub AreReads : Outcome → List Reading → Type 0
+abbrev pub AreReads : CommandOutcome → List Reading → Type 0
 AreReads Done readings = ArePieces readings
 AreReads ReadFault readings = ArePieces readings
 AreReads TooQuiet readings = ArePieces readings
@@ -56,7 +56,7 @@ AreReads NoMemory readings = ArePieces readings ⊎ PassHistory readings
 
 -- There are readings such that their bytes were read, the clock gave one stamp for each of them, in order, and what is said of their stream's reports was
 -- written. Of an object of the outside that does not tell its content nothing is said here: then the readings may be any.
-pub record Decoded (says : Texts) (outcome : Outcome) (history : ℕ) (source source' : Option Stream) (clock clock' : Option Dial) (sink sink' : Option (List ℕ)) : Type 0 where
+pub record Decoded (says : Texts) (outcome : CommandOutcome) (history : ℕ) (source source' : Option Stream) (clock clock' : Option Dial) (sink sink' : Option (List ℕ)) : Type 0 where
   pub readings : List Reading
   pub reads : AreReads outcome readings
   pub stamps : Goes (GivesAll (stamps_of readings)) clock clock'
@@ -89,7 +89,7 @@ WriteCause (Err NoMemoryFault) before after = Unit {0}
 
 -- the lines of what a stream gains by more of it were written or wait, behind what waited, and what is kept then is a summary of the longer stream;
 -- or the sink failed, and a prefix of them was written; or, out of memory, what waited was written
-abbrev pub HandsOn : {X : Type 0} → Texts → Result X Fault → List Symbol → List Symbol → Kept → List ℕ → List ℕ → Option (List ℕ) → Option (List ℕ) → Type 0
+abbrev pub HandsOn : {X : Type 0} → Texts → Result X Fault → List Symbol → List Symbol → DeviceKept → List ℕ → List ℕ → Option (List ℕ) → Option (List ℕ) → Type 0
 HandsOn says (Ok _) stream more kept waited waits before after =
     StandsFor kept (stream ++ more) × ((out : List Body) × (Gains stream more out × Waits (waited ++ texts_of says out) waits before after))
 HandsOn says (Err Sink) stream more kept waited waits before after =

@@ -1,4 +1,4 @@
--- What a command read in a call: the bytes of each read, with the stamp that the clock gave after it. This project's own.
+-- What a command read in a call: the bytes of each read, with the stamp that the clock gave after it.
 use Rattle.std.specs.Prelude.{◌≡◌, ℕ, ◌<◌, ◌≤◌, List, [], ◌∷◌, ◌++◌, length, map}
 use Rattle.std.specs.List.{flat_map}
 use Rattle.gps_fixed.specs.Moment.{Moment}

@@ -1,4 +1,4 @@
--- What the words of `serve` ask of the world and of the daemon. This project's own.
+-- What the words of `serve` ask of the world and of the daemon.
 use Rattle.std.specs.Prelude.{◌≡◌, ℕ, List, ◌++◌, map, is_some, Option, Some, None}
 use Rattle.std.specs.List.{AllZip}
 use Rattle.gps_words.specs.declared.device.Input.{Input}
@@ -7,10 +7,10 @@ use Rattle.gps_words.specs.Serve.{Serve}
 use Rattle.gps_world.specs.Asking.{Asking, asked_nothing}
 use Rattle.gps_world.specs.declared.place.Place.{Place}
 use Rattle.gps_world.specs.declared.place.Place.TheVariants as place
-use Rattle.serve_parts.specs.declared.done.DeviceDone.{DeviceDone}
-use Rattle.serve_settling.specs.Runs.{SourceFacts}
-use Rattle.gps_serve.specs.AtEnd.{BytesHeld, EdgesHeld, Told}
-use Rattle.serve_opening.specs.Opening.{AsksAll, AsksSome, GivenOnce, places_in}
+use Rattle.serve_end_parts.specs.declared.done.DeviceDone.{DeviceDone}
+use Rattle.serve_end_settling.specs.Runs.{SourceFacts}
+use Rattle.gps_serve.specs.AtEnd.{BytesHeld, EdgesHeld, DaemonSettings}
+use Rattle.world_opening.specs.Opening.{AsksAll, AsksSome, GivenOnce, places_in}
 
 abbrev pub place_of : Input → Place
 place_of (input.File path) = place.File path
@@ -26,7 +26,7 @@ abbrev pub places_of : Serve → List Place
 places_of s = map place_of s.devices.inputs ++ places_in (map edge_place_of s.devices.edges)
 
 -- what the daemon is told
-abbrev pub told_by : Serve → Told
+abbrev pub told_by : Serve → DaemonSettings
 told_by s =
     record { names = s.devices.names; limit = s.numbers.history; wait = s.numbers.wait; queue = s.numbers.queue; tries = s.numbers.monitor }
 

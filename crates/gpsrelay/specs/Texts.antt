@@ -1,5 +1,5 @@
 -- What `decode` and `pseudo` write of a device's reports: the JSON lines of its fixes and skies, for the name `stdin`, or the two sentences of
--- each fix. This project's own.
+-- each fix.
 use Rattle.std.specs.Prelude.{◌≡◌, ℕ, List, [], ◌∷◌, ◌++◌, codes}
 use Rattle.std.specs.List.{flat_map}
 use Rattle.gps_report.specs.declared.edge.Symbol.{Symbol}

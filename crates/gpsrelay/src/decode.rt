@@ -5,9 +5,9 @@ ghost use Rattle.device_core.specs.Standing.{StandsFor};
 ghost use Rattle.device_core.specs.Reports.{device_close};
 ghost use Rattle.gpsrelay.specs.Texts.{IsOfInput, line_of, sentences_of, texts_by, texts_of};
 ghost use Rattle.gpsrelay.specs.Decode.{Decoded, HandsOn, WriteCause, Written};
-ghost use Rattle.gpsrelay.specs.Outcomes.{HasCause};
+ghost use Rattle.gpsrelay.specs.Outcomes.{CommandHasCause};
 
-use crate::outcome::{Fault, Outcome};
+use crate::outcome::{CommandOutcome, Fault};
 use crate::texts::{Draft, Output, lines_of_input};
 use device_core::Device;
 use gps_fixed::Stamp;
@@ -104,12 +104,12 @@ fn write_reports<S: Source, K: Sink, C: Clock>(
     source: &mut S,
     sink: &mut K,
     clock: &mut C,
-) -> Outcome
+) -> CommandOutcome
     requires named { IsOfInput output.now }
     requires fresh { StandsFor device.old.now [] }
     ensures decoded { Decoded (texts_by output.now) result history (S.content source.old) (S.content source.new)
         (C.stamps clock.old) (C.stamps clock.new) (K.written sink.old) (K.written sink.new) }
-    ensures cause { HasCause result (S.faults source.old) (S.faults source.new) (S.quiets source.old) (S.quiets source.new)
+    ensures cause { CommandHasCause result (S.faults source.old) (S.faults source.new) (S.quiets source.old) (S.quiets source.new)
         (K.faults sink.old) (K.faults sink.new) }
     ensures faults_stay { S.faults source.old ≤ S.faults source.new }
     ensures quiets_stay { S.quiets source.old ≤ S.quiets source.new }
@@ -120,7 +120,7 @@ fn write_reports<S: Source, K: Sink, C: Clock>(
     let mut buf = [0u8; 512];
     'turns: loop {
         if !draft.settle(&*source, sink) {
-            return Outcome::WriteFault;
+            return CommandOutcome::WriteFault;
         }
         match intake.step(source, &mut buf) {
             IntakeStep::Piece(n) => {
@@ -132,25 +132,25 @@ fn write_reports<S: Source, K: Sink, C: Clock>(
             IntakeStep::Quiet => {}
             IntakeStep::Last(n) => {
                 match hand_on_last(device, output, &mut draft, clock.now(), &buf[..n], sink) {
-                    Ok(()) => return Outcome::Full,
+                    Ok(()) => return CommandOutcome::Full,
                     Err(fault) => return fault.outcome(),
                 }
             }
             IntakeStep::End => match close(device, output, &mut draft, sink) {
-                Ok(()) => return Outcome::Done,
+                Ok(()) => return CommandOutcome::Done,
                 Err(fault) => return fault.outcome(),
             },
             IntakeStep::Failed => {
                 if draft.flush(sink) {
-                    return Outcome::ReadFault;
+                    return CommandOutcome::ReadFault;
                 }
-                return Outcome::WriteFault;
+                return CommandOutcome::WriteFault;
             }
             IntakeStep::TooQuiet => {
                 if draft.flush(sink) {
-                    return Outcome::TooQuiet;
+                    return CommandOutcome::TooQuiet;
                 }
-                return Outcome::WriteFault;
+                return CommandOutcome::WriteFault;
             }
         }
     }
@@ -165,10 +165,10 @@ pub fn decode<S: Source, K: Sink, C: Clock>(
     source: &mut S,
     sink: &mut K,
     clock: &mut C,
-) -> Outcome
+) -> CommandOutcome
     ensures decoded { Decoded line_of result history (S.content source.old) (S.content source.new)
         (C.stamps clock.old) (C.stamps clock.new) (K.written sink.old) (K.written sink.new) }
-    ensures cause { HasCause result (S.faults source.old) (S.faults source.new) (S.quiets source.old) (S.quiets source.new)
+    ensures cause { CommandHasCause result (S.faults source.old) (S.faults source.new) (S.quiets source.old) (S.quiets source.new)
         (K.faults sink.old) (K.faults sink.new) }
     ensures faults_stay { S.faults source.old ≤ S.faults source.new }
     ensures quiets_stay { S.quiets source.old ≤ S.quiets source.new }
@@ -179,7 +179,7 @@ pub fn decode<S: Source, K: Sink, C: Clock>(
             let mut device = Device::new(alloc);
             write_reports(alloc, &mut device, &output, history, source, sink, clock)
         }
-        Err(_) => Outcome::NoMemory,
+        Err(_) => CommandOutcome::NoMemory,
     }
 }
 
@@ -190,10 +190,10 @@ pub fn pseudo<S: Source, K: Sink, C: Clock>(
     source: &mut S,
     sink: &mut K,
     clock: &mut C,
-) -> Outcome
+) -> CommandOutcome
     ensures decoded { Decoded sentences_of result history (S.content source.old) (S.content source.new)
         (C.stamps clock.old) (C.stamps clock.new) (K.written sink.old) (K.written sink.new) }
-    ensures cause { HasCause result (S.faults source.old) (S.faults source.new) (S.quiets source.old) (S.quiets source.new)
+    ensures cause { CommandHasCause result (S.faults source.old) (S.faults source.new) (S.quiets source.old) (S.quiets source.new)
         (K.faults sink.old) (K.faults sink.new) }
     ensures faults_stay { S.faults source.old ≤ S.faults source.new }
     ensures quiets_stay { S.quiets source.old ≤ S.quiets source.new }

@@ -27,7 +27,7 @@ use gps_outside::{RealClock, RealSink, write_all};
 use gps_serve::{DeviceEnd, Served};
 use gps_words::{WordsFault, asked};
 use gps_world::World;
-use outcome::Outcome;
+use outcome::CommandOutcome;
 use reasons::{say, tell_end, tell_no_memory, tell_no_text, tell_refused};
 use standard_streams::StandardStreams;
 use std::alloc::Global;
@@ -37,7 +37,6 @@ use std::net::{Net, TcpListener, TcpStream};
 use std::process::ExitCode;
 use std::rt::Files;
 use std::sync::Wait;
-use std::thread::Threads;
 use std::{env, io, time};
 use streams::{CountedInput, CountedOutput};
 use telling::TellingWorld;
@@ -91,27 +90,24 @@ fn close<W: World, R: Wait + Copy>(
             if write_all(sink, lines.as_slice()) {
                 served.status
             } else {
-                Outcome::WriteFault.status()
+                CommandOutcome::WriteFault.status()
             }
         }
-        Err(NoMemory) => Outcome::NoMemory.status(),
+        Err(NoMemory) => CommandOutcome::NoMemory.status(),
     }
 }
 
-/// Serves what the words ask for, over the real world, writes the closing lines, and says how it ended.
-fn serve_outside<R>(rt: R, alloc: Global, words: &[String], sink: &mut RealSink) -> u8
+/// Says which devices were lost because there was no memory for them.
+fn tell_lost<R>(served: &Served<TellingWorld<R>, R>)
 where
-    R: Threads
-        + Wait
+    R: Wait
         + Eprint
         + Files<File = File>
         + Net<Listener = TcpListener, Stream = TcpStream>
         + time::Clock
         + Copy
-        + Send
-        + Sync,
+        + Send,
 {
-    let served = serve::serve_main(rt, alloc, words, TellingWorld::new(alloc, rt));
     for device in &served.devices {
         if device.end == Some(DeviceEnd::NoMemory) {
             if let Some(source) = &device.source {
@@ -119,18 +115,20 @@ where
             }
         }
     }
-    let status = close(alloc, &served, sink);
+}
+
+/// Says why the daemon ended.
+fn tell_status<R: Eprint>(rt: &R, status: u8) {
     match status {
-        3 => say(&rt, "a device could not be opened or failed; see above"),
+        3 => say(rt, "a device could not be opened or failed; see above"),
         4 => say(
-            &rt,
+            rt,
             "standard output: the closing lines could not be written: its reader has gone, it is closed, or the disk is full",
         ),
-        7 => tell_no_memory(&rt),
-        8 => say(&rt, "it could not listen, or its door failed; see above"),
+        7 => tell_no_memory(rt),
+        8 => say(rt, "it could not listen, or its door failed; see above"),
         _ => {}
     }
-    status
 }
 
 /// Whether the words are those of the daemon.
@@ -147,7 +145,7 @@ fn do_command(rt: HostRuntime, words: &[String]) -> u8 {
         Ok(status) => status,
         Err(NoMemory) => {
             tell_no_memory(&rt);
-            Outcome::NoMemory.status()
+            CommandOutcome::NoMemory.status()
         }
     }
 }
@@ -163,13 +161,18 @@ fn main(rt: HostRuntime) -> ExitCode {
         }
         Err(WordsFault::NoMemory) => {
             tell_no_memory(&rt);
-            return ExitCode::from(Outcome::NoMemory.status());
+            return ExitCode::from(CommandOutcome::NoMemory.status());
         }
     };
     let words = words.as_slice();
     let status = if are_for_daemon(words) {
+        let alloc = rt.alloc();
         let mut sink = RealSink::of_output(rt.stdout());
-        serve_outside(rt, rt.alloc(), words, &mut sink)
+        let served = serve::serve_main(rt, alloc, words, TellingWorld::new(alloc, rt));
+        tell_lost(&served);
+        let status = close(alloc, &served, &mut sink);
+        tell_status(&rt, status);
+        status
     } else {
         do_command(rt, words)
     };

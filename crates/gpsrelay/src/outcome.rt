@@ -3,7 +3,7 @@ ghost use Rattle.gpsrelay.specs.Outcomes.{outcome_of, status_of};
 
 /// How a command ended.
 #[derive(Clone, Copy, Debug, PartialEq, Eq)]
-pub enum Outcome {
+pub enum CommandOutcome {
     /// The input was read to its end, and all was written.
     Done,
     /// The source failed.
@@ -17,18 +17,18 @@ pub enum Outcome {
     NoMemory,
 }
 
-impl Outcome {
+impl CommandOutcome {
     /// The exit status.
     pub fn status(self) -> u8
         ensures { result ≡ status_of self }
     {
         match self {
-            Outcome::Done => 0,
-            Outcome::ReadFault => 3,
-            Outcome::TooQuiet => 3,
-            Outcome::WriteFault => 4,
-            Outcome::Full => 5,
-            Outcome::NoMemory => 7,
+            CommandOutcome::Done => 0,
+            CommandOutcome::ReadFault => 3,
+            CommandOutcome::TooQuiet => 3,
+            CommandOutcome::WriteFault => 4,
+            CommandOutcome::Full => 5,
+            CommandOutcome::NoMemory => 7,
         }
     }
 }
@@ -43,12 +43,12 @@ pub enum Fault {
 
 impl Fault {
     /// How a command ends by it.
-    pub fn outcome(self) -> Outcome
+    pub fn outcome(self) -> CommandOutcome
         ensures { result ≡ outcome_of self }
     {
         match self {
-            Fault::Sink => Outcome::WriteFault,
-            Fault::NoMemory => Outcome::NoMemory,
+            Fault::Sink => CommandOutcome::WriteFault,
+            Fault::NoMemory => CommandOutcome::NoMemory,
         }
     }
 }

@@ -3,7 +3,7 @@
 
 use crate::streams::{CountedInput, CountedOutput};
 use gps_help::{Cause, HELP, RELEASE, Refusal, USAGE, refused};
-use gps_words::Command;
+use gps_words::CommandLine;
 use std::alloc::Global;
 use std::io::Eprint;
 
@@ -61,14 +61,14 @@ fn tell_read_fault<R: Eprint>(rt: &R, input: &CountedInput<R>) {
 }
 
 /// Says that as many bytes came as are read.
-fn tell_full<R: Eprint>(rt: &R, command: &Command) {
+fn tell_full<R: Eprint>(rt: &R, command: &CommandLine) {
     let _ = match command {
-        Command::Decode { history } | Command::Pseudo { history } => {
+        CommandLine::Decode { history } | CommandLine::Pseudo { history } => {
             eprintln!(rt;
                 "gpsrelay: stopped after {history} bytes: --history is the most that is read"
             )
         }
-        Command::Replay { .. } | Command::Generate { .. } | Command::Lines => {
+        CommandLine::Replay { .. } | CommandLine::Generate { .. } | CommandLine::Lines => {
             eprintln!(rt;
                 "gpsrelay: stopped after {MOST} bytes: no more are read at a time; split the input"
             )
@@ -77,9 +77,9 @@ fn tell_full<R: Eprint>(rt: &R, command: &Command) {
 }
 
 /// Says what was expected in the line that is bad.
-fn tell_bad_line<R: Eprint>(rt: &R, command: &Command, number: u64) {
+fn tell_bad_line<R: Eprint>(rt: &R, command: &CommandLine, number: u64) {
     let _ = match command {
-        Command::Lines => {
+        CommandLine::Lines => {
             eprintln!(rt;
                 "gpsrelay: line {number} of the input is not a line of the daemon, byte for byte"
             )
@@ -95,7 +95,7 @@ fn tell_bad_line<R: Eprint>(rt: &R, command: &Command, number: u64) {
 /// Says that bytes came in which nothing was found.
 fn tell_nothing_found<R: Eprint>(
     rt: &R,
-    command: &Command,
+    command: &CommandLine,
     input: &CountedInput<R>,
     output: &CountedOutput,
 ) {
@@ -103,7 +103,7 @@ fn tell_nothing_found<R: Eprint>(
     if bytes == 0 || output.bytes() > 0 {
         return;
     }
-    if let Command::Decode { .. } | Command::Pseudo { .. } = command {
+    if let CommandLine::Decode { .. } | CommandLine::Pseudo { .. } = command {
         let _ = eprintln!(rt;
             "gpsrelay: {bytes} bytes came, and no fix was found: is it NMEA 0183 or UBX, at the right speed?"
         );
@@ -113,7 +113,7 @@ fn tell_nothing_found<R: Eprint>(
 /// Says how a command ended, where there is something to say.
 pub fn tell_end<R: Eprint>(
     rt: &R,
-    command: &Command,
+    command: &CommandLine,
     status: u8,
     input: &CountedInput<R>,
     output: &CountedOutput,

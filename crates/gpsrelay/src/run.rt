@@ -1,18 +1,18 @@
 ghost use Rattle.std.specs.Prelude.{◌≡◌, ℕ, ◌≤◌, ◌⊎◌, Some, None, map, string_bytes};
 ghost use Rattle.gps_words.specs.Asked.{asked_of};
 ghost use Rattle.gps_words.specs.Within.{IsInRange};
-ghost use Rattle.gps_words.specs.declared.command.Command.{Command};
+ghost use Rattle.gps_words.specs.declared.command.CommandLine.{CommandLine};
 ghost use Rattle.gps_outside.specs.Counts.{Rose};
 ghost use Rattle.gpsrelay.specs.Commands.{Does, DoesDecode, DoesGenerate, DoesLines, DoesReplay, EndsAt, IsWithinLimits, NothingFails};
 ghost use Rattle.gpsrelay.specs.Outcomes.{HasReadCause};
 ghost use Rattle.gpsrelay.specs.Texts.{line_of, sentences_of};
 
 use crate::decode::{decode, pseudo};
-use crate::outcome::Outcome;
+use crate::outcome::CommandOutcome;
+use class_counts::count_lines;
 use gps_outside::{Clock, Sink, Source};
 use gps_replay::{generate, replay};
-use gps_words::{Command, WordsFault, asked};
-use line_counts::count_lines;
+use gps_words::{CommandLine, WordsFault, asked};
 use std::alloc::Global;
 
 /// The status of words that ask for no command.
@@ -21,7 +21,7 @@ pub const REFUSED: u8 = 2;
 /// Does what a command asks for.
 fn do_command<S: Source, K: Sink, C: Clock>(
     alloc: Global,
-    command: Command,
+    command: CommandLine,
     source: &mut S,
     sink: &mut K,
     clock: &mut C,
@@ -35,13 +35,13 @@ fn do_command<S: Source, K: Sink, C: Clock>(
     ensures sink_faults_stay { K.faults sink.old ≤ K.faults sink.new }
 {
     match command {
-        Command::Decode { history } => decode(alloc, history, source, sink, clock).status(),
-        Command::Pseudo { history } => pseudo(alloc, history, source, sink, clock).status(),
-        Command::Replay { history, queue } => {
+        CommandLine::Decode { history } => decode(alloc, history, source, sink, clock).status(),
+        CommandLine::Pseudo { history } => pseudo(alloc, history, source, sink, clock).status(),
+        CommandLine::Replay { history, queue } => {
             replay(alloc, source, sink, history, queue).status()
         }
-        Command::Generate { seed, size } => generate(alloc, seed, size, sink).status(),
-        Command::Lines => count_lines(alloc, source, sink).status(),
+        CommandLine::Generate { seed, size } => generate(alloc, seed, size, sink).status(),
+        CommandLine::Lines => count_lines(alloc, source, sink).status(),
     }
 }
 
@@ -58,7 +58,8 @@ fn do_words<S: Source, K: Sink, C: Clock>(
     ensures only { asked_of (map string_bytes words.now) ≡ None → (result ≡ 2) ⊎ (result ≡ 7) }
     ensures untouched { asked_of (map string_bytes words.now) ≡ None
         → (source.new ≡ source.old) × (sink.new ≡ sink.old) × (clock.new ≡ clock.old) }
-    ensures does { (command : Command) → asked_of (map string_bytes words.now) ≡ Some command → Does command result (S.content source.old) (S.content source.new) (S.faults source.old) (S.faults source.new)
+    ensures does { (command : CommandLine) → asked_of (map string_bytes words.now) ≡ Some command
+        → Does command result (S.content source.old) (S.content source.new) (S.faults source.old) (S.faults source.new)
         (S.quiets source.old) (S.quiets source.new) (C.stamps clock.old) (C.stamps clock.new)
         (K.written sink.old) (K.written sink.new) (K.faults sink.old) (K.faults sink.new) }
     ensures faults_stay { S.faults source.old ≤ S.faults source.new }
@@ -68,7 +69,7 @@ fn do_words<S: Source, K: Sink, C: Clock>(
     match asked(alloc, words) {
         Ok(command) => do_command(alloc, command, source, sink, clock),
         Err(WordsFault::Refused) => REFUSED,
-        Err(WordsFault::NoMemory) => Outcome::NoMemory.status(),
+        Err(WordsFault::NoMemory) => CommandOutcome::NoMemory.status(),
     }
 }
 
@@ -99,31 +100,32 @@ pub fn run<S: Source, K: Sink, C: Clock>(
     ensures only { asked_of (map string_bytes words.now) ≡ None → (result ≡ 2) ⊎ (result ≡ 7) }
     ensures untouched { asked_of (map string_bytes words.now) ≡ None
         → (source.new ≡ source.old) × (sink.new ≡ sink.old) × (clock.new ≡ clock.old) }
-    ensures decode { (history : ℕ) → asked_of (map string_bytes words.now) ≡ Some (Command.Decode history)
+    ensures decode { (history : ℕ) → asked_of (map string_bytes words.now) ≡ Some (CommandLine.Decode history)
         → DoesDecode line_of history result (S.content source.old) (S.content source.new) (S.faults source.old) (S.faults source.new)
         (S.quiets source.old) (S.quiets source.new) (C.stamps clock.old) (C.stamps clock.new)
         (K.written sink.old) (K.written sink.new) (K.faults sink.old) (K.faults sink.new) }
-    ensures pseudo { (history : ℕ) → asked_of (map string_bytes words.now) ≡ Some (Command.Pseudo history)
+    ensures pseudo { (history : ℕ) → asked_of (map string_bytes words.now) ≡ Some (CommandLine.Pseudo history)
         → DoesDecode sentences_of history result (S.content source.old) (S.content source.new) (S.faults source.old) (S.faults source.new)
         (S.quiets source.old) (S.quiets source.new) (C.stamps clock.old) (C.stamps clock.new)
         (K.written sink.old) (K.written sink.new) (K.faults sink.old) (K.faults sink.new) }
-    ensures replay { (history queue : ℕ) → asked_of (map string_bytes words.now) ≡ Some (Command.Replay history queue)
+    ensures replay { (history queue : ℕ) → asked_of (map string_bytes words.now) ≡ Some (CommandLine.Replay history queue)
         → DoesReplay queue result (S.content source.old) (S.content source.new) (S.faults source.old) (S.faults source.new)
         (S.quiets source.old) (S.quiets source.new) (C.stamps clock.old) (C.stamps clock.new)
         (K.written sink.old) (K.written sink.new) (K.faults sink.old) (K.faults sink.new) }
-    ensures generate { (seed size : ℕ) → asked_of (map string_bytes words.now) ≡ Some (Command.Generate seed size)
+    ensures generate { (seed size : ℕ) → asked_of (map string_bytes words.now) ≡ Some (CommandLine.Generate seed size)
         → DoesGenerate seed size result (S.content source.old) (S.content source.new) (S.faults source.old) (S.faults source.new)
         (S.quiets source.old) (S.quiets source.new) (C.stamps clock.old) (C.stamps clock.new)
         (K.written sink.old) (K.written sink.new) (K.faults sink.old) (K.faults sink.new) }
-    ensures lines { asked_of (map string_bytes words.now) ≡ Some Command.Lines → DoesLines result (S.content source.old) (S.content source.new) (S.faults source.old) (S.faults source.new)
+    ensures lines { asked_of (map string_bytes words.now) ≡ Some CommandLine.Lines
+        → DoesLines result (S.content source.old) (S.content source.new) (S.faults source.old) (S.faults source.new)
         (S.quiets source.old) (S.quiets source.new) (C.stamps clock.old) (C.stamps clock.new)
         (K.written sink.old) (K.written sink.new) (K.faults sink.old) (K.faults sink.new) }
     ensures read_fault { result ≡ 3 → HasReadCause (S.faults source.old) (S.faults source.new) (S.quiets source.old) (S.quiets source.new) }
     ensures write_fault { result ≡ 4 → Rose (K.faults sink.old) (K.faults sink.new) }
-    ensures ends { (command : Command) → asked_of (map string_bytes words.now) ≡ Some command
+    ensures ends { (command : CommandLine) → asked_of (map string_bytes words.now) ≡ Some command
         → NothingFails (S.faults source.old) (S.faults source.new) (S.quiets source.old) (S.quiets source.new) (K.faults sink.old) (K.faults sink.new)
         → EndsAt command result }
-    ensures complete { (command : Command) → asked_of (map string_bytes words.now) ≡ Some command
+    ensures complete { (command : CommandLine) → asked_of (map string_bytes words.now) ≡ Some command
         → IsWithinLimits command (S.content source.old)
         → NothingFails (S.faults source.old) (S.faults source.new) (S.quiets source.old) (S.quiets source.new) (K.faults sink.old) (K.faults sink.new)
         → (result ≡ 0) ⊎ (result ≡ 7) }

@@ -4,17 +4,17 @@ ghost use Rattle.gps_outside.specs.Counts.{Rose};
 ghost use Rattle.gps_words.specs.Serve.{serve_asked_of, shown};
 ghost use Rattle.gps_words.specs.Within.{IsWithin};
 ghost use Rattle.gps_world.specs.Asking.{asked_nothing};
-ghost use Rattle.serve_opening.specs.Opening.{dial_of, places_in};
-ghost use Rattle.serve_parts.specs.Plans.{IsPlan};
-ghost use Rattle.serve_settling.specs.Failing.{DeviceFailed, SomeFailed, SourceFailed};
-ghost use Rattle.serve_settling.specs.Runs.{source_facts};
-ghost use Rattle.gps_serve.specs.AtEnd.{AtEnd, gate_facts, sink_facts, told_in};
+ghost use Rattle.world_opening.specs.Opening.{dial_of, places_in};
+ghost use Rattle.serve_end_parts.specs.Plans.{IsPlan};
+ghost use Rattle.serve_end_settling.specs.Failing.{DeviceFailed, SomeFailed, SourceFailed};
+ghost use Rattle.serve_end_settling.specs.Runs.{source_facts};
+ghost use Rattle.gps_serve.specs.AtEnd.{AtEnd, gate_facts, sink_facts, settings_in};
 ghost use Rattle.gps_serve.specs.Lost.{NoneLost};
 ghost use Rattle.gps_serve.specs.Statuses.{AllEnded, WasLostByFault};
 ghost use Rattle.gps_serve.specs.Whole.{IsWhole};
 ghost use Rattle.gpsrelay.specs.Served.{AsksFor, AsksWhole, HaveEdges, HeldBehind, edge_place_of, place_of, places_of, told_by};
 
-use crate::outcome::Outcome;
+use crate::outcome::CommandOutcome;
 use crate::run::REFUSED;
 use gps_fixed::{Bytes, NoMemory};
 use gps_serve::{Plan, Served, serve};
@@ -67,7 +67,7 @@ fn edge_places_of(alloc: Global, paths: Vec<Option<Bytes>>) -> Result<Vec<Option
 fn plan_of(alloc: Global, options: ServeOptions) -> Result<Plan, NoMemory>
     requires { IsWithin (shown options) }
     ensures plan { IfOk result IsPlan }
-    ensures told { IfOk result (λ plan. told_in plan ≡ told_by (shown options)) }
+    ensures told { IfOk result (λ plan. settings_in plan ≡ told_by (shown options)) }
     ensures places { IfOk result (λ plan. plan.inputs.items ++ places_in plan.edges.items ≡ places_of (shown options)) }
     ensures inputs { IfOk result (λ plan. plan.inputs.items ≡ map place_of options.inputs.items) }
     ensures edges { IfOk result (λ plan. plan.edges.items ≡ map edge_place_of options.edges.items) }
@@ -119,7 +119,7 @@ fn nothing<W: World, R: Wait + Copy>(alloc: Global, world: W, status: u8) -> Ser
         gate: None,
         world,
         full: 0,
-        no_memory: status == Outcome::NoMemory.status(),
+        no_memory: status == CommandOutcome::NoMemory.status(),
     }
 }
 
@@ -147,20 +147,25 @@ pub fn serve_main<W: World, R: Threads + Wait + Copy + Send + Sync>(
     ensures zero { result.status ≡ 0 → (result.no_memory ≡ false) × IsSome result.book }
     ensures ended { result.status ≡ 0 → AllEnded result.devices.items }
     ensures lacks { result.no_memory ≡ false → IfSome result.book (λ book. NoneLost book result.devices.items) }
-    ensures none { result.book ≡ None → (result.status ≡ 2) ⊎ ((result.status ≡ 3) × Rose (W.input_faults world) (W.input_faults result.world)) ⊎ ((result.status ≡ 8) × Rose (W.listen_faults world) (W.listen_faults result.world)) ⊎ (result.status ≡ 7) }
+    ensures none { result.book ≡ None → (result.status ≡ 2) ⊎ ((result.status ≡ 3) × Rose (W.input_faults world) (W.input_faults result.world))
+        ⊎ ((result.status ≡ 8) × Rose (W.listen_faults world) (W.listen_faults result.world)) ⊎ (result.status ≡ 7) }
     ensures asked { AsksFor (serve_asked_of (map string_bytes words.now)) (W.asked result.world) }
     ensures all_asked { IsSome result.book → IfSome (serve_asked_of (map string_bytes words.now)) (AsksWhole (W.asked result.world)) }
     ensures edges { IsSome result.book → IfSome (serve_asked_of (map string_bytes words.now)) (HaveEdges result.devices.items) }
     ensures whole { IsSome result.book → All (IsWhole (dial_of (W.stamps world)) (source_facts W.In.content W.In.faults W.In.quiets)) result.devices.items }
-    ensures held { IsSome result.book → IfSome (serve_asked_of (map string_bytes words.now)) (HeldBehind (W.behind world) (source_facts W.In.content W.In.faults W.In.quiets) result.devices.items) }
-    ensures at_end { IfSome result.book (λ book. IfSome (serve_asked_of (map string_bytes words.now)) (λ s. AtEnd (told_by s) (dial_of (W.stamps world)) (source_facts W.In.content W.In.faults W.In.quiets) (sink_facts W.Out.written W.Out.faults) (gate_facts W.Gate.links W.Gate.faults W.Gate.quiets) (W.links world) result.full result.no_memory book result.devices.items result.sessions.items result.monitors.items result.gate)) }
+    ensures held { IsSome result.book
+        → IfSome (serve_asked_of (map string_bytes words.now)) (HeldBehind (W.behind world) (source_facts W.In.content W.In.faults W.In.quiets)
+        result.devices.items) }
+    ensures at_end { IfSome result.book (λ book. IfSome (serve_asked_of (map string_bytes words.now))
+        (λ s. AtEnd (told_by s) (dial_of (W.stamps world)) (source_facts W.In.content W.In.faults W.In.quiets) (sink_facts W.Out.written W.Out.faults)
+        (gate_facts W.Gate.links W.Gate.faults W.Gate.quiets) (W.links world) result.full result.no_memory book result.devices.items result.sessions.items result.monitors.items result.gate)) }
 {
     match serve_asked(alloc, words) {
         Ok(options) => match plan_of(alloc, options) {
             Ok(plan) => serve(rt, alloc, plan, world),
-            Err(NoMemory) => nothing(alloc, world, Outcome::NoMemory.status()),
+            Err(NoMemory) => nothing(alloc, world, CommandOutcome::NoMemory.status()),
         },
         Err(WordsFault::Refused) => nothing(alloc, world, REFUSED),
-        Err(WordsFault::NoMemory) => nothing(alloc, world, Outcome::NoMemory.status()),
+        Err(WordsFault::NoMemory) => nothing(alloc, world, CommandOutcome::NoMemory.status()),
     }
 }

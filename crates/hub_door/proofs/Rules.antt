@@ -9,7 +9,7 @@ use Rattle.atomic_table.specs.Table.{keeps as no_slot}
 use Rattle.hub_door.specs.declared.view.DoorView.{DoorView}
 use Rattle.hub_door.specs.declared.view.Entry.{Entry}
 use Rattle.hub_door.specs.Views.{keeper, noted, meeting, BeginsWith}
-use Rattle.hub_door.specs.Rule.{Fits, Holds, HoldsOf}
+use Rattle.hub_door.specs.Rule.{Fits, DoorHolds, HoldsOf}
 
 pub nothing_begins : (all : List Entry) → BeginsWith [] all
 nothing_begins all = (all, refl)
@@ -107,7 +107,7 @@ checks slots seat list told s h homes at small =
     )
 
 -- at the start
-pub opens : Holds (keeper [] ∷ [])
+pub opens : DoorHolds (keeper [] ∷ [])
 opens = record { hub = 0; all = []; fits = λ seat v at. only seat v at }
   where
     only : (seat : ℕ) (v : DoorView) → get_elem? (keeper [] ∷ []) seat ≡ some v → Fits 0 [] seat v

@@ -1,5 +1,5 @@
 -- What a list of the door's entries says: the sessions that were admitted, in order, each with its two lanes, and whether the door has closed
--- or failed. This project's own.
+-- or failed.
 use Rattle.std.specs.Prelude.{ℕ, Bool, true, false, ◌||◌, List, [], ◌∷◌, ◌++◌}
 use Rattle.std.specs.List.{flat_map, list_any}
 use Rattle.atomic_table.specs.Seated.{TableId}
@@ -8,19 +8,19 @@ use Rattle.hub_door.specs.declared.view.Entry.{Entry}
 use Rattle.hub_door.specs.declared.view.Entry.TheVariants.{Link as LinkEntry, Done}
 
 -- a session's outlet lane, with the number of items that may stand in it, and its input lane
-pub record Link : Type 0 where
+pub record SessionLanes : Type 0 where
   pub outlet : TableId
   pub cap : ℕ
   pub input : TableId
 
-abbrev pub link_of : TableId → ℕ → TableId → Link
+abbrev pub link_of : TableId → ℕ → TableId → SessionLanes
 link_of outlet cap input = record { outlet = outlet; cap = cap; input = input }
 
 pub record Admissions : Type 0 where
-  pub links : List Link
+  pub links : List SessionLanes
   pub done : Bool
 
-abbrev pub links_in : Entry → List Link
+abbrev pub links_in : Entry → List SessionLanes
 links_in (LinkEntry outlet cap input) = record { outlet = outlet.name; cap = cap; input = input.name } ∷ []
 links_in Done = []
 
@@ -31,11 +31,11 @@ is_done Done = true
 abbrev pub admissions : List Entry → Admissions
 admissions list = record { links = flat_map links_in list; done = list_any is_done list }
 
-abbrev pub entry_of : Link → Entry
+abbrev pub entry_of : SessionLanes → Entry
 entry_of link = LinkEntry (table_name link.outlet) link.cap (table_name link.input)
 
 -- one more session
-abbrev pub admitting : Link → Admissions → Admissions
+abbrev pub admitting : SessionLanes → Admissions → Admissions
 admitting link a = record a { links = a.links ++ link ∷ [] }
 
 -- the door has closed or failed

@@ -1,5 +1,5 @@
 -- The rule of the door's table: each note is a beginning of the list that the hub's one seat keeps. The fixed view that a joined seat leaves
--- is that of an empty note. This project's own.
+-- is that of an empty note.
 use Rattle.std.specs.Prelude.{◌≡◌, ℕ, true, List}
 use mathlib.Core.Option.{some}
 use lib.ListN.{get_elem?}
@@ -14,10 +14,10 @@ pub record Fits (hub : ℕ) (all : List Entry) (seat : ℕ) (v : DoorView) : Typ
   pub begins : BeginsWith v.list all
   pub told : BeginsWith v.told all
 
-pub record Holds (views : List DoorView) : Type 0 where
+pub record DoorHolds (views : List DoorView) : Type 0 where
   pub hub : ℕ
   pub all : List Entry
   pub fits : (seat : ℕ) (v : DoorView) → get_elem? views seat ≡ some v → Fits hub all seat v
 
 abbrev pub HoldsOf : State (Unit {0}) DoorView → Type 0
-HoldsOf state = Holds state.views
+HoldsOf state = DoorHolds state.views

@@ -1,4 +1,4 @@
--- What each kind of seat of the door's table knows. This project's own.
+-- What each kind of seat of the door's table knows.
 use Rattle.std.specs.Prelude.{◌≡◌, true, false, List, [], ◌++◌}
 use Rattle.atomic_table.specs.Seated.{TableId}
 use Rattle.atomic_table.specs.Table.{Me}

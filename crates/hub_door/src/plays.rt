@@ -25,11 +25,11 @@ impl Entering for Finishes {
 }
 
 /// A store that adds an entry to the hub's list.
-pub struct Adds<E: Entering> {
+pub struct AddsEntry<E: Entering> {
     marker: PhantomData<E>,
 }
 
-impl<E: Entering> Play<(), DoorView> for Adds<E> {
+impl<E: Entering> Play<(), DoorView> for AddsEntry<E> {
     ghost use Rattle.std.specs.Prelude.{◌≡◌, [], ◌∷◌, ◌++◌};
     ghost use Rattle.hub_door.specs.Views.{keeper};
 
@@ -48,9 +48,9 @@ impl Split<DoorView> for Notes {
 }
 
 /// A note is joined to the hub's seat.
-pub struct Meets;
+pub struct JoinsNote;
 
-impl Join<DoorView> for Meets {
+impl Join<DoorView> for JoinsNote {
     ghost use Rattle.std.specs.Prelude.{[]};
     ghost use Rattle.hub_door.specs.Views.{meeting, noted};
 
@@ -60,9 +60,9 @@ impl Join<DoorView> for Meets {
 }
 
 /// A load at which the hub's list and a note agree.
-pub struct Checks;
+pub struct ChecksNote;
 
-impl Play<(), DoorView> for Checks {
+impl Play<(), DoorView> for ChecksNote {
     ghost use Rattle.std.specs.Prelude.{◌≡◌, []};
     ghost use Rattle.hub_door.specs.Views.{keeper, BeginsWith};
 

@@ -2,7 +2,7 @@
 ghost use Rattle.std.specs.Prelude.{◌≡◌, [], ◌∷◌, ◌++◌};
 ghost use Rattle.hub_door.specs.Views.{BeginsWith, IsKeeperOf, IsNoteOf, keeper, noted};
 
-use crate::plays::{Adds, Checks, Entering, Meets, Notes};
+use crate::plays::{AddsEntry, ChecksNote, Entering, JoinsNote, Notes};
 use crate::table::{DoorWord, TableSeat};
 use std::mem;
 
@@ -17,8 +17,8 @@ pub(crate) fn compare(word: &DoorWord, hub: &mut TableSeat, seat: &mut TableSeat
 {
     let fresh = word.shared.split_seat::<Notes>(hub);
     let old = mem::replace(seat, fresh);
-    word.shared.join_seat::<Meets>(hub, old);
-    word.shared.load::<Checks>(hub, 0);
+    word.shared.join_seat::<JoinsNote>(hub, old);
+    word.shared.load::<ChecksNote>(hub, 0);
 }
 
 /// Adds an entry to the hub's list.
@@ -27,7 +27,7 @@ pub(crate) fn add<E: Entering>(word: &DoorWord, hub: &mut TableSeat)
     requires hub { IsKeeperOf word.now.shared.table_id hub.old.table_id hub.old.me }
     ensures { (hub.new.table_id ≡ hub.old.table_id) × (hub.new.me ≡ (keeper (hub.old.me.0.list ++ E.entry ∷ []), [])) }
 {
-    word.shared.store::<Adds<E>>(hub, 0, 0);
+    word.shared.store::<AddsEntry<E>>(hub, 0, 0);
 }
 
 /// A note of the hub's list.

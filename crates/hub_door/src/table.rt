@@ -4,7 +4,7 @@ ghost use Rattle.hub_door.specs.Admissions.{Admissions};
 use crate::keeper::Keeper;
 use crate::naming::{Cut, DoorNaming};
 use crate::plays::Notes;
-use crate::rule::Kept;
+use crate::rule::DoorRule;
 use crate::seat::DoorSeat;
 use crate::view::DoorView;
 use atomic_table::{Seat, Table};
@@ -14,7 +14,7 @@ use std::marker::Model;
 use std::sync::ledger::Blank;
 
 /// The table of the door: one word, under its rule.
-pub type DoorWord = Table<(), DoorView, (), Kept, Global>;
+pub type DoorWord = Table<(), DoorView, (), DoorRule, Global>;
 
 /// A seat of the table.
 pub type TableSeat = Seat<(), DoorView>;

@@ -1,5 +1,5 @@
 -- The shape at the head of a list of bytes, computed from the left. That it is the one that the sets of
--- `Sentence` give is what the clauses `whole` and `pending` of `sentence_at` say. This project's own.
+-- `Sentence` give is what the clauses `whole` and `pending` of `sentence_at` say.
 use Rattle.std.specs.Prelude.{◌+◌, ◌==◌, ◌&&◌, ℕ, Bool, List, [], ◌∷◌, length, take, drop, Option, Some, None, is_some, nat_le, nat_lt, if◌then◌else◌}
 use Rattle.std.specs.List.{prefix_len}
 use Rattle.nmea_frame.specs.Sentence.{is_body_byte, hex_value, read_sum, checksum}

@@ -45,19 +45,19 @@ module _ {A : Type 0} (head : List A → Head) (item : A) (items : List A) where
 
 module _ {A : Type 0} (head : List A → Head) (stable : IsStable head) where
   -- the packets and the rest of a longer list: those of the rest and what follows are added, from their place on
-  pub record GoesOn (place skip at : ℕ) (items more : List A) : Type 0 where
+  pub record PacketsGoOn (place skip at : ℕ) (items more : List A) : Type 0 where
     pub parts : parts_from head place skip (items ++ more) ≡ parts_from head place skip items ++ parts_from head at 0 (rest_from head skip items ++ more)
     pub rest : rest_from head skip (items ++ more) ≡ rest_from head 0 (rest_from head skip items ++ more)
 
   step : (place at : ℕ) (item : A) (items more : List A) (h : Head) → head (item ∷ items) ≡ h →
       at + length (rest_from head 0 (item ∷ items)) ≡ place + length (item ∷ items) →
-      ((skip : ℕ) → skip ≤ length items → at + length (rest_from head skip items) ≡ place + 1 + length items → GoesOn (place + 1) skip at items more) →
-      GoesOn place 0 at (item ∷ items) more
+      ((skip : ℕ) → skip ≤ length items → at + length (rest_from head skip items) ≡ place + 1 + length items → PacketsGoOn (place + 1) skip at items more) →
+      PacketsGoOn place 0 at (item ∷ items) more
   step place at item items more (Packet kind n) is same behind =
       let longer : head (item ∷ (items ++ more)) ≡ Packet kind n = stable.packet_stays (item ∷ items) more kind n is in
       let long : (6 ≤ n) × (n ≤ length (item ∷ items)) = stable.packet_least (item ∷ items) kind n is in
       let rest : rest_from head 0 (item ∷ items) ≡ rest_from head (n - 1) items = rest_packet head item items kind n is in
-      let on : GoesOn (place + 1) (n - 1) at items more = behind (n - 1) (omega arith) (omega (arith, ap length rest)) in
+      let on : PacketsGoOn (place + 1) (n - 1) at items more = behind (n - 1) (omega arith) (omega (arith, ap length rest)) in
       let taken : take n (item ∷ (items ++ more)) ≡ take n (item ∷ items) = take-append-le n (item ∷ items) more (long.1) in
       record {
         parts = rw (parts_packet head item (items ++ more) place kind n longer, parts_packet head item items place kind n is, rest, taken, on.parts) refl;
@@ -73,21 +73,21 @@ module _ {A : Type 0} (head : List A → Head) (stable : IsStable head) where
   step place at item items more Junk is same behind =
       let longer : head (item ∷ (items ++ more)) ≡ Junk = stable.junk_stays (item ∷ items) more is in
       let rest : rest_from head 0 (item ∷ items) ≡ rest_from head 0 items = rest_junk head item items is in
-      let on : GoesOn (place + 1) 0 at items more = behind 0 (omega arith) (omega (arith, ap length rest)) in
+      let on : PacketsGoOn (place + 1) 0 at items more = behind 0 (omega arith) (omega (arith, ap length rest)) in
       record {
         parts = rw (parts_junk head item (items ++ more) place longer, parts_junk head item items place is, rest) (on.parts);
         rest = rw (rest_junk head item (items ++ more) longer, rest) (on.rest);
       }
 
   pub goes_on : (place skip at : ℕ) (items more : List A) → skip ≤ length items → at + length (rest_from head skip items) ≡ place + length items →
-      GoesOn place skip at items more
+      PacketsGoOn place skip at items more
   unfolding parts_from rest_from
   goes_on place zero at [] more inside same =
       let e : at ≡ place = omega arith in
       record { parts = ap (λ p. parts_from head p 0 more) (sym e); rest = refl }
   goes_on place (suc skip) at [] more inside same = absurd (omega arith)
   goes_on place (suc skip) at (item ∷ items) more inside same =
-      let on : GoesOn (place + 1) skip at items more = goes_on (place + 1) skip at items more (omega arith) (omega arith) in
+      let on : PacketsGoOn (place + 1) skip at items more = goes_on (place + 1) skip at items more (omega arith) (omega arith) in
       record { parts = on.parts; rest = on.rest }
   goes_on place zero at (item ∷ items) more inside same =
       step place at item items more (head (item ∷ items)) refl same (λ skip inside' same'. goes_on (place + 1) skip at items more inside' same')

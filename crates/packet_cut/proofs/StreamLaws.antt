@@ -8,7 +8,7 @@ use Rattle.packet_cut.specs.declared.head.Head.TheVariants.{Packet, Pending, Jun
 use Rattle.packet_cut.specs.Heads.{head_of}
 use Rattle.packet_cut.specs.Packets.{Part, by_head, parts_from, found, found_of, moved, rest_of_bytes, Stamped, bytes_of, stamped, head_of_stream, packet, packets_of, rest_of}
 use Rattle.packet_cut.proofs.HeadLaws as heads
-use Rattle.packet_cut.proofs.PacketLaws.{IsStable, GoesOn, goes_on, rest_short, rest_end, parts_few}
+use Rattle.packet_cut.proofs.PacketLaws.{IsStable, PacketsGoOn, goes_on, rest_short, rest_end, parts_few}
 
 pub bytes_are_stable : IsStable head_of
 bytes_are_stable = record { packet_stays = heads.packet_stays; junk_stays = heads.junk_stays; packet_least = heads.packet_least; pending_short = heads.pending_short }
@@ -70,19 +70,19 @@ packets_moved by stream =
     ap (map packet) at ∙ map-map packet (moved_part head_of_stream by) (parts_from head_of_stream 0 0 stream)
 
 -- what a longer stream gains
-stream_goes_on : (stream more : List Stamped) → GoesOn head_of_stream streams_are_stable 0 0 (length stream - length (rest_of stream)) stream more
+stream_goes_on : (stream more : List Stamped) → PacketsGoOn head_of_stream streams_are_stable 0 0 (length stream - length (rest_of stream)) stream more
 stream_goes_on stream more =
     goes_on head_of_stream streams_are_stable 0 0 (length stream - length (rest_of stream)) stream more (omega arith)
     (omega (arith, rest_end head_of_stream streams_are_stable 0 stream))
 
-bytes_go_on : (bytes more : List ℕ) → GoesOn head_of bytes_are_stable 0 0 (length bytes - length (rest_of_bytes bytes)) bytes more
+bytes_go_on : (bytes more : List ℕ) → PacketsGoOn head_of bytes_are_stable 0 0 (length bytes - length (rest_of_bytes bytes)) bytes more
 bytes_go_on bytes more =
     goes_on head_of bytes_are_stable 0 0 (length bytes - length (rest_of_bytes bytes)) bytes more (omega arith)
     (omega (arith, rest_end head_of bytes_are_stable 0 bytes))
 
 pub packets_gain : (stream more : List Stamped) → packets_of (stream ++ more) ≡ packets_of stream ++ packets_of (rest_of stream ++ more)
 packets_gain stream more =
-    let on : GoesOn head_of_stream streams_are_stable 0 0 (length stream - length (rest_of stream)) stream more = stream_goes_on stream more in
+    let on : PacketsGoOn head_of_stream streams_are_stable 0 0 (length stream - length (rest_of stream)) stream more = stream_goes_on stream more in
     ap (map packet) (on.parts) ∙ map-append packet (parts_from head_of_stream 0 0 stream) _
     ∙ ap (λ t. packets_of stream ++ t) (packets_moved (length stream - length (rest_of stream)) (rest_of stream ++ more))
 
@@ -92,7 +92,7 @@ rest_gain stream more = (stream_goes_on stream more).rest
 pub found_gain : (bytes more : List ℕ) →
     found_of (bytes ++ more) ≡ found_of bytes ++ map (moved (length bytes - length (rest_of_bytes bytes))) (found_of (rest_of_bytes bytes ++ more))
 found_gain bytes more =
-    let on : GoesOn head_of bytes_are_stable 0 0 (length bytes - length (rest_of_bytes bytes)) bytes more = bytes_go_on bytes more in
+    let on : PacketsGoOn head_of bytes_are_stable 0 0 (length bytes - length (rest_of_bytes bytes)) bytes more = bytes_go_on bytes more in
     ap (map found) (on.parts) ∙ map-append found (parts_from head_of 0 0 bytes) _
     ∙ ap (λ t. found_of bytes ++ t) (found_moved (length bytes - length (rest_of_bytes bytes)) (rest_of_bytes bytes ++ more))
 

@@ -1,5 +1,4 @@
--- The next packet of a list of bytes from a place on, or where the rest begins: what the search from place to place answers. This
--- project's own.
+-- The next packet of a list of bytes from a place on, or where the rest begins: what the search from place to place answers.
 use Rattle.std.specs.Prelude.{◌≡◌, ℕ, ◌+◌, ◌<◌, ◌≤◌, List, length, drop}
 use Rattle.packet_cut.specs.declared.head.Head.TheVariants.{Packet, Pending, Junk}
 use Rattle.packet_cut.specs.declared.found.Found.{Found}

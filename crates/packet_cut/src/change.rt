@@ -10,13 +10,13 @@ const MOST_KEPT: usize = 2055;
 
 /// How the bytes that a cutter keeps change: some go from their front and others come at their end, or all are new.
 #[derive(Drop)]
-pub struct Change {
+pub struct CutterChange {
     pub(crate) anew: bool,
     pub(crate) gone: usize,
     pub(crate) more: Vec<(Stamp, u8)>,
 }
 
-impl Model for Change {
+impl Model for CutterChange {
     ghost use Rattle.std.specs.Prelude.{◌≡◌, ◌≤◌, ◌<◌, true, length, vec_capacity};
     ghost use Rattle.packet_cut.specs.Standing.{Shift};
 
@@ -28,14 +28,14 @@ impl Model for Change {
     ghost invariant = { λ c. c.anew ≡ true → 0 < length c.more.items → 2055 ≤ vec_capacity c.more };
 }
 
-impl Change {
+impl CutterChange {
     /// The bytes of a piece are the only ones.
-    pub(crate) fn anew(alloc: Global, at: Stamp, piece: &[u8]) -> Result<Change, NoMemory>
+    pub(crate) fn anew(alloc: Global, at: Stamp, piece: &[u8]) -> Result<CutterChange, NoMemory>
         ensures { IfOk result (λ change. change ≡ record { anew = true; gone = 0; more = stamped at piece.now }) }
     {
         let room = if piece.is_empty() { 0 } else { MOST_KEPT };
         let more = stamp_all(alloc, room, at, piece)?;
-        Ok(Change {
+        Ok(CutterChange {
             anew: true,
             gone: 0,
             more,
@@ -48,11 +48,11 @@ impl Change {
         gone: usize,
         at: Stamp,
         piece: &[u8],
-    ) -> Result<Change, NoMemory>
+    ) -> Result<CutterChange, NoMemory>
         ensures { IfOk result (λ change. change ≡ record { anew = false; gone = gone; more = stamped at piece.now }) }
     {
         let more = stamp_all(alloc, piece.len(), at, piece)?;
-        Ok(Change {
+        Ok(CutterChange {
             anew: false,
             gone,
             more,
@@ -60,11 +60,11 @@ impl Change {
     }
 
     /// The same change once more.
-    pub fn copy(&self, alloc: Global) -> Result<Change, NoMemory>
+    pub fn copy(&self, alloc: Global) -> Result<CutterChange, NoMemory>
         ensures { IfOk result (λ change. change ≡ self.now) }
     {
         let more = copy_of(alloc, &self.more)?;
-        Ok(Change {
+        Ok(CutterChange {
             anew: self.anew,
             gone: self.gone,
             more,

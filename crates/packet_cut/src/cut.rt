@@ -4,7 +4,7 @@ ghost use Rattle.packet_cut.specs.Packets.{bytes_of, stamped, packets_of, rest_o
 ghost use Rattle.packet_cut.specs.Standing.{IsCut, IsFound, stamp_in, stream_of, applied};
 
 use crate::Head;
-use crate::change::Change;
+use crate::change::CutterChange;
 use crate::next::{Next, next_from};
 use gps_fixed::{Bytes, NoMemory, Stamp};
 use gps_report::Packet;
@@ -15,11 +15,11 @@ const USUAL_PACKET: usize = 48;
 
 /// What a piece of bytes completes, and what a cutter keeps then.
 #[derive(Drop)]
-pub struct Cut {
+pub struct PacketCut {
     /// The packets, in order.
     pub packets: Vec<Packet>,
     /// For `Cutter::put`.
-    pub change: Change,
+    pub change: CutterChange,
 }
 
 /// The packets of a list of bytes, and the place of its rest. The first bytes are kept ones, which have their own stamps.
@@ -81,7 +81,7 @@ pub(crate) fn cut_behind(
     kept: &[(Stamp, u8)],
     at: Stamp,
     piece: &[u8],
-) -> Result<Cut, NoMemory>
+) -> Result<PacketCut, NoMemory>
     ensures { IfOk result (λ cut. IsCut kept.now at piece.now cut.packets.items cut.change) }
 {
     match kept {
@@ -92,12 +92,12 @@ pub(crate) fn cut_behind(
 }
 
 /// The cut where nothing was kept: straight out of the piece.
-fn cut_piece(alloc: Global, at: Stamp, piece: &[u8]) -> Result<Cut, NoMemory>
+fn cut_piece(alloc: Global, at: Stamp, piece: &[u8]) -> Result<PacketCut, NoMemory>
     ensures { IfOk result (λ cut. IsCut [] at piece.now cut.packets.items cut.change) }
 {
     let Packets { packets, rest } = packets_in(alloc, &[], at, piece)?;
-    let change = Change::anew(alloc, at, behind(piece, rest))?;
-    Ok(Cut { packets, change })
+    let change = CutterChange::anew(alloc, at, behind(piece, rest))?;
+    Ok(PacketCut { packets, change })
 }
 
 /// The cut where a frame still waits for more than the piece.
@@ -106,28 +106,33 @@ fn cut_nothing(
     kept: &[(Stamp, u8)],
     at: Stamp,
     piece: &[u8],
-) -> Result<Cut, NoMemory>
+) -> Result<PacketCut, NoMemory>
     requires some { 0 < length kept.now }
     requires pending { head_of (bytes_of kept.now ++ piece.now) ≡ Head.Pending }
     ensures { IfOk result (λ cut. IsCut kept.now at piece.now cut.packets.items cut.change) }
 {
-    let change = Change::onward(alloc, 0, at, piece)?;
-    Ok(Cut {
+    let change = CutterChange::onward(alloc, 0, at, piece)?;
+    Ok(PacketCut {
         packets: Vec::new(alloc),
         change,
     })
 }
 
 /// The cut of the kept bytes and the piece as one list.
-fn cut_joined(alloc: Global, kept: &[(Stamp, u8)], at: Stamp, piece: &[u8]) -> Result<Cut, NoMemory>
+fn cut_joined(
+    alloc: Global,
+    kept: &[(Stamp, u8)],
+    at: Stamp,
+    piece: &[u8],
+) -> Result<PacketCut, NoMemory>
     requires { 0 < length kept.now }
     ensures { IfOk result (λ cut. IsCut kept.now at piece.now cut.packets.items cut.change) }
 {
     let bytes = joined(alloc, kept, piece)?;
     let Packets { packets, rest } = packets_in(alloc, kept, at, bytes.as_slice())?;
     let gone = rest.min(kept.len());
-    let change = Change::onward(alloc, gone, at, behind(piece, rest - gone))?;
-    Ok(Cut { packets, change })
+    let change = CutterChange::onward(alloc, gone, at, behind(piece, rest - gone))?;
+    Ok(PacketCut { packets, change })
 }
 
 /// The kept bytes and those of the piece.

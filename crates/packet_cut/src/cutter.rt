@@ -2,8 +2,8 @@ ghost use Rattle.std.specs.Prelude.{◌≡◌, ◌+◌, ◌*◌, ◌≤◌, ◌<
 ghost use Rattle.packet_cut.specs.Packets.{Stamped, stamped, packets_of, rest_of};
 ghost use Rattle.packet_cut.specs.Standing.{StandsFor, Gains, IsCut, Fits, applied};
 
-use crate::change::Change;
-use crate::cut::{Cut, cut_behind};
+use crate::change::CutterChange;
+use crate::cut::{PacketCut, cut_behind};
 use gps_fixed::{NoMemory, Stamp};
 use gps_report::Packet;
 use std::alloc::Global;
@@ -42,7 +42,7 @@ impl Cutter {
 
     /// The packets that a piece completes, and the change that `put` makes of it. The cutter stays as it is. Each packet
     /// has at least 6 of the bytes that are pending, at most 2,055, and those of the piece.
-    pub fn cut(&self, at: Stamp, piece: &[u8]) -> Result<Cut, NoMemory>
+    pub fn cut(&self, at: Stamp, piece: &[u8]) -> Result<PacketCut, NoMemory>
         ensures cut { IfOk result (λ cut. IsCut self.now at piece.now cut.packets.items cut.change) }
         ensures gains { IfOk result (λ cut. (stream : List Stamped) → StandsFor self.now stream
             → Gains stream (stamped at piece.now) cut.packets.items
@@ -54,11 +54,11 @@ impl Cutter {
     }
 
     /// Makes the change of a cut. Takes no memory. The cutter must be as it was at the cut.
-    pub fn put(&mut self, change: Change)
+    pub fn put(&mut self, change: CutterChange)
         requires { Fits change self.old }
         ensures { self.new ≡ applied change self.old }
     {
-        let Change { anew, gone, more } = change;
+        let CutterChange { anew, gone, more } = change;
         if anew {
             self.kept = more;
         } else {
@@ -78,7 +78,7 @@ impl Cutter {
         ensures few { IfOk result (λ packets. 6 * length packets.items ≤ length self.old + length piece.now) }
         ensures err { OnErr result (self.new ≡ self.old) }
     {
-        let Cut { packets, change } = self.cut(at, piece)?;
+        let PacketCut { packets, change } = self.cut(at, piece)?;
         self.put(change);
         Ok(packets)
     }

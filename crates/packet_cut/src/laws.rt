@@ -16,7 +16,8 @@ use gps_report::PacketKind;
 /// What a list of bytes begins with goes by the sets of sentences and frames, and of their beginnings.
 pub fn heads_go_by_the_sets()
     ensures sentence { (bytes : List ℕ) (n : ℕ) → (head_of bytes ≡ Head.Packet PacketKind.Nmea n) ↔ ((n ≤ length bytes) × IsSentence (take n bytes)) }
-    ensures frame { (bytes : List ℕ) → list_all is_byte bytes ≡ true → (n : ℕ) → (head_of bytes ≡ Head.Packet PacketKind.Ubx n) ↔ ((n ≤ length bytes) × IsFrame (take n bytes)) }
+    ensures frame { (bytes : List ℕ) → list_all is_byte bytes ≡ true → (n : ℕ)
+        → (head_of bytes ≡ Head.Packet PacketKind.Ubx n) ↔ ((n ≤ length bytes) × IsFrame (take n bytes)) }
     ensures pending { (bytes : List ℕ) → list_all is_byte bytes ≡ true → (head_of bytes ≡ Head.Pending) ↔ (BeginsSentence bytes ⊎ BeginsFrame bytes) }
 {}
 

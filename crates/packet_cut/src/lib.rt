@@ -13,8 +13,8 @@ mod head;
 mod laws;
 mod next;
 
-pub use change::Change;
-pub use cut::Cut;
+pub use change::CutterChange;
+pub use cut::PacketCut;
 pub use cutter::Cutter;
 pub use found::{Found, cut_all};
 pub use head::{Head, head_at};

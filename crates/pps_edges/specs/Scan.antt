@@ -1,4 +1,4 @@
--- How a line of an edge is read, part by part. What the lines are is said in EdgeLine.antt. This project's own.
+-- How a line of an edge is read, part by part. What the lines are is said in EdgeLine.antt.
 use Rattle.std.specs.Prelude.{ℕ, pos, Bool, ◌&&◌, List, length, not, cond, nat_eq, nat_le, nat_lt, Option, Some, None, take, drop, codes}
 use Rattle.std.specs.List.{list_all, prefix_len}
 use Rattle.std.specs.Str.Parse.{digits_value}

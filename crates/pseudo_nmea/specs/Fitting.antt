@@ -1,4 +1,4 @@
--- Which fixes the two sentences say whole, but for the height above the ellipsoid and the climb. This project's own.
+-- Which fixes the two sentences say whole, but for the height above the ellipsoid and the climb.
 use Rattle.std.specs.Prelude.{◌≡◌, ◌≢◌, ℕ, zero, suc, ◌/◌, ◌%◌, Bool, true, ◌&&◌, ◌==◌, nat_le, int_le, List, [], ◌∷◌, Option, Some, None, IfSome, IsSome, pos, unsigned_abs}
 use Rattle.gps_fixed.specs.Civil.{civil_of}
 use Rattle.gps_fixed.specs.Moment.{Moment, IsMoment}

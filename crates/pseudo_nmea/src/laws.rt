@@ -19,7 +19,8 @@ ghost use Rattle.pseudo_nmea.specs.Fitting.{alone, is_coarse, is_dated, GivesBac
 /// The fix of an epoch whose only note is that of a NAV-PVT fits the two sentences, where its day is not after 2079, its
 /// speed is at most a million knots, and it has a position wherever it says that there is a fix.
 pub fn fixes_of_frames_fit()
-    ensures { (payload : List ℕ) (first : Moment) → list_all is_byte payload ≡ true → IsSayable (pvt_note payload) → IsFitting (fix_of (said (alone (pvt_note payload) first))) }
+    ensures { (payload : List ℕ) (first : Moment) → list_all is_byte payload ≡ true → IsSayable (pvt_note payload)
+        → IsFitting (fix_of (said (alone (pvt_note payload) first))) }
 {}
 
 /// The decoder reads back each field that a fitting quantity has: heights, tracks, speeds, positions, times of day and days.
@@ -27,7 +28,8 @@ pub fn fields_are_read_back()
     ensures heights { (h : ℤ) → is_height h ≡ true → height_of (metres (Some h)) ≡ Some h }
     ensures tracks { (t : ℤ) → is_course t ≡ true → track_of (course (Some t)) ≡ Some t }
     ensures speeds { (v : ℤ) → is_speed v ≡ true → speed_of (knots (Some v)) ≡ Some v }
-    ensures places { (p : Position) → is_place p ≡ true → is_coarse p ≡ true → position_of (latitude (Some p)) (north (Some p)) (longitude (Some p)) (east (Some p)) ≡ Some p }
+    ensures places { (p : Position) → is_place p ≡ true → is_coarse p ≡ true
+        → position_of (latitude (Some p)) (north (Some p)) (longitude (Some p)) (east (Some p)) ≡ Some p }
     ensures times { (at : Moment) → at.nsec < 10 ^ 9 → time_of (clock (Some at)) ≡ Some (unsigned_abs at.sec % 86_400 * 10 ^ 9 + at.nsec) }
     ensures days { (at : Moment) → is_dated at ≡ true → date_of (date (Some at)) ≡ Some (pos (unsigned_abs at.sec / 86_400)) }
 {}

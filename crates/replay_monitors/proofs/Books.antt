@@ -12,7 +12,7 @@ use Rattle.book_log.specs.History.{history_after}
 use Rattle.book_log.specs.Standing.{StandsFor}
 use Rattle.book_units.specs.declared.unit.UnitStep.{UnitStep}
 use Rattle.book_units.specs.declared.unit.UnitStep.TheVariants.{Stored, Empty, Spent}
-use Rattle.book_units.specs.Changes.{Gains, turned}
+use Rattle.book_units.specs.Changes.{UnitGains, turned}
 use Rattle.book_units.specs.Samples.{samples_of}
 use Rattle.book_units.specs.Steps.{IsReady, Steps}
 use Rattle.book_units.specs.Units.{UnitView, IsNew, segment_of}
@@ -20,7 +20,7 @@ use Rattle.report_book.specs.BookView.{BookView, turned_if, units_turned_if}
 use Rattle.report_book.specs.Moves.{Earns, IsNewBook, Moves, PublishesAt}
 use Rattle.replay_monitors.specs.Books.{IsStoredAt, KeepSegments}
 use Rattle.replay_monitors.specs.Stored.{IsStored, is_store, makes_store, stores_next}
-use Rattle.replay_monitors.specs.Watched.{IsOf, Watched, words_beside}
+use Rattle.replay_monitors.specs.UnitMonitorView.{IsOf, UnitMonitorView, words_beside}
 use Rattle.replay_monitors.proofs.Stored as stored
 
 -- a new book
@@ -68,7 +68,7 @@ fed exact turns old new entries before moves earns stands u first stores samples
     let units : List UnitView = units_turned_if turns old.units in
     let within' : u < length units = (let long = turned_long turns old.units in omega arith) in
     let was : IsStored first samples stores (get_or units u free) = turned_at turns old.units u first stores samples within is free in
-    let gains : Gains (samples_of u moves.0) (get_or units u free) (get_or new.units u free) = moves.1.units.each u free within' in
+    let gains : UnitGains (samples_of u moves.0) (get_or units u free) (get_or new.units u free) = moves.1.units.each u free within' in
     let more : List Sample = samples_of u (history_after (before ++ (turned_if turns old).log.log) entries) in
     let all = earns.units before stands u free within' in
     stored.moved first stores samples (get_or units u free) (get_or new.units u free) (samples ++ more)
@@ -139,12 +139,12 @@ keeps_moves exact turns old new entries moves =
       each = λ u free within. ap segment_of (gains.each u free (omega arith)).becomes ∙ turn_keeps turns old.units u free within;
     }
 
-pub still_of : (w : Watched) (old new : BookView) → IsOf w old → KeepSegments old new → IsOf w new
+pub still_of : (w : UnitMonitorView) (old new : BookView) → IsOf w old → KeepSegments old new → IsOf w new
 still_of w old new is keeps = record {
   unit = (let count = keeps.count in let within = is.unit in omega arith);
   part = λ free. keeps.each w.unit free is.unit ∙ is.part free;
 }
 
 -- the words that a monitor loads
-pub loads_as : (w : Watched) (b : BookView) (first stores : ℕ) (samples : List Sample) → IsStoredAt w.unit first samples stores b → (free : UnitView) → words_beside w b free ≡ words_of first samples stores
+pub loads_as : (w : UnitMonitorView) (b : BookView) (first stores : ℕ) (samples : List Sample) → IsStoredAt w.unit first samples stores b → (free : UnitView) → words_beside w b free ≡ words_of first samples stores
 loads_as w b first stores samples is free = stored.words_are first stores samples (get_or b.units w.unit free) (is free)

@@ -15,7 +15,7 @@ use Rattle.shm_segment.proofs.Running.{words_more}
 use Rattle.shm_segment.proofs.Words.{count_in}
 use Rattle.book_units.specs.declared.unit.UnitStep.{UnitStep}
 use Rattle.book_units.specs.declared.unit.UnitStep.TheVariants.{Stored, Empty, Spent}
-use Rattle.book_units.specs.Changes.{Gains, turned}
+use Rattle.book_units.specs.Changes.{UnitGains, turned}
 use Rattle.book_units.specs.Steps.{Steps, StoresAs, state_of}
 use Rattle.book_units.specs.Units.{UnitView, IsNew, all_of, begun_by, left_of, new_unit, unstored}
 use Rattle.replay_monitors.specs.Stored.{IsStored, is_store, makes_store, shown_state, stores_at_end, stores_next}
@@ -50,7 +50,7 @@ module _ (first stores : ℕ) (samples : List Sample) (u v : UnitView) where
         numbers = is.numbers;
       }
 
-  pub gained : (more : List Sample) → IsStored first samples stores u → Gains more u v → IsStored first (samples ++ more) stores v
+  pub gained : (more : List Sample) → IsStored first samples stores u → UnitGains more u v → IsStored first (samples ++ more) stores v
   gained more is gains =
       moved (samples ++ more) (ap (λ (x : UnitView). x.publisher) gains.becomes) (gains.all ∙ ap (λ (l : List Sample). l ++ more) is.samples_are) is
 

@@ -1,4 +1,4 @@
--- The units and segments of a book, through its calls. This project's own.
+-- The units and segments of a book, through its calls.
 use Rattle.std.specs.Prelude.{◌≡◌, ℕ, ◌<◌, List, length, get_or}
 use Rattle.shm_segment.specs.declared.sample.Sample.{Sample}
 use Rattle.book_units.specs.Units.{UnitView, segment_of}

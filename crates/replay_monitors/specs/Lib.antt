@@ -1,4 +1,4 @@
 pub mod Loads
-pub mod Watched
+pub mod UnitMonitorView
 pub mod Stored
 pub mod Books

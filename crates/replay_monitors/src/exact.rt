@@ -2,7 +2,7 @@
 
 ghost use Rattle.std.specs.Prelude.{◌≡◌, ◌<◌, length, get_or};
 ghost use Rattle.shm_segment.specs.Publishing.{noticed, words_now};
-ghost use Rattle.shm_monitor.specs.Watching.{LoadsAs, informed};
+ghost use Rattle.shm_monitor.specs.MonitorView.{LoadsAs, informed};
 ghost use Rattle.book_units.specs.Steps.{BearsOut};
 ghost use Rattle.book_units.specs.Units.{UnitView, segment_of};
 ghost use Rattle.replay_monitors.specs.Loads.{reading_after, step_of};

@@ -13,9 +13,14 @@ ghost use Rattle.replay_monitors.specs.Stored.{IsStored, is_store, makes_store, 
 /// its number of stores alone; and how many stores there are once steps make no more.
 #[tactic(auto, using(crate::proofs::Stored::is_stored, crate::proofs::Stored::stepped, crate::proofs::Stored::words_are, crate::proofs::Stored::state_is, crate::proofs::Stored::at_end))]
 pub fn stores_have_a_closed_form()
-    ensures step { (first stores : ℕ) (samples : List Sample) (answer : UnitStep) (u v : UnitView) → IsStored first samples stores u → Steps answer u v → is_store answer ≡ makes_store first samples stores }
-    ensures stored { (first stores : ℕ) (samples : List Sample) (answer : UnitStep) (u v : UnitView) → IsStored first samples stores u → Steps answer u v → IsStored first samples (stores_next first samples stores) v }
-    ensures words { (first stores : ℕ) (samples : List Sample) (u : UnitView) → IsStored first samples stores u → words_now u.publisher ≡ words_of first samples stores }
-    ensures state { (first stores : ℕ) (samples : List Sample) (u : UnitView) → IsStored first samples stores u → state_of u ≡ shown_state first samples stores }
-    ensures end { (first stores : ℕ) (samples : List Sample) (u : UnitView) → IsStored first samples stores u → makes_store first samples stores ≡ false → stores ≡ stores_at_end first samples }
+    ensures step { (first stores : ℕ) (samples : List Sample) (answer : UnitStep) (u v : UnitView) → IsStored first samples stores u → Steps answer u v
+        → is_store answer ≡ makes_store first samples stores }
+    ensures stored { (first stores : ℕ) (samples : List Sample) (answer : UnitStep) (u v : UnitView) → IsStored first samples stores u → Steps answer u v
+        → IsStored first samples (stores_next first samples stores) v }
+    ensures words { (first stores : ℕ) (samples : List Sample) (u : UnitView) → IsStored first samples stores u
+        → words_now u.publisher ≡ words_of first samples stores }
+    ensures state { (first stores : ℕ) (samples : List Sample) (u : UnitView) → IsStored first samples stores u
+        → state_of u ≡ shown_state first samples stores }
+    ensures end { (first stores : ℕ) (samples : List Sample) (u : UnitView) → IsStored first samples stores u → makes_store first samples stores ≡ false
+        → stores ≡ stores_at_end first samples }
 {}

@@ -10,7 +10,7 @@
 
 mod exact;
 mod laws;
-mod watcher;
+mod unit_monitor;
 
 pub use laws::stores_have_a_closed_form;
-pub use watcher::Watcher;
+pub use unit_monitor::UnitMonitor;

@@ -3,15 +3,15 @@ use Rattle.std.proofs.Common.{◌≡◌, ◌≢◌, ℕ, false, ◌&&◌, ◌||�
 use Rattle.std.proofs.lemmas.Bool.{ltb-false, ne_eqb}
 use Rattle.session_core.specs.declared.mark.Close.TheVariants.{HungUp}
 use Rattle.book_sessions.specs.Roster.{most_live, most_opened}
-use Rattle.replay_player.specs.declared.turn.Turn.TheVariants.{Refused}
+use Rattle.replay_player.specs.declared.event_step.EventStep.TheVariants.{Refused}
 use Rattle.replay_player.specs.Clients.{Client, after_take, closed, is_open, next_taken, opened, served}
 use Rattle.replay_player.specs.Effects.{allowed, changes, hangs, hears, opens, item_lines, quietly, takes, with_client}
-use Rattle.replay_player.specs.Playing.{Acts, Attends, Plays, StageView, state_of}
+use Rattle.replay_player.specs.Playing.{Acts, Attends, BookStandsFor, ReplayBookView, state_of}
 use Rattle.replay_player.specs.States.{State, live_in}
 use Rattle.replay_player.proofs.Seating.{long_same, zip_at}
 
 -- no client of this number
-no_client : (s : StageView) (state : State) (n : ℕ) → Plays s state → nat_lt n (length s.book.sessions) ≡ false → slice_get state.clients n ≡ None
+no_client : (s : ReplayBookView) (state : State) (n : ℕ) → BookStandsFor s state → nat_lt n (length s.book.sessions) ≡ false → slice_get state.clients n ≡ None
 no_client s state n plays none =
     let P : State → Type 0 = λ st. slice_get st.clients n ≡ None in
     subst P plays.is (elim (zip_at (Attends s.book.names plays.before s.book.log.log) s.book.sessions plays.clients n plays.standing.clients_are) [
@@ -19,19 +19,19 @@ no_client s state n plays none =
       | inr neither ↦ neither.second
     ])
 
-changes_none : (s : StageView) (state : State) (n : ℕ) (next : Client → Client) → Plays s state → nat_lt n (length s.book.sessions) ≡ false → changes n next state ≡ None
+changes_none : (s : ReplayBookView) (state : State) (n : ℕ) (next : Client → Client) → BookStandsFor s state → nat_lt n (length s.book.sessions) ≡ false → changes n next state ≡ None
 changes_none s state n next plays none =
     ap (λ o. option_and_then (λ (c : Client). allowed (is_open c) (quietly (with_client n (next c) state))) o) (no_client s state n plays none)
 
-pub hears_none : (s : StageView) (state : State) (n : ℕ) (piece : List ℕ) → Plays s state → nat_lt n (length s.book.sessions) ≡ false → Acts (Ok Refused) (hears n piece state) s [] []
+pub hears_none : (s : ReplayBookView) (state : State) (n : ℕ) (piece : List ℕ) → BookStandsFor s state → nat_lt n (length s.book.sessions) ≡ false → Acts (Ok Refused) (hears n piece state) s [] []
 unfolding hears
 hears_none s state n piece plays none = (changes_none s state n (served state.names state.log piece) plays none, refl)
 
-pub hangs_none : (s : StageView) (state : State) (n : ℕ) → Plays s state → nat_lt n (length s.book.sessions) ≡ false → Acts (Ok Refused) (hangs n state) s [] []
+pub hangs_none : (s : ReplayBookView) (state : State) (n : ℕ) → BookStandsFor s state → nat_lt n (length s.book.sessions) ≡ false → Acts (Ok Refused) (hangs n state) s [] []
 unfolding hangs
 hangs_none s state n plays none = (changes_none s state n (closed state.log HungUp) plays none, refl)
 
-pub takes_none : (s : StageView) (state : State) (n most : ℕ) (out : List ℕ) → Plays s state → nat_lt n (length s.book.sessions) ≡ false → Acts (Ok Refused) (takes n most state) s out out
+pub takes_none : (s : ReplayBookView) (state : State) (n most : ℕ) (out : List ℕ) → BookStandsFor s state → nat_lt n (length s.book.sessions) ≡ false → Acts (Ok Refused) (takes n most state) s out out
 unfolding takes
 takes_none s state n most out plays none = (
   ap (λ o. option_map (λ (c : Client). record {
@@ -41,7 +41,7 @@ takes_none s state n most out plays none = (
   refl,
 )
 
-pub opens_none : (s : StageView) (state : State) (n cap : ℕ) → Plays s state → n ≢ length s.book.sessions → Acts (Ok Refused) (opens n cap state) s [] []
+pub opens_none : (s : ReplayBookView) (state : State) (n cap : ℕ) → BookStandsFor s state → n ≢ length s.book.sessions → Acts (Ok Refused) (opens n cap state) s [] []
 unfolding opens
 opens_none s state n cap plays other =
     let P : State → Type 0 = λ st. Acts (Ok Refused) (opens n cap st) s [] [] in

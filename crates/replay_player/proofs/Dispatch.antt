@@ -1,48 +1,48 @@
 -- A call that writes nothing leaves what was written; and what a stage refuses or passes over.
 use Rattle.std.proofs.Common.{◌≡◌, ◌≢◌, List, [], ◌++◌, ◌∙◌, Option, Some, Result, Ok, Err, refl, sym, ap, subst, append-nil, replicate, ℕ}
 use Rattle.gps_fixed.specs.declared.no_memory.NoMemory.{NoMemory}
-use Rattle.replay_player.specs.declared.turn.Turn.{Turn}
-use Rattle.replay_player.specs.declared.turn.Turn.TheVariants.{Made, Refused}
-use Rattle.replay_script.specs.declared.event.Event.{Event}
-use Rattle.replay_script.specs.declared.event.Event.TheVariants as event
-use Rattle.replay_player.specs.Effects.{Effect, brings, declares, effect, hangs, hears, loads, numbers, opens, quietly, stores, takes, watches}
-use Rattle.replay_player.specs.Playing.{Acts, Plays, StageView, declared_state, state_of}
+use Rattle.replay_player.specs.declared.event_step.EventStep.{EventStep}
+use Rattle.replay_player.specs.declared.event_step.EventStep.TheVariants.{Made, Refused}
+use Rattle.replay_script.specs.declared.event.ScriptEvent.{ScriptEvent}
+use Rattle.replay_script.specs.declared.event.ScriptEvent.TheVariants as event
+use Rattle.replay_player.specs.Effects.{EventEffect, brings, declares, effect, hangs, hears, loads, numbers, opens, quietly, stores, takes, watches}
+use Rattle.replay_player.specs.Playing.{Acts, BookStandsFor, ReplayBookView, declared_state, state_of}
 use Rattle.replay_player.specs.States.{State, came, most_units}
 
-pub still_out : (turn : Result Turn NoMemory) (e : Option Effect) (new : StageView) (out : List ℕ) → Acts turn e new [] [] → Acts turn e new out out
+pub still_out : (turn : Result EventStep NoMemory) (e : Option EventEffect) (new : ReplayBookView) (out : List ℕ) → Acts turn e new [] [] → Acts turn e new out out
 still_out (Ok Made) made new out acts = (acts.0, acts.1, acts.2, sym (append-nil out) ∙ ap (λ l. out ++ l) acts.3)
 still_out (Ok Refused) made new out acts = (acts.0, refl)
 still_out (Err e) made new out acts = tt
 
-pub nothing_acts : (s : StageView) (out : List ℕ) (state : State) → Plays s state → Acts (Ok Made) (Some (quietly state)) s out out
+pub nothing_acts : (s : ReplayBookView) (out : List ℕ) (state : State) → BookStandsFor s state → Acts (Ok Made) (Some (quietly state)) s out out
 nothing_acts s out state plays = (quietly state, refl, plays, sym (append-nil out))
 
-pub device_refused : (s : StageView) (name : List ℕ) (out : List ℕ) (state : State) → Plays s state → Acts (Ok Refused) (declares name state) s out out
+pub device_refused : (s : ReplayBookView) (name : List ℕ) (out : List ℕ) (state : State) → BookStandsFor s state → Acts (Ok Refused) (declares name state) s out out
 unfolding declares
 device_refused s name out state plays =
     let P : State → Type 0 = λ st. Acts (Ok Refused) (declares name st) s out out in
     subst P plays.is (refl, refl)
 
-pub number_refused : (s : StageView) (u first : ℕ) (out : List ℕ) (state : State) → Plays s state → Acts (Ok Refused) (numbers u first state) s out out
+pub number_refused : (s : ReplayBookView) (u first : ℕ) (out : List ℕ) (state : State) → BookStandsFor s state → Acts (Ok Refused) (numbers u first state) s out out
 unfolding numbers
 number_refused s u first out state plays =
     let P : State → Type 0 = λ st. Acts (Ok Refused) (numbers u first st) s out out in
     subst P plays.is (refl, refl)
 
 -- the event is this one
-pub arm : (queue : ℕ) (e given : Event) (turn : Result Turn NoMemory) (state : State) (new : StageView) (out out' : List ℕ) → e ≡ given
+pub arm : (queue : ℕ) (e given : ScriptEvent) (turn : Result EventStep NoMemory) (state : State) (new : ReplayBookView) (out out' : List ℕ) → e ≡ given
     → Acts turn (effect queue state given) new out out' → Acts turn (effect queue state e) new out out'
-arm queue e given turn state new out out' is acts = let P : Event → Type 0 = λ x. Acts turn (effect queue state x) new out out' in subst P (sym is) acts
+arm queue e given turn state new out out' is acts = let P : ScriptEvent → Type 0 = λ x. Acts turn (effect queue state x) new out out' in subst P (sym is) acts
 
 -- events do the same whether one has come before or not
 
-abbrev pub IsEvent : Event → Type 0
+abbrev pub IsEvent : ScriptEvent → Type 0
 IsEvent event.Nothing = ⊥
 IsEvent (event.Device name) = ⊥
 IsEvent (event.Segment u first) = ⊥
 IsEvent _ = Unit {0}
 
-pub begun_same : (queue : ℕ) (e : Event) (names : List (List ℕ)) (firsts : List ℕ) → IsEvent e → effect queue (declared_state names firsts) e ≡ effect queue (state_of names [] firsts [] (replicate most_units 0) []) e
+pub begun_same : (queue : ℕ) (e : ScriptEvent) (names : List (List ℕ)) (firsts : List ℕ) → IsEvent e → effect queue (declared_state names firsts) e ≡ effect queue (state_of names [] firsts [] (replicate most_units 0) []) e
 unfolding brings opens hears hangs takes stores watches loads came
 begun_same queue event.Nothing names firsts is = absurd is
 begun_same queue (event.Device name) names firsts is = absurd is
@@ -59,7 +59,7 @@ begun_same queue (event.Monitor m u) names firsts is = refl
 begun_same queue (event.Store u steps) names firsts is = refl
 begun_same queue (event.Load m steps) names firsts is = refl
 
-pub is_event : (e : Event) → (e ≢ event.Nothing) → ((name : List ℕ) → e ≢ event.Device name) → ((u first : ℕ) → e ≢ event.Segment u first) → IsEvent e
+pub is_event : (e : ScriptEvent) → (e ≢ event.Nothing) → ((name : List ℕ) → e ≢ event.Device name) → ((u first : ℕ) → e ≢ event.Segment u first) → IsEvent e
 is_event event.Nothing one two three = absurd (one refl)
 is_event (event.Device name) one two three = absurd (two name refl)
 is_event (event.Segment u first) one two three = absurd (three u first refl)

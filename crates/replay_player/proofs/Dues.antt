@@ -9,9 +9,9 @@ use Rattle.session_core.specs.declared.outlet.Push.{Push}
 use Rattle.session_core.specs.declared.outlet.Push.TheVariants.{Done, Full}
 use Rattle.session_core.specs.Holding.{Selection}
 use Rattle.session_core.specs.Pushing.{MatchPush}
-use Rattle.session_core.specs.Shown.{Shown, closed_at, given}
+use Rattle.session_core.specs.SessionView.{SessionView, closed_at, given}
 use Rattle.book_sessions.specs.Answering.{MayAnswer}
-use Rattle.book_sessions.specs.Spreading.{Due, Takes, due, due_at}
+use Rattle.book_sessions.specs.Spreading.{Due, TakesDue, due, due_at}
 use Rattle.session_runs.specs.Runs.{closed_from}
 use Rattle.replay_player.specs.Clients.{overrun_at}
 
@@ -20,12 +20,12 @@ none_left zero = refl
 none_left (suc k) = refl
 
 -- what a session that takes these lines is closed by, and how many items its outlet keeps
-abbrev TakesAsDue : List Due → Shown → Shown → Type 0
+abbrev TakesAsDue : List Due → SessionView → SessionView → Type 0
 TakesAsDue lines old new = (new.closing ≡ overrun_at (drop (old.cap - length old.kept) lines)) × (length new.kept ≤ new.cap)
 
-by_push : (line : Due) (more : List Due) (old new : Shown) (push : Push) → length old.kept ≤ old.cap → old.closing ≡ None → MayAnswer true old push
-    → MatchPush push (Takes true more (given line.line old) new) (new ≡ closed_at line.place Overrun old)
-    → (length (old.kept ++ line.line ∷ []) ≤ old.cap → Takes true more (given line.line old) new → TakesAsDue more (given line.line old) new)
+by_push : (line : Due) (more : List Due) (old new : SessionView) (push : Push) → length old.kept ≤ old.cap → old.closing ≡ None → MayAnswer true old push
+    → MatchPush push (TakesDue true more (given line.line old) new) (new ≡ closed_at line.place Overrun old)
+    → (length (old.kept ++ line.line ∷ []) ≤ old.cap → TakesDue true more (given line.line old) new → TakesAsDue more (given line.line old) new)
     → TakesAsDue (line ∷ more) old new
 by_push line more old new Done room is_open may takes then =
     let not_full : old.cap ≤ length old.kept → Done ≡ Full = (may.exactly refl).1 in
@@ -41,12 +41,12 @@ by_push line more old new Done room is_open may takes then =
 by_push line more old new Full room is_open may takes then =
     let full : old.cap ≤ length old.kept = may.full refl in
     let none : old.cap - length old.kept ≡ 0 = omega (arith, full) in
-    let P : Shown → Type 0 = λ s. length s.kept ≤ s.cap in
+    let P : SessionView → Type 0 = λ s. length s.kept ≤ s.cap in
     (ap (λ s. s.closing) takes ∙ ap (λ n. overrun_at (drop n (line ∷ more))) (sym none), subst P (sym takes) room)
 
-pub takes_as_due : (lines : List Due) (old new : Shown) → length old.kept ≤ old.cap → old.closing ≡ None → Takes true lines old new → TakesAsDue lines old new
+pub takes_as_due : (lines : List Due) (old new : SessionView) → length old.kept ≤ old.cap → old.closing ≡ None → TakesDue true lines old new → TakesAsDue lines old new
 takes_as_due [] old new room is_open takes =
-    let P : Shown → Type 0 = λ s. length s.kept ≤ s.cap in
+    let P : SessionView → Type 0 = λ s. length s.kept ≤ s.cap in
     (ap (λ s. s.closing) takes ∙ is_open ∙ ap overrun_at (sym (none_left (old.cap - length old.kept))), subst P (sym takes) room)
 takes_as_due (line ∷ more) old new room is_open takes =
     by_push line more old new takes.0 room is_open takes.1 takes.2 (λ fits rest. takes_as_due more (given line.line old) new fits is_open rest)

@@ -8,20 +8,20 @@ use Rattle.session_core.specs.declared.mark.Close.{Close}
 use Rattle.session_core.specs.declared.mark.Close.TheVariants.{DaemonEnd}
 use Rattle.book_log.specs.Entries.{Entry, ended, has_end, has_lost, is_end_of, is_loss_of, stops_in}
 use Rattle.book_log.specs.History.{history_after}
-use Rattle.book_log.specs.Standing.{LineState, has_stopped}
-use Rattle.book_sessions.specs.Attendance.{Attendance}
+use Rattle.book_log.specs.Standing.{DeviceStateView, has_stopped}
+use Rattle.book_sessions.specs.MemberView.{MemberView}
 use Rattle.book_sessions.specs.Roster.{Shuts, ShutsBy}
 use Rattle.report_book.specs.BookView.{BookView}
 use Rattle.report_book.specs.declared.fault.BookFault.{BookFault}
 use Rattle.report_book.specs.Moves.{Earns, Moves, ShutsAll}
 use Rattle.report_book.specs.Refusals.{RefusesAs, device_fault, fault_of}
-use Rattle.report_book.specs.Standing.{Holds}
+use Rattle.report_book.specs.Standing.{BookHolds}
 use Rattle.session_runs.specs.Following.{shut_run}
 use Rattle.session_runs.proofs.Books.{place_is}
 use Rattle.replay_player.specs.Clients.{Client, closed}
 use Rattle.replay_player.specs.Ending.{HaveStopped, IsServed}
 use Rattle.replay_player.specs.Ends.{all_ended, ended_at, shut}
-use Rattle.replay_player.specs.Playing.{Attends, Plays, StageView, state_of}
+use Rattle.replay_player.specs.Playing.{Attends, BookStandsFor, ReplayBookView, state_of}
 use Rattle.replay_player.specs.States.{State, came}
 use Rattle.replay_player.proofs.Bringing.{brought}
 use Rattle.replay_player.proofs.Refusing.{device_is, stopped_so}
@@ -30,25 +30,25 @@ use Rattle.replay_player.proofs.Telling.{run_open, still_open}
 
 -- one device
 
-kept_so : (s : StageView) (b : BookView) (state : State) → b ≡ s.book → Plays s state → Plays (record s { book = b }) state
-kept_so s b state same plays = let P : BookView → Type 0 = λ x. Plays (record s { book = x }) state in subst P (sym same) plays
+kept_so : (s : ReplayBookView) (b : BookView) (state : State) → b ≡ s.book → BookStandsFor s state → BookStandsFor (record s { book = b }) state
+kept_so s b state same plays = let P : BookView → Type 0 = λ x. BookStandsFor (record s { book = x }) state in subst P (sym same) plays
 
-pub one_ended : (s : StageView) (b : BookView) (d : ℕ) (result : Result (Unit {0}) BookFault) (done : Result (Unit {0}) NoMemory) → d < length s.book.names → Holds s.book
+pub one_ended : (s : ReplayBookView) (b : BookView) (d : ℕ) (result : Result (Unit {0}) BookFault) (done : Result (Unit {0}) NoMemory) → d < length s.book.names → BookHolds s.book
     → OnOk result (Moves true false s.book b (ended d)) → OnOk result (Earns s.book b (ended d)) → RefusesAs (device_fault s.book d) result → OnErr result (b ≡ s.book)
-    → OnOk done (IsServed result) → (state : State) → Plays s state → OnOk done (Plays (record s { book = b }) (ended_at state d))
+    → OnOk done (IsServed result) → (state : State) → BookStandsFor s state → OnOk done (BookStandsFor (record s { book = b }) (ended_at state d))
 one_ended s b d result (Err fault) there held moves earns refuses same served state plays = tt
 one_ended s b d result (Ok u) there held moves earns refuses same served state plays =
     let whole = plays.before ++ s.book.log.log in
-    let P : State → Type 0 = λ st. Plays (record s { book = b }) (ended_at st d) in
+    let P : State → Type 0 = λ st. BookStandsFor (record s { book = b }) (ended_at st d) in
     let at = state_of s.book.names whole plays.firsts plays.clients plays.stores plays.watches in
-    let now : Plays s at = over_parts s state plays in
+    let now : BookStandsFor s at = over_parts s state plays in
     let R : Option BookFault → Type 0 = λ f. RefusesAs f result in
     let F : Bool → Type 0 = λ x. R (fault_of x (stops_in d whole)) in
     let refused = subst F (lt-ltb d (length s.book.names) there) (subst R (device_is s.book plays.before d held plays.standing.stands) refuses) in
     subst P plays.is (by at now (stops_in d whole) result moves earns same served refused)
   where
-    by : (at : State) → Plays s at → (stopped : Bool) (result : Result (Unit {0}) BookFault) → OnOk result (Moves true false s.book b (ended d)) → OnOk result (Earns s.book b (ended d))
-        → OnErr result (b ≡ s.book) → IsServed result → RefusesAs (fault_of true stopped) result → Plays (record s { book = b }) (cond stopped at (came (ended d) at))
+    by : (at : State) → BookStandsFor s at → (stopped : Bool) (result : Result (Unit {0}) BookFault) → OnOk result (Moves true false s.book b (ended d)) → OnOk result (Earns s.book b (ended d))
+        → OnErr result (b ≡ s.book) → IsServed result → RefusesAs (fault_of true stopped) result → BookStandsFor (record s { book = b }) (cond stopped at (came (ended d) at))
     by at now true (Ok v) moves earns same served refused = absurd (cc)
     by at now false (Ok v) moves earns same served refused = brought s b false (ended d) at held moves earns now
     by at now true (Err fault) moves earns same served refused = kept_so s b at same now
@@ -60,25 +60,25 @@ abbrev pub ended_from : ℕ → ℕ → State → State
 ended_from d count state = fold ended_at state (range_with_len d count)
 
 -- those below d have ended: what is left is the same as at first
-pub record EndedTo (now : StageView) (d : ℕ) (state : State) : Type 0 where
+pub record EndedTo (now : ReplayBookView) (d : ℕ) (state : State) : Type 0 where
   pub mid : State
-  pub plays : Plays now mid
+  pub plays : BookStandsFor now mid
   pub left : ended_from d (length state.names - d) mid ≡ all_ended state
 
-abbrev pub EndedSoFar : StageView → StageView → ℕ → Type 0
-EndedSoFar s now d = (state : State) → Plays s state → EndedTo now d state
+abbrev pub EndedSoFar : ReplayBookView → ReplayBookView → ℕ → Type 0
+EndedSoFar s now d = (state : State) → BookStandsFor s state → EndedTo now d state
 
-pub none_ended : (s : StageView) → EndedSoFar s s 0
+pub none_ended : (s : ReplayBookView) → EndedSoFar s s 0
 none_ended s = λ state plays.
     let n = length state.names in
     let e : n - 0 ≡ n = omega arith in
     record { mid = state; plays = plays; left = ap (λ k. ended_from 0 k state) e }
 
-pub names_so : (s : StageView) (state : State) → Plays s state → s.book.names ≡ state.names
+pub names_so : (s : ReplayBookView) (state : State) → BookStandsFor s state → s.book.names ≡ state.names
 names_so s state plays = ap (λ (st : State). st.names) plays.is
 
-pub one_more_ended : (s now next : StageView) (d : ℕ) → d < length s.book.names → EndedSoFar s now d
-    → ((state : State) → Plays now state → Plays next (ended_at state d)) → EndedSoFar s next (d + 1)
+pub one_more_ended : (s now next : ReplayBookView) (d : ℕ) → d < length s.book.names → EndedSoFar s now d
+    → ((state : State) → BookStandsFor now state → BookStandsFor next (ended_at state d)) → EndedSoFar s next (d + 1)
 one_more_ended s now next d below so_far step = λ state plays.
     let was = so_far state plays in
     let n = length state.names in
@@ -86,13 +86,13 @@ one_more_ended s now next d below so_far step = λ state plays.
     let e : n - d ≡ suc (n - (d + 1)) = omega (arith, below, same) in
     record { mid = ended_at was.mid d; plays = step was.mid was.plays; left = ap (λ k. ended_from d k was.mid) (sym e) ∙ was.left }
 
-pub every_one_ended : (s now : StageView) (d : ℕ) → d ≡ length s.book.names → EndedSoFar s now d → (state : State) → Plays s state → Plays now (all_ended state)
+pub every_one_ended : (s now : ReplayBookView) (d : ℕ) → d ≡ length s.book.names → EndedSoFar s now d → (state : State) → BookStandsFor s state → BookStandsFor now (all_ended state)
 every_one_ended s now d all so_far state plays =
     let was = so_far state plays in
     let n = length state.names in
     let same : length s.book.names ≡ n = ap length (names_so s state plays) in
     let none : 0 ≡ n - d = omega (arith, all, same) in
-    let P : State → Type 0 = λ st. Plays now st in
+    let P : State → Type 0 = λ st. BookStandsFor now st in
     subst P (ap (λ k. ended_from d k was.mid) none ∙ was.left) was.plays
 
 -- then each has stopped
@@ -179,28 +179,28 @@ list_all_at p [] each = refl
 list_all_at p (x ∷ xs) each =
     ap (λ b. b && list_all p xs) (each 0 x (omega arith)) ∙ list_all_at p xs (λ d free below. each (suc d) free (omega (arith, below)))
 
-pub lines_stopped : (s : StageView) (state : State) → Holds s.book → Plays s state → HaveStopped state → list_all (λ (line : LineState). has_stopped line.stage) s.book.log.present.lines ≡ true
+pub lines_stopped : (s : ReplayBookView) (state : State) → BookHolds s.book → BookStandsFor s state → HaveStopped state → list_all (λ (line : DeviceStateView). has_stopped line.stage) s.book.log.present.lines ≡ true
 lines_stopped s state held plays stopped =
-    let P : State → Type 0 = λ st. HaveStopped st → list_all (λ (line : LineState). has_stopped line.stage) s.book.log.present.lines ≡ true in
+    let P : State → Type 0 = λ st. HaveStopped st → list_all (λ (line : DeviceStateView). has_stopped line.stage) s.book.log.present.lines ≡ true in
     subst P plays.is
-    (λ each. list_all_at (λ (line : LineState). has_stopped line.stage) s.book.log.present.lines (λ d free below.
+    (λ each. list_all_at (λ (line : DeviceStateView). has_stopped line.stage) s.book.log.present.lines (λ d free below.
     let stand = (held.log.over plays.before plays.standing.stands).present in
     let count = held.names in
     stopped_so (get_or s.book.log.present.lines d free) d (plays.before ++ s.book.log.log) (stand.lines d free below) ∙ each d (omega (arith, below, count))))
     stopped
 
-pub not_stopped : (s : StageView) (test : Bool) → Holds s.book → test ≡ list_all (λ (line : LineState). has_stopped line.stage) s.book.log.present.lines → test ≡ false
-    → (state : State) → Plays s state → HaveStopped state → Plays s (shut state)
+pub not_stopped : (s : ReplayBookView) (test : Bool) → BookHolds s.book → test ≡ list_all (λ (line : DeviceStateView). has_stopped line.stage) s.book.log.present.lines → test ≡ false
+    → (state : State) → BookStandsFor s state → HaveStopped state → BookStandsFor s (shut state)
 not_stopped s test held is none state plays stopped = absurd (let all = lines_stopped s state held plays stopped in let e : false ≡ true = sym none ∙ is ∙ all in cc)
 
-closes_one : (names : List (List ℕ)) (before log : List Entry) (place : ℕ) (a b : Attendance) (c : Client) → length (history_after before log) ≡ place
+closes_one : (names : List (List ℕ)) (before log : List Entry) (place : ℕ) (a b : MemberView) (c : Client) → length (history_after before log) ≡ place
     → Attends names before log a c → Shuts place DaemonEnd a b → Attends names before log b (closed (before ++ log) DaemonEnd c)
 closes_one names before log place a b c long attends shuts = by c.run.closing refl
   where
     at : (now : Option (ℕ × Close)) (was : ℕ × Close) → a.session.closing ≡ now → c.run.closing ≡ Some was → ShutsBy now place DaemonEnd a b → Attends names before log b (closed (before ++ log) DaemonEnd c)
     at None was none is shuts = absurd (let e = run_open names before log a.session c.run attends.run none in let f : None ≡ Some was = sym e ∙ is in cc)
     at (Some now) was some is shuts =
-        let A : Attendance → Type 0 = λ x. Attends names before log x c in
+        let A : MemberView → Type 0 = λ x. Attends names before log x c in
         let C : Option (ℕ × Close) → Type 0 = λ o. Attends names before log b (record c { run = shut_run (before ++ log) DaemonEnd o c.run }) in
         subst C (sym is) (subst A (sym shuts) attends)
 
@@ -210,7 +210,7 @@ closes_one names before log place a b c long attends shuts = by c.run.closing re
         hung_one names before log DaemonEnd place a b c long attends is (subst S (still_open names before log a.session c.run attends.run is) shuts)
     by (Some was) is = at a.session.closing was refl is shuts
 
-closes_all : (names : List (List ℕ)) (before log : List Entry) (place : ℕ) → length (history_after before log) ≡ place → (sessions members : List Attendance) (clients : List Client)
+closes_all : (names : List (List ℕ)) (before log : List Entry) (place : ℕ) → length (history_after before log) ≡ place → (sessions members : List MemberView) (clients : List Client)
     → AllZip (Attends names before log) sessions clients → AllZip (Shuts place DaemonEnd) sessions members → AllZip (Attends names before log) members (map (closed (before ++ log) DaemonEnd) clients)
 closes_all names before log place long [] [] [] zip shuts = tt
 closes_all names before log place long [] (b ∷ members) [] zip shuts = shuts
@@ -222,10 +222,10 @@ closes_all names before log place long (a ∷ sessions) (b ∷ members) [] zip s
 closes_all names before log place long (a ∷ sessions) (b ∷ members) (c ∷ clients) zip shuts =
     (closes_one names before log place a b c long zip.0 shuts.0, closes_all names before log place long sessions members clients zip.1 shuts.1)
 
-pub shuts_all : (s : StageView) (b : BookView) → Holds s.book → ShutsAll s.book b → (state : State) → Plays s state → Plays (record s { book = b }) (shut state)
+pub shuts_all : (s : ReplayBookView) (b : BookView) → BookHolds s.book → ShutsAll s.book b → (state : State) → BookStandsFor s state → BookStandsFor (record s { book = b }) (shut state)
 shuts_all s b held shuts state plays =
     let whole = plays.before ++ s.book.log.log in
-    let P : State → Type 0 = λ st. Plays (record s { book = b }) (shut st) in
+    let P : State → Type 0 = λ st. BookStandsFor (record s { book = b }) (shut st) in
     let zip = closes_all s.book.names plays.before s.book.log.log s.book.log.length (place_is s.book plays.before held plays.standing.stands) s.book.sessions b.sessions plays.clients
     plays.standing.clients_are shuts.sessions in
     subst P plays.is (seated s b plays.before plays.firsts plays.clients (map (closed whole DaemonEnd) plays.clients) plays.stores plays.watches shuts.same plays.standing zip)

@@ -2,20 +2,20 @@
 use Rattle.std.proofs.Common.{◌≡◌, ◌≤◌, ◌<◌, ℕ, zero, suc, ◌+◌, List, [], ◌∷◌, ◌++◌, length, drop, take, set, slice_get, Some, None, Result, Ok, Err, OnOk, option_and_then, option_map, refl, sym, ap, ◌∙◌, subst, inl, inr, append-nil, append_assoc, arith}
 use Rattle.gps_fixed.specs.declared.no_memory.NoMemory.{NoMemory}
 use Rattle.session_core.specs.declared.mark.Close.{Close}
-use Rattle.session_core.specs.Shown.{Shown}
+use Rattle.session_core.specs.SessionView.{SessionView}
 use Rattle.book_log.specs.Entries.{Entry}
 use Rattle.book_log.specs.History.{history}
-use Rattle.book_sessions.specs.Attendance.{Attendance}
-use Rattle.run_lines.specs.declared.closing.SessionEnd.TheVariants.{Drained}
-use Rattle.run_lines.specs.Closings.{closing_line}
+use Rattle.book_sessions.specs.MemberView.{MemberView}
+use Rattle.output_lines.specs.declared.closing.SessionEnd.TheVariants.{Drained}
+use Rattle.output_lines.specs.Closings.{closing_line}
 use Rattle.session_runs.specs.Runs.{SessionRun, IsRunOf, closed_from}
-use Rattle.replay_player.specs.declared.turn.Turn.{Turn}
-use Rattle.replay_player.specs.declared.turn.Turn.TheVariants.{Made, Refused}
+use Rattle.replay_player.specs.declared.event_step.EventStep.{EventStep}
+use Rattle.replay_player.specs.declared.event_step.EventStep.TheVariants.{Made, Refused}
 use Rattle.replay_player.specs.Clients.{Client, after_take, items_of, kept_of, next_taken}
-use Rattle.replay_player.specs.Effects.{Effect, item_lines, takes, with_client}
-use Rattle.replay_player.specs.Ending.{Drains, DrainsOne, Stands, emptied, most_kept}
+use Rattle.replay_player.specs.Effects.{EventEffect, item_lines, takes, with_client}
+use Rattle.replay_player.specs.Ending.{Drains, DrainsOne, StandsAlike, emptied, most_kept}
 use Rattle.replay_player.specs.Ends.{all_drained, counted, drained, end_line}
-use Rattle.replay_player.specs.Playing.{Acts, Attends, Plays, StageView, state_of}
+use Rattle.replay_player.specs.Playing.{Acts, Attends, BookStandsFor, ReplayBookView, state_of}
 use Rattle.replay_player.specs.States.{State}
 use Rattle.replay_player.proofs.Seating.{Both, long_same, zip_at}
 use Rattle.replay_player.proofs.Taking.{client_there, set_there}
@@ -23,15 +23,15 @@ use Rattle.replay_player.proofs.Telling.{run_open}
 
 -- the session of a client
 
-record Seat (s : StageView) (state : State) (n : ℕ) (c : Client) : Type 0 where
-  a : Attendance
+record Seat (s : ReplayBookView) (state : State) (n : ℕ) (c : Client) : Type 0 where
+  a : MemberView
   before : List Entry
   there : slice_get s.book.sessions n ≡ Some a
   attends : Attends s.book.names before s.book.log.log a c
   names : s.book.names ≡ state.names
   log : before ++ s.book.log.log ≡ state.log
 
-seat_of : (s : StageView) (state : State) (n : ℕ) (c : Client) → Plays s state → slice_get state.clients n ≡ Some c → Seat s state n c
+seat_of : (s : ReplayBookView) (state : State) (n : ℕ) (c : Client) → BookStandsFor s state → slice_get state.clients n ≡ Some c → Seat s state n c
 seat_of s state n c plays there =
     let P : State → Type 0 = λ st. slice_get st.clients n ≡ Some c → Seat s st n c in
     subst P plays.is (λ there. elim (zip_at (Attends s.book.names plays.before s.book.log.log) s.book.sessions plays.clients n plays.standing.clients_are) [
@@ -48,7 +48,7 @@ seat_of s state n c plays there =
 
 -- the number of its items is that of the session
 
-count_so : (s : StageView) (state : State) (n : ℕ) (c : Client) (seat : Seat s state n c) → seat.a.session.items ≡ counted (items_of state.names state.log c)
+count_so : (s : ReplayBookView) (state : State) (n : ℕ) (c : Client) (seat : Seat s state n c) → seat.a.session.items ≡ counted (items_of state.names state.log c)
 count_so s state n c seat =
     seat.attends.items
     ∙ ap (λ l. counted (items_of s.book.names l c)) seat.log
@@ -56,7 +56,7 @@ count_so s state n c seat =
 
 -- its closing line
 
-cause_so : (names : List (List ℕ)) (before log : List Entry) (s : Shown) (r : SessionRun) (closing : ℕ × Close) → IsRunOf names before log s r → s.closing ≡ Some closing
+cause_so : (names : List (List ℕ)) (before log : List Entry) (s : SessionView) (r : SessionRun) (closing : ℕ × Close) → IsRunOf names before log s r → s.closing ≡ Some closing
     → (place : ℕ) × (r.closing ≡ Some (place, closing.1))
 cause_so names before log s r closing (inl here) is = (length (history before) + closing.0, here.closing ∙ ap (closed_from (length (history before))) is)
 cause_so names before log s r closing (inr over) is =
@@ -64,34 +64,34 @@ cause_so names before log s r closing (inr over) is =
     let same : (0, over.why) ≡ closing = cc in
     (over.place, over.closing ∙ ap (λ (x : ℕ × Close). Some (over.place, x.1)) same)
 
-line_written : (s : StageView) (state : State) (n : ℕ) (c : Client) (closing : ℕ × Close) (items : ℕ) (out out' : List ℕ) → Plays s state → slice_get state.clients n ≡ Some c
-    → option_and_then (λ (a : Attendance). a.session.closing) (slice_get s.book.sessions n) ≡ Some closing
-    → option_map (λ (a : Attendance). a.session.items) (slice_get s.book.sessions n) ≡ Some items
+line_written : (s : ReplayBookView) (state : State) (n : ℕ) (c : Client) (closing : ℕ × Close) (items : ℕ) (out out' : List ℕ) → BookStandsFor s state → slice_get state.clients n ≡ Some c
+    → option_and_then (λ (a : MemberView). a.session.closing) (slice_get s.book.sessions n) ≡ Some closing
+    → option_map (λ (a : MemberView). a.session.items) (slice_get s.book.sessions n) ≡ Some items
     → out' ≡ out ++ closing_line n Drained closing.1 items → out' ≡ out ++ end_line n c.run.closing (counted (items_of state.names state.log c))
 line_written s state n c closing items out out' plays there is counts written =
     let seat = seat_of s state n c plays there in
-    let closes : seat.a.session.closing ≡ Some closing = ap (option_and_then (λ (a : Attendance). a.session.closing)) (sym seat.there) ∙ is in
-    let some : Some seat.a.session.items ≡ Some items = ap (option_map (λ (a : Attendance). a.session.items)) (sym seat.there) ∙ counts in
+    let closes : seat.a.session.closing ≡ Some closing = ap (option_and_then (λ (a : MemberView). a.session.closing)) (sym seat.there) ∙ is in
+    let some : Some seat.a.session.items ≡ Some items = ap (option_map (λ (a : MemberView). a.session.items)) (sym seat.there) ∙ counts in
     let number : seat.a.session.items ≡ items = cc in
     let cause = cause_so s.book.names seat.before s.book.log.log seat.a.session c.run closing seat.attends.run closes in
     written
     ∙ ap (λ k. out ++ closing_line n Drained closing.1 k) (sym number ∙ count_so s state n c seat)
     ∙ ap (λ o. out ++ end_line n o (counted (items_of state.names state.log c))) (sym cause.1)
 
-pub line_or_none : (s : StageView) (state : State) (n : ℕ) (c : Client) (closing : ℕ × Close) (items : ℕ) (out out' : List ℕ) (done : Result (Unit {0}) NoMemory)
-    → Plays s state → slice_get state.clients n ≡ Some c
-    → option_and_then (λ (a : Attendance). a.session.closing) (slice_get s.book.sessions n) ≡ Some closing
-    → option_map (λ (a : Attendance). a.session.items) (slice_get s.book.sessions n) ≡ Some items
+pub line_or_none : (s : ReplayBookView) (state : State) (n : ℕ) (c : Client) (closing : ℕ × Close) (items : ℕ) (out out' : List ℕ) (done : Result (Unit {0}) NoMemory)
+    → BookStandsFor s state → slice_get state.clients n ≡ Some c
+    → option_and_then (λ (a : MemberView). a.session.closing) (slice_get s.book.sessions n) ≡ Some closing
+    → option_map (λ (a : MemberView). a.session.items) (slice_get s.book.sessions n) ≡ Some items
     → OnOk done (out' ≡ out ++ closing_line n Drained closing.1 items) → OnOk done (out' ≡ out ++ end_line n c.run.closing (counted (items_of state.names state.log c)))
 line_or_none s state n c closing items out out' (Err fault) plays there is counts written = tt
 line_or_none s state n c closing items out out' (Ok u) plays there is counts written = line_written s state n c closing items out out' plays there is counts written
 
-pub no_line : (s : StageView) (state : State) (n : ℕ) (c : Client) (out : List ℕ) → Plays s state → slice_get state.clients n ≡ Some c
-    → option_and_then (λ (a : Attendance). a.session.closing) (slice_get s.book.sessions n) ≡ None
+pub no_line : (s : ReplayBookView) (state : State) (n : ℕ) (c : Client) (out : List ℕ) → BookStandsFor s state → slice_get state.clients n ≡ Some c
+    → option_and_then (λ (a : MemberView). a.session.closing) (slice_get s.book.sessions n) ≡ None
     → out ≡ out ++ end_line n c.run.closing (counted (items_of state.names state.log c))
 no_line s state n c out plays there is =
     let seat = seat_of s state n c plays there in
-    let closes : seat.a.session.closing ≡ None = ap (option_and_then (λ (a : Attendance). a.session.closing)) (sym seat.there) ∙ is in
+    let closes : seat.a.session.closing ≡ None = ap (option_and_then (λ (a : MemberView). a.session.closing)) (sym seat.there) ∙ is in
     let none = run_open s.book.names seat.before s.book.log.log seat.a.session c.run seat.attends.run closes in
     sym (append-nil out) ∙ ap (λ o. out ++ end_line n o (counted (items_of state.names state.log c))) (sym none)
 
@@ -103,7 +103,7 @@ take_whole zero (x ∷ xs) few = absurd (omega (arith, few))
 take_whole (suc n) [] few = refl
 take_whole (suc n) (x ∷ xs) few = ap (λ l. x ∷ l) (take_whole n xs (omega (arith, few)))
 
-few_kept : (s : StageView) (state : State) (n : ℕ) (c : Client) → Seat s state n c → next_taken most_kept state.names state.log c ≡ kept_of state.names state.log c
+few_kept : (s : ReplayBookView) (state : State) (n : ℕ) (c : Client) → Seat s state n c → next_taken most_kept state.names state.log c ≡ kept_of state.names state.log c
 few_kept s state n c seat =
     let kept = kept_of state.names state.log c in
     let same : seat.a.session.kept ≡ kept =
@@ -114,31 +114,31 @@ few_kept s state n c seat =
     let least = seat.attends.least in
     take_whole most_kept kept (omega (arith, long, room, cap, least))
 
-pub one_drained : (s mid new : StageView) (n : ℕ) (turn : Turn) (out out' : List ℕ) (done : Result (Unit {0}) NoMemory) (out'' : List ℕ)
-    → ((state : State) → Plays s state → Acts (Ok turn) (takes n most_kept state) mid out out')
-    → ((state : State) (c : Client) → Plays mid state → slice_get state.clients n ≡ Some c → OnOk done (out'' ≡ out' ++ end_line n c.run.closing (counted (items_of state.names state.log c))))
+pub one_drained : (s mid new : ReplayBookView) (n : ℕ) (turn : EventStep) (out out' : List ℕ) (done : Result (Unit {0}) NoMemory) (out'' : List ℕ)
+    → ((state : State) → BookStandsFor s state → Acts (Ok turn) (takes n most_kept state) mid out out')
+    → ((state : State) (c : Client) → BookStandsFor mid state → slice_get state.clients n ≡ Some c → OnOk done (out'' ≡ out' ++ end_line n c.run.closing (counted (items_of state.names state.log c))))
     → new ≡ mid
-    → (state : State) (c : Client) → Plays s state → slice_get state.clients n ≡ Some c → OnOk done (DrainsOne n new out out'' state c)
+    → (state : State) (c : Client) → BookStandsFor s state → slice_get state.clients n ≡ Some c → OnOk done (DrainsOne n new out out'' state c)
 unfolding takes drained
 one_drained s mid new n Refused out out' done out'' took wrote same state c plays there =
     let acts = took state plays in
-    let whole : Client → Effect = λ (d : Client). record { state = with_client n (after_take most_kept state.names state.log d) state; written = item_lines n (next_taken most_kept state.names state.log d) } in
+    let whole : Client → EventEffect = λ (d : Client). record { state = with_client n (after_take most_kept state.names state.log d) state; written = item_lines n (next_taken most_kept state.names state.log d) } in
     absurd (let e : Some (whole c) ≡ None = ap (option_map whole) (sym there) ∙ acts.0 in cc)
 one_drained s mid new n Made out out' (Err fault) out'' took wrote same state c plays there = tt
 one_drained s mid new n Made out out' (Ok u) out'' took wrote same state c plays there =
     let acts = took state plays in
     let seat = seat_of s state n c plays there in
-    let whole : Client → Effect = λ (d : Client). record { state = with_client n (after_take most_kept state.names state.log d) state; written = item_lines n (next_taken most_kept state.names state.log d) } in
+    let whole : Client → EventEffect = λ (d : Client). record { state = with_client n (after_take most_kept state.names state.log d) state; written = item_lines n (next_taken most_kept state.names state.log d) } in
     let some : Some (whole c) ≡ Some acts.0 = ap (option_map whole) (sym there) ∙ acts.1 in
     let is : whole c ≡ acts.0 = cc in
-    let P : Effect → Type 0 = λ e. Plays mid e.state in
-    let now : Plays mid (emptied n c state) = subst P (sym is) acts.2 in
+    let P : EventEffect → Type 0 = λ e. BookStandsFor mid e.state in
+    let now : BookStandsFor mid (emptied n c state) = subst P (sym is) acts.2 in
     let d : Client = after_take most_kept state.names state.log c in
     let lines : out' ≡ out ++ item_lines n (kept_of state.names state.log c) =
-    acts.3 ∙ ap (λ (e : Effect). out ++ e.written) (sym is) ∙ ap (λ l. out ++ item_lines n l) (few_kept s state n c seat) in
+    acts.3 ∙ ap (λ (e : EventEffect). out ++ e.written) (sym is) ∙ ap (λ l. out ++ item_lines n l) (few_kept s state n c seat) in
     let closing = end_line n c.run.closing (counted (items_of state.names state.log c)) in
     let wrote_so : out'' ≡ out' ++ closing = wrote (emptied n c state) d now (set_there state.clients n c d there) in
-    let N : StageView → Type 0 = λ v. Plays v (emptied n c state) in
+    let N : ReplayBookView → Type 0 = λ v. BookStandsFor v (emptied n c state) in
     record {
       plays = subst N (sym same) now;
       written = wrote_so ∙ ap (λ l. l ++ closing) lines ∙ append_assoc out (item_lines n (kept_of state.names state.log c)) closing;
@@ -147,15 +147,15 @@ one_drained s mid new n Made out out' (Ok u) out'' took wrote same state c plays
 -- all sessions
 
 -- those below s are drained: what is left to write is the same as at first
-pub record DrainedTo (now : StageView) (n : ℕ) (out out' : List ℕ) (state : State) : Type 0 where
-  pub stands : Stands now state
+pub record DrainedTo (now : ReplayBookView) (n : ℕ) (out out' : List ℕ) (state : State) : Type 0 where
+  pub stands : StandsAlike now state
   pub left : drop n stands.now.clients ≡ drop n state.clients
   pub written : out' ++ all_drained state.names state.log n (drop n state.clients) ≡ out ++ all_drained state.names state.log 0 state.clients
 
-abbrev pub DrainedSoFar : StageView → StageView → ℕ → List ℕ → List ℕ → Type 0
-DrainedSoFar s now n out out' = (state : State) → Plays s state → DrainedTo now n out out' state
+abbrev pub DrainedSoFar : ReplayBookView → ReplayBookView → ℕ → List ℕ → List ℕ → Type 0
+DrainedSoFar s now n out out' = (state : State) → BookStandsFor s state → DrainedTo now n out out' state
 
-pub none_drained : (s : StageView) (out : List ℕ) → DrainedSoFar s s 0 out out
+pub none_drained : (s : ReplayBookView) (out : List ℕ) → DrainedSoFar s s 0 out out
 none_drained s out = λ state plays.
     record { stands = record { now = state; plays = plays; alike = record { names = refl; firsts = refl; log = refl } }; left = refl; written = refl }
 
@@ -182,8 +182,8 @@ tail_left n xs ys x one other same =
     let e : x ∷ drop (n + 1) xs ≡ x ∷ drop (n + 1) ys = sym (drop_at n xs x one) ∙ same ∙ drop_at n ys x other in
     ap (drop 1) e
 
-pub one_more_drained : (s now next : StageView) (n : ℕ) (out out' out'' : List ℕ) → n < length s.book.sessions → DrainedSoFar s now n out out'
-    → ((state : State) (c : Client) → Plays now state → slice_get state.clients n ≡ Some c → DrainsOne n next out' out'' state c) → DrainedSoFar s next (n + 1) out out''
+pub one_more_drained : (s now next : ReplayBookView) (n : ℕ) (out out' out'' : List ℕ) → n < length s.book.sessions → DrainedSoFar s now n out out'
+    → ((state : State) (c : Client) → BookStandsFor now state → slice_get state.clients n ≡ Some c → DrainsOne n next out' out'' state c) → DrainedSoFar s next (n + 1) out out''
 unfolding all_drained
 one_more_drained s now next n out out' out'' below so_far step = λ state plays.
     let was = so_far state plays in
@@ -215,7 +215,7 @@ drop_all zero (x ∷ xs) few = absurd (omega (arith, few))
 drop_all (suc n) [] few = refl
 drop_all (suc n) (x ∷ xs) few = drop_all n xs (omega (arith, few))
 
-pub every_one_drained : (s now : StageView) (n : ℕ) (out out' : List ℕ) → n ≡ length s.book.sessions → DrainedSoFar s now n out out' → (state : State) → Plays s state → Drains now out out' state
+pub every_one_drained : (s now : ReplayBookView) (n : ℕ) (out out' : List ℕ) → n ≡ length s.book.sessions → DrainedSoFar s now n out out' → (state : State) → BookStandsFor s state → Drains now out out' state
 unfolding all_drained
 every_one_drained s now n out out' all so_far state plays =
     let was = so_far state plays in

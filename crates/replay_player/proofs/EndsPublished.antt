@@ -17,16 +17,16 @@ use Rattle.book_units.specs.Steps.{IsReady, Steps, state_of as unit_state}
 use Rattle.book_units.specs.Units.{UnitView}
 use Rattle.report_book.specs.BookView.{BookView}
 use Rattle.report_book.specs.Moves.{PublishesAt}
-use Rattle.report_book.specs.Standing.{Holds}
-use Rattle.run_lines.specs.Closings.{unit_text}
+use Rattle.report_book.specs.Standing.{BookHolds}
+use Rattle.output_lines.specs.Closings.{unit_text}
 use Rattle.replay_monitors.specs.Stored.{is_store, makes_store, shown_state, stores_at_end, stores_next}
 use Rattle.replay_monitors.specs.Books.{IsStoredAt}
 use Rattle.replay_monitors.proofs.Books as books
 use Rattle.replay_monitors.proofs.Stored as stored
 use Rattle.replay_player.specs.Effects.{with_stores}
-use Rattle.replay_player.specs.Ending.{Alike, IsPublished, PublishesOne, Shows, Stands, phase_left, stores_left, unit_left}
+use Rattle.replay_player.specs.Ending.{Alike, IsUnitPublished, PublishesOne, Shows, StandsAlike, phase_left, stores_left, unit_left}
 use Rattle.replay_player.specs.Ends.{published, published_text}
-use Rattle.replay_player.specs.Playing.{Plays, StageView}
+use Rattle.replay_player.specs.Playing.{BookStandsFor, ReplayBookView}
 use Rattle.replay_player.specs.States.{State, samples_at, units_in}
 use Rattle.replay_player.proofs.EndsDevices.{names_so}
 use Rattle.replay_player.proofs.Storing.{stored_one}
@@ -75,7 +75,7 @@ got_set [] n x below = absurd (omega (arith, below))
 got_set (y ∷ xs) zero x below = refl
 got_set (y ∷ xs) (suc n) x below = got_set xs n x (omega (arith, below))
 
-pub stores_less : (s : StageView) (b : BookView) (u : ℕ) (step : UnitStep) (more : Bool) → u < 2 * length s.book.names → Holds s.book → PublishesAt u step s.book b → more ≡ is_store step → more ≡ true
+pub stores_less : (s : ReplayBookView) (b : BookView) (u : ℕ) (step : UnitStep) (more : Bool) → u < 2 * length s.book.names → BookHolds s.book → PublishesAt u step s.book b → more ≡ is_store step → more ≡ true
     → stores_left u b.units < stores_left u s.book.units
 stores_less s b u step more below held publishes is made =
     let within : u < length s.book.units = let count = held.units in omega (arith, below, count) in
@@ -95,7 +95,7 @@ stays_at : (first : ℕ) (samples : List Sample) (stores : ℕ) → makes_store 
 unfolding stores_next
 stays_at first samples stores none = ap (λ b. if b then stores + 1 else stores) none
 
-last_shown : (s : StageView) (b : BookView) (u : ℕ) (step : UnitStep) (first : ℕ) (samples : List Sample) (stores : ℕ) → u < length s.book.units → PublishesAt u step s.book b
+last_shown : (s : ReplayBookView) (b : BookView) (u : ℕ) (step : UnitStep) (first : ℕ) (samples : List Sample) (stores : ℕ) → u < length s.book.units → PublishesAt u step s.book b
     → IsStoredAt u first samples stores s.book → is_store step ≡ false → (free : UnitView) → unit_state (get_or b.units u free) ≡ shown_state first samples (stores_at_end first samples)
 last_shown s b u step first samples stores within publishes is last = λ free.
     let known = books.published u step s.book b publishes first stores samples within is in
@@ -103,12 +103,12 @@ last_shown s b u step first samples stores within publishes is last = λ free.
     let end : stores ≡ stores_at_end first samples = stored.at_end first stores samples (get_or s.book.units u free) (is free) none in
     stored.state_is first (stores_next first samples stores) samples (get_or b.units u free) (known.1 free) ∙ ap (shown_state first samples) (stays_at first samples stores none ∙ end)
 
-pub one_published : (s : StageView) (b : BookView) (u : ℕ) (step : UnitStep) (more : Bool) → u < 2 * length s.book.names → Holds s.book → PublishesAt u step s.book b → more ≡ is_store step
-    → (state : State) → Plays s state → PublishesOne u more (record s { book = b }) state
+pub one_published : (s : ReplayBookView) (b : BookView) (u : ℕ) (step : UnitStep) (more : Bool) → u < 2 * length s.book.names → BookHolds s.book → PublishesAt u step s.book b → more ≡ is_store step
+    → (state : State) → BookStandsFor s state → PublishesOne u more (record s { book = b }) state
 one_published s b u step more below held publishes is state plays =
     let within : u < length s.book.units = let count = held.units in omega (arith, below, count) in
     let whole = plays.before ++ s.book.log.log in
-    let P : State → Type 0 = λ st. more ≡ false → IsPublished u (record s { book = b }) st in
+    let P : State → Type 0 = λ st. more ≡ false → IsUnitPublished u (record s { book = b }) st in
     record {
       stands = record {
         now = with_stores u (stores_next (slice_index state.firsts u) (samples_at u state) (slice_index state.stores u)) state;
@@ -124,13 +124,13 @@ one_published s b u step more below held publishes is state plays =
 both_alike : (a b c : State) → Alike a b → Alike b c → Alike a c
 both_alike a b c one other = record { names = other.names ∙ one.names; firsts = other.firsts ∙ one.firsts; log = other.log ∙ one.log }
 
-abbrev pub StandsOn : StageView → StageView → Type 0
-StandsOn s now = (state : State) → Plays s state → Stands now state
+abbrev pub StandsOn : ReplayBookView → ReplayBookView → Type 0
+StandsOn s now = (state : State) → BookStandsFor s state → StandsAlike now state
 
-pub stands_first : (s : StageView) → StandsOn s s
+pub stands_first : (s : ReplayBookView) → StandsOn s s
 stands_first s = λ state plays. record { now = state; plays = plays; alike = record { names = refl; firsts = refl; log = refl } }
 
-pub stands_next : (s now next : StageView) (u : ℕ) (more : Bool) → StandsOn s now → ((state : State) → Plays now state → PublishesOne u more next state) → StandsOn s next
+pub stands_next : (s now next : ReplayBookView) (u : ℕ) (more : Bool) → StandsOn s now → ((state : State) → BookStandsFor now state → PublishesOne u more next state) → StandsOn s next
 stands_next s now next u more so_far step = λ state plays.
     let was = so_far state plays in
     let did = step was.now was.plays in
@@ -148,15 +148,15 @@ got_there [] n x free is = absurd (cc)
 got_there (y ∷ units) zero x free is = cc
 got_there (y ∷ units) (suc n) x free is = got_there units n x free is
 
-pub no_unit : (s : StageView) (u : ℕ) (X : Type 0) → u < 2 * length s.book.names → Holds s.book → option_map unit_state (slice_get s.book.units u) ≡ None → X
+pub no_unit : (s : ReplayBookView) (u : ℕ) (X : Type 0) → u < 2 * length s.book.names → BookHolds s.book → option_map unit_state (slice_get s.book.units u) ≡ None → X
 no_unit s u X below held none =
     let within : u < length s.book.units = let count = held.units in omega (arith, below, count) in
     let was = found s.book.units u within in
     absurd (let e : Some (unit_state was.0) ≡ None = ap (option_map unit_state) (sym was.1) ∙ none in cc)
 
-pub unit_shown : (s now next : StageView) (u : ℕ) (more : Bool) (out out' : List ℕ) (shown : UnitState) (done : Result (Unit {0}) NoMemory) → StandsOn s now
-    → ((state : State) → Plays now state → PublishesOne u more next state) → more ≡ false → option_map unit_state (slice_get next.book.units u) ≡ Some shown
-    → OnOk done (out' ≡ out ++ unit_text u shown) → (state : State) → Plays s state → OnOk done (Shows u next out out' state)
+pub unit_shown : (s now next : ReplayBookView) (u : ℕ) (more : Bool) (out out' : List ℕ) (shown : UnitState) (done : Result (Unit {0}) NoMemory) → StandsOn s now
+    → ((state : State) → BookStandsFor now state → PublishesOne u more next state) → more ≡ false → option_map unit_state (slice_get next.book.units u) ≡ Some shown
+    → OnOk done (out' ≡ out ++ unit_text u shown) → (state : State) → BookStandsFor s state → OnOk done (Shows u next out out' state)
 unit_shown s now next u more out out' shown (Err fault) so_far step last is written state plays = tt
 unit_shown s now next u more out out' shown (Ok v) so_far step last is written state plays =
     let was = so_far state plays in
@@ -178,20 +178,20 @@ unit_shown s now next u more out out' shown (Ok v) so_far step last is written s
 
 -- all units
 
-pub record ShownTo (now : StageView) (u count : ℕ) (out out' : List ℕ) (state : State) : Type 0 where
-  pub stands : Stands now state
+pub record ShownTo (now : ReplayBookView) (u count : ℕ) (out out' : List ℕ) (state : State) : Type 0 where
+  pub stands : StandsAlike now state
   pub written : out' ++ flat_map (published state) (range_with_len u (count - u)) ≡ out ++ flat_map (published state) (range_with_len 0 count)
 
-abbrev pub ShownSoFar : StageView → StageView → ℕ → ℕ → List ℕ → List ℕ → Type 0
-ShownSoFar s now u count out out' = (state : State) → Plays s state → ShownTo now u count out out' state
+abbrev pub ShownSoFar : ReplayBookView → ReplayBookView → ℕ → ℕ → List ℕ → List ℕ → Type 0
+ShownSoFar s now u count out out' = (state : State) → BookStandsFor s state → ShownTo now u count out out' state
 
-pub none_shown : (s : StageView) (count : ℕ) (out : List ℕ) → ShownSoFar s s 0 count out out
+pub none_shown : (s : ReplayBookView) (count : ℕ) (out : List ℕ) → ShownSoFar s s 0 count out out
 none_shown s count out = λ state plays.
     let e : count - 0 ≡ count = omega arith in
     record { stands = stands_first s state plays; written = ap (λ k. out ++ flat_map (published state) (range_with_len 0 k)) e }
 
-pub one_more_shown : (s now next : StageView) (u count : ℕ) (out out' out'' : List ℕ) → u < count → ShownSoFar s now u count out out'
-    → ((state : State) → Plays now state → Shows u next out' out'' state) → ShownSoFar s next (u + 1) count out out''
+pub one_more_shown : (s now next : ReplayBookView) (u count : ℕ) (out out' out'' : List ℕ) → u < count → ShownSoFar s now u count out out'
+    → ((state : State) → BookStandsFor now state → Shows u next out' out'' state) → ShownSoFar s next (u + 1) count out out''
 one_more_shown s now next u count out out' out'' below so_far step = λ state plays.
     let was = so_far state plays in
     let mid = was.stands.now in
@@ -205,8 +205,8 @@ one_more_shown s now next u count out out' out'' below so_far step = λ state pl
           ∙ ap (λ k. out' ++ flat_map (published state) (range_with_len u k)) e ∙ was.written;
     }
 
-pub every_one_shown : (s now : StageView) (u count : ℕ) (out out' : List ℕ) → u ≡ count → count ≡ 2 * length s.book.names → ShownSoFar s now u count out out'
-    → (state : State) → Plays s state → out' ≡ out ++ flat_map (published state) (range_with_len 0 (units_in state))
+pub every_one_shown : (s now : ReplayBookView) (u count : ℕ) (out out' : List ℕ) → u ≡ count → count ≡ 2 * length s.book.names → ShownSoFar s now u count out out'
+    → (state : State) → BookStandsFor s state → out' ≡ out ++ flat_map (published state) (range_with_len 0 (units_in state))
 every_one_shown s now u count out out' all is so_far state plays =
     let was = so_far state plays in
     let none : 0 ≡ count - u = omega (arith, all) in

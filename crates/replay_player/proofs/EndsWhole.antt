@@ -4,7 +4,7 @@ use Rattle.std.specs.List.{flat_map, range_with_len}
 use Rattle.gps_fixed.specs.declared.no_memory.NoMemory.{NoMemory}
 use Rattle.replay_player.specs.Ending.{Alike, Drains, HaveStopped}
 use Rattle.replay_player.specs.Ends.{all_drained, all_ended, published, shut, written_at_end}
-use Rattle.replay_player.specs.Playing.{Plays, StageView}
+use Rattle.replay_player.specs.Playing.{BookStandsFor, ReplayBookView}
 use Rattle.replay_player.specs.States.{State, units_in}
 use Rattle.replay_player.proofs.EndsDevices.{have_stopped}
 use Rattle.replay_player.proofs.EndsPublished.{shown_by}
@@ -15,12 +15,12 @@ all_alike a b alike =
     ∙ ap (λ l. flat_map (shown_by a.firsts l) (range_with_len 0 (units_in b))) alike.log
     ∙ ap (λ (l : List (List ℕ)). flat_map (published a) (range_with_len 0 (2 * length l))) alike.names
 
-pub whole_written : (s ended closed drained : StageView) (out out' out'' : List ℕ) (done : Result (Unit {0}) NoMemory)
-    → ((state : State) → Plays s state → Plays ended (all_ended state))
-    → ((state : State) → Plays ended state → HaveStopped state → Plays closed (shut state))
-    → ((state : State) → Plays closed state → Drains drained out out' state)
-    → ((state : State) → Plays drained state → OnOk done (out'' ≡ out' ++ flat_map (published state) (range_with_len 0 (units_in state))))
-    → (state : State) → Plays s state → OnOk done (out'' ≡ out ++ written_at_end state)
+pub whole_written : (s ended closed drained : ReplayBookView) (out out' out'' : List ℕ) (done : Result (Unit {0}) NoMemory)
+    → ((state : State) → BookStandsFor s state → BookStandsFor ended (all_ended state))
+    → ((state : State) → BookStandsFor ended state → HaveStopped state → BookStandsFor closed (shut state))
+    → ((state : State) → BookStandsFor closed state → Drains drained out out' state)
+    → ((state : State) → BookStandsFor drained state → OnOk done (out'' ≡ out' ++ flat_map (published state) (range_with_len 0 (units_in state))))
+    → (state : State) → BookStandsFor s state → OnOk done (out'' ≡ out ++ written_at_end state)
 whole_written s ended closed drained out out' out'' (Err fault) ends shuts drains shows state plays = tt
 whole_written s ended closed drained out out' out'' (Ok u) ends shuts drains shows state plays =
     let at = shut (all_ended state) in

@@ -9,7 +9,7 @@ use Rattle.gps_command.specs.Requests.{requests}
 use Rattle.gps_report.specs.declared.policy.Policy.{Policy}
 use Rattle.session_core.specs.declared.mark.Close.{Close}
 use Rattle.session_core.specs.declared.mark.Close.TheVariants.{HungUp, ReadFault, DaemonEnd, TooManyRequests, Overrun, NoMemory as WantOfMemory}
-use Rattle.session_core.specs.Shown.{Shown, last_policy, opening_policy}
+use Rattle.session_core.specs.SessionView.{SessionView, last_policy, opening_policy}
 use Rattle.session_core.specs.Stretches.{Stretch, last_watched}
 use Rattle.book_log.specs.Entries.{Entry}
 use Rattle.book_log.specs.History.{history, history_after}
@@ -17,23 +17,23 @@ use Rattle.book_replies.specs.declared.answering.Answer.{Answer}
 use Rattle.book_replies.specs.Replies.{answered}
 use Rattle.book_replies.proofs.Joined.{one_for_each}
 use Rattle.book_sessions.specs.Answering.{Inputs, Stops, mark_at, most_requests, raised, stretch_at}
-use Rattle.book_sessions.specs.Attendance.{Attendance}
+use Rattle.book_sessions.specs.MemberView.{MemberView}
 use Rattle.report_book.specs.BookView.{BookView}
 use Rattle.report_book.specs.declared.fault.BookFault.{BookFault}
 use Rattle.report_book.specs.Knowing.{known_in}
-use Rattle.report_book.specs.Moves.{Hears}
+use Rattle.report_book.specs.Moves.{AnswersRequests}
 use Rattle.report_book.specs.Refusals.{RefusesAs, session_fault}
-use Rattle.report_book.specs.Standing.{Holds}
+use Rattle.report_book.specs.Standing.{BookHolds}
 use Rattle.session_runs.specs.Runs.{SessionRun}
 use Rattle.session_runs.specs.Following.{Extends, answered_run, closing_at}
 use Rattle.session_runs.proofs.Counting.{counted}
 use Rattle.session_runs.proofs.Books.{place_is}
 use Rattle.session_runs.proofs.Going.{answers_extend}
 use Rattle.session_runs.proofs.Zipping.{zip_set}
-use Rattle.replay_player.specs.declared.turn.Turn.{Turn}
+use Rattle.replay_player.specs.declared.event_step.EventStep.{EventStep}
 use Rattle.replay_player.specs.Clients.{Client, answerable, answers_to, asked_by, items_of, kept_of, new_requests, policy_of, refusal, room_of, served}
 use Rattle.replay_player.specs.Effects.{changes, hears, with_client}
-use Rattle.replay_player.specs.Playing.{Acts, Attends, ComesTo, Plays, StageView, state_of}
+use Rattle.replay_player.specs.Playing.{Acts, Attends, ComesTo, BookStandsFor, ReplayBookView, state_of}
 use Rattle.replay_player.specs.States.{State}
 use Rattle.replay_player.proofs.Seating.{Both, changes_by, over_parts, seated}
 use Rattle.replay_player.proofs.Telling.{still_open}
@@ -54,7 +54,7 @@ pub record Counts (names : List (List ℕ)) (whole : List Entry) (c : Client) (a
   pub taken : min (answerable names whole c) all ≡ count
   pub closes : closing ≡ cond (nat_le all (answerable names whole c)) None (Some (length (history whole), refusal names whole c))
 
-counts_so : (names : List (List ℕ)) (whole : List Entry) (c : Client) (all count place : ℕ) (b : Shown) (closing : Option (ℕ × Close)) → count ≤ all → count ≤ most_requests - asked_by c → count ≤ room_of names whole c
+counts_so : (names : List (List ℕ)) (whole : List Entry) (c : Client) (all count place : ℕ) (b : SessionView) (closing : Option (ℕ × Close)) → count ≤ all → count ≤ most_requests - asked_by c → count ≤ room_of names whole c
     → b.requests ≡ asked_by c + count → room_of names whole c ≡ b.cap - (length b.kept - count) → length b.kept ≤ b.cap → count ≤ length b.kept → asked_by c ≤ most_requests
     → Stops place (all - count) b closing → Counts names whole c all count (closing_at (length (history whole)) closing)
 counts_so names whole c all count place b None few left room requests kept fits within most stops =
@@ -101,7 +101,7 @@ take_least (suc n) (x ∷ xs) =
     let e : min (suc n) (length (x ∷ xs)) ≡ suc (min n (length xs)) = omega arith in
     ap (λ k. take k (x ∷ xs)) e ∙ ap (λ l. x ∷ l) (take_least n xs)
 
-pub heard_one : (names : List (List ℕ)) (before log : List Entry) (place : ℕ) (piece : List ℕ) (a b : Attendance) (c : Client) → length (history_after before log) ≡ place
+pub heard_one : (names : List (List ℕ)) (before log : List Entry) (place : ℕ) (piece : List ℕ) (a b : MemberView) (c : Client) → length (history_after before log) ≡ place
     → Attends names before log a c → c.run.closing ≡ None → Inputs true (known_in (length names) (before ++ log)) names place piece a b
     → Attends names before log b (served names (before ++ log) piece c)
 unfolding served
@@ -173,9 +173,9 @@ heard_one names before log place piece a b c long attends c_open inp =
         let two : length b.session.kept ≤ b.session.cap = (bound some).1 refl in
         (omega (arith, one, asked), omega (arith, two, kept, room, cap, fit))
 
-pub hears_act : (s : StageView) (b : BookView) (n : ℕ) (piece : List ℕ) (result : Result (Unit {0}) BookFault) (turn : Result Turn NoMemory) → Holds s.book
-    → ComesTo result turn → RefusesAs (session_fault s.book n) result → OnOk result (Hears true n piece s.book b)
-    → (state : State) → Plays s state → Acts turn (hears n piece state) (record s { book = b }) [] []
+pub hears_act : (s : ReplayBookView) (b : BookView) (n : ℕ) (piece : List ℕ) (result : Result (Unit {0}) BookFault) (turn : Result EventStep NoMemory) → BookHolds s.book
+    → ComesTo result turn → RefusesAs (session_fault s.book n) result → OnOk result (AnswersRequests true n piece s.book b)
+    → (state : State) → BookStandsFor s state → Acts turn (hears n piece state) (record s { book = b }) [] []
 unfolding hears
 hears_act s b n piece result turn held comes refuses heard state plays =
     let P : State → Type 0 = λ st. Acts turn (changes n (served st.names st.log piece) st) (record s { book = b }) [] [] in
@@ -185,18 +185,18 @@ hears_act s b n piece result turn held comes refuses heard state plays =
     (λ both c_open. by both c_open result heard))
   where
     by : (both : Both (Attends s.book.names plays.before s.book.log.log) s.book.sessions plays.clients n) → both.other.run.closing ≡ None
-        → (result : Result (Unit {0}) BookFault) → OnOk result (Hears true n piece s.book b)
-        → OnOk result (Plays (record s { book = b }) (with_client n (served s.book.names (plays.before ++ s.book.log.log) piece both.other) (state_of s.book.names (plays.before ++ s.book.log.log) plays.firsts plays.clients plays.stores plays.watches)))
+        → (result : Result (Unit {0}) BookFault) → OnOk result (AnswersRequests true n piece s.book b)
+        → OnOk result (BookStandsFor (record s { book = b }) (with_client n (served s.book.names (plays.before ++ s.book.log.log) piece both.other) (state_of s.book.names (plays.before ++ s.book.log.log) plays.firsts plays.clients plays.stores plays.watches)))
     by both c_open (Err fault) heard = tt
     by both c_open (Ok u) heard =
         let changed = heard.session plays.before plays.standing.stands in
         let next = changed.0 in
         let c = both.other in
         let whole = plays.before ++ s.book.log.log in
-        let C : Attendance → Type 0 = λ x. Inputs true (known_in (length s.book.names) whole) s.book.names s.book.log.length piece x next in
+        let C : MemberView → Type 0 = λ x. Inputs true (known_in (length s.book.names) whole) s.book.names s.book.log.length piece x next in
         let inp : C both.one = subst C (both.is both.one) (changed.2 both.one) in
         let attends = heard_one s.book.names plays.before s.book.log.log s.book.log.length piece both.one next c (place_is s.book plays.before held plays.standing.stands) both.pair c_open inp in
         let d = served s.book.names whole piece c in
         let zip = zip_set (Attends s.book.names plays.before s.book.log.log) s.book.sessions plays.clients n next d attends plays.standing.clients_are in
-        let Z : List Attendance → Type 0 = λ l. AllZip (Attends s.book.names plays.before s.book.log.log) l (set plays.clients n d) in
+        let Z : List MemberView → Type 0 = λ l. AllZip (Attends s.book.names plays.before s.book.log.log) l (set plays.clients n d) in
         seated s b plays.before plays.firsts plays.clients (set plays.clients n d) plays.stores plays.watches heard.same plays.standing (subst Z (sym changed.1) zip)

@@ -3,7 +3,7 @@ use Rattle.std.proofs.Common.{◌≡◌, ◌≤◌, ℕ, zero, suc, List, [], le
 use Rattle.std.specs.List.{All, AllZip}
 use Rattle.shm_segment.specs.declared.sample.Sample.{Sample}
 use Rattle.book_log.specs.History.{history}
-use Rattle.book_sessions.specs.Attendance.{Attendance}
+use Rattle.book_sessions.specs.MemberView.{MemberView}
 use Rattle.book_units.specs.Samples.{samples_of}
 use Rattle.report_book.specs.BookView.{BookView}
 use Rattle.report_book.specs.Moves.{IsNewBook}
@@ -22,7 +22,7 @@ no_stores (suc n) (suc u) = no_stores n u
 pub stage_opens : (devices : ℕ) (names : List (List ℕ)) (limit : ℕ) (firsts : List ℕ) (b : BookView) → All (λ first. first ≤ 1_073_741_823) firsts → length firsts ≡ 16 → length names ≤ 8
     → IsNewBook names limit firsts b → Opens names firsts (record { devices = devices; book = b; watchers = [] })
 stage_opens devices names limit firsts b bounds many few is =
-    let A : List Attendance → Type 0 = λ l. AllZip (Attends b.names [] b.log.log) l [] in
+    let A : List MemberView → Type 0 = λ l. AllZip (Attends b.names [] b.log.log) l [] in
     record {
       before = [];
       firsts = firsts;

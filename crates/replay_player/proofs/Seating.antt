@@ -7,14 +7,14 @@ use Rattle.gps_command.specs.Kept.{kept_from}
 use Rattle.session_core.specs.declared.mark.Close.{Close}
 use Rattle.session_core.specs.declared.mark.Close.TheVariants.{HungUp}
 use Rattle.session_core.specs.Naming.{OutletName}
-use Rattle.session_core.specs.Shown.{Shown}
+use Rattle.session_core.specs.SessionView.{SessionView}
 use Rattle.book_log.specs.Entries.{Entry}
 use Rattle.book_log.specs.History.{history, history_after}
 use Rattle.book_log.specs.Standing.{StandsFor}
 use Rattle.book_replies.specs.Replies.{opening_reply}
 use Rattle.book_sessions.specs.Answering.{raised}
-use Rattle.book_sessions.specs.Attendance.{Attendance, is_open as is_open_here}
-use Rattle.book_sessions.specs.Attendance.{opened as opened_here}
+use Rattle.book_sessions.specs.MemberView.{MemberView, is_open as is_open_here}
+use Rattle.book_sessions.specs.MemberView.{opened as opened_here}
 use Rattle.book_sessions.specs.Roster.{Closes, live_in as live_here, most_live, most_opened}
 use Rattle.book_units.specs.Samples.{samples_of}
 use Rattle.report_book.specs.BookView.{BookView}
@@ -22,7 +22,7 @@ use Rattle.report_book.specs.declared.fault.BookFault.{BookFault}
 use Rattle.report_book.specs.declared.fault.BookFault.TheVariants as book
 use Rattle.report_book.specs.Moves.{Admits, HangsUp, SameButSessions}
 use Rattle.report_book.specs.Refusals.{RefusesAs, RefusesOnly, RefusesWith, crowd_fault, fault_of, session_fault}
-use Rattle.report_book.specs.Standing.{Holds}
+use Rattle.report_book.specs.Standing.{BookHolds}
 use Rattle.session_runs.specs.Runs.{SessionRun, IsRunOf, closed_from}
 use Rattle.session_runs.specs.Following.{Extends, closed_run, opened_run, shut_run}
 use Rattle.session_runs.proofs.Books.{admitted_begins, place_is}
@@ -30,12 +30,12 @@ use Rattle.session_runs.proofs.Going.{closings_end}
 use Rattle.session_runs.proofs.Zipping.{zip_push, zip_set}
 use Rattle.replay_monitors.specs.Books.{IsStoredAt}
 use Rattle.replay_monitors.proofs.Books.{keeps_same, same_units}
-use Rattle.replay_player.specs.declared.turn.Turn.{Turn}
-use Rattle.replay_player.specs.declared.turn.Turn.TheVariants.{Refused}
+use Rattle.replay_player.specs.declared.event_step.EventStep.{EventStep}
+use Rattle.replay_player.specs.declared.event_step.EventStep.TheVariants.{Refused}
 use Rattle.replay_player.specs.Clients.{Client, closed, is_open, items_of, opened}
 use Rattle.replay_player.specs.Effects.{allowed, changes, hangs, opens, quietly, with_client}
-use Rattle.replay_player.specs.Playing.{Acts, AdmitsTo, Attends, ComesTo, Plays, RefusesTo, StageView, Standing, state_of}
-use Rattle.replay_player.specs.States.{State, Watch, live_in}
+use Rattle.replay_player.specs.Playing.{Acts, AdmitsTo, Attends, ComesTo, BookStandsFor, RefusesTo, ReplayBookView, Standing, state_of}
+use Rattle.replay_player.specs.States.{State, MonitorState, live_in}
 use Rattle.replay_player.proofs.Bringing.{same_state, watched_on}
 use Rattle.replay_player.proofs.Refusing.{acts_by, only_as}
 use Rattle.replay_player.proofs.Telling.{goes_on, still_open}
@@ -84,7 +84,7 @@ long_same R (x ∷ xs) [] zip = absurd zip
 long_same R (x ∷ xs) (y ∷ ys) zip = ap suc (long_same R xs ys zip.1)
 
 -- it is closed where its run is
-pub closed_same : (names : List (List ℕ)) (before log : List Entry) (s : Shown) (r : SessionRun) → IsRunOf names before log s r → is_some s.closing ≡ is_some r.closing
+pub closed_same : (names : List (List ℕ)) (before log : List Entry) (s : SessionView) (r : SessionRun) → IsRunOf names before log s r → is_some s.closing ≡ is_some r.closing
 closed_same names before log s r (inl here) = by s.closing ∙ ap is_some (sym here.closing)
   where
     by : (o : Option (ℕ × Close)) → is_some o ≡ is_some (closed_from (length (history before)) o)
@@ -94,9 +94,9 @@ closed_same names before log s r (inr over) = ap is_some over.now ∙ ap is_some
 
 -- the sessions alone have changed
 
-pub seated : (s : StageView) (b : BookView) (before : List Entry) (firsts : List ℕ) (clients nexts : List Client) (stores : List ℕ) (watches : List Watch)
+pub seated : (s : ReplayBookView) (b : BookView) (before : List Entry) (firsts : List ℕ) (clients nexts : List Client) (stores : List ℕ) (watches : List MonitorState)
     → SameButSessions s.book b → Standing s before firsts clients stores watches → AllZip (Attends s.book.names before s.book.log.log) b.sessions nexts
-    → Plays (record s { book = b }) (state_of s.book.names (before ++ s.book.log.log) firsts nexts stores watches)
+    → BookStandsFor (record s { book = b }) (state_of s.book.names (before ++ s.book.log.log) firsts nexts stores watches)
 seated s b before firsts clients nexts stores watches same standing zip =
     let keeps = keeps_same s.book b same.units in
     let N : List (List ℕ) → Type 0 = λ n. AllZip (Attends n before s.book.log.log) b.sessions nexts in
@@ -128,10 +128,10 @@ nothing_made fault (Err other) X refuses = tt
 
 -- one session that is there and open becomes another
 
-pub changes_by : (s : StageView) (new : StageView) (state : State) (n : ℕ) (next : Client → Client) (result : Result (Unit {0}) BookFault) (turn : Result Turn NoMemory) → (plays : Plays s state)
+pub changes_by : (s : ReplayBookView) (new : ReplayBookView) (state : State) (n : ℕ) (next : Client → Client) (result : Result (Unit {0}) BookFault) (turn : Result EventStep NoMemory) → (plays : BookStandsFor s state)
     → ComesTo result turn → RefusesAs (session_fault s.book n) result
     → ((both : Both (Attends s.book.names plays.before s.book.log.log) s.book.sessions plays.clients n) → both.other.run.closing ≡ None
-    → OnOk result (Plays new (with_client n (next both.other) (state_of s.book.names (plays.before ++ s.book.log.log) plays.firsts plays.clients plays.stores plays.watches))))
+    → OnOk result (BookStandsFor new (with_client n (next both.other) (state_of s.book.names (plays.before ++ s.book.log.log) plays.firsts plays.clients plays.stores plays.watches))))
     → Acts turn (changes n next state) new [] []
 changes_by s new state n next result turn plays comes refuses made =
     let at = state_of s.book.names (plays.before ++ s.book.log.log) plays.firsts plays.clients plays.stores plays.watches in
@@ -140,19 +140,19 @@ changes_by s new state n next result turn plays comes refuses made =
       | inl both ↦
           let E : Option Client → Type 0 = λ o. Acts turn (option_and_then (λ (c : Client). allowed (is_open c) (quietly (with_client n (next c) at))) o) new [] [] in
           let there : nat_lt n (length s.book.sessions) ≡ true = lt-ltb n (length s.book.sessions) both.there in
-          let closes : is_some (option_and_then (λ (a : Attendance). a.session.closing) (slice_get s.book.sessions n)) ≡ is_some both.other.run.closing =
-          ap (λ (o : Option Attendance). is_some (option_and_then (λ (a : Attendance). a.session.closing) o)) both.first
+          let closes : is_some (option_and_then (λ (a : MemberView). a.session.closing) (slice_get s.book.sessions n)) ≡ is_some both.other.run.closing =
+          ap (λ (o : Option MemberView). is_some (option_and_then (λ (a : MemberView). a.session.closing) o)) both.first
           ∙ closed_same s.book.names plays.before s.book.log.log both.one.session both.other.run both.pair.run in
           let fault : session_fault s.book n ≡ fault_of true (is_some both.other.run.closing) =
-          ap (λ b. fault_of b (is_some (option_and_then (λ (a : Attendance). a.session.closing) (slice_get s.book.sessions n)))) there ∙ ap (fault_of true) closes in
+          ap (λ b. fault_of b (is_some (option_and_then (λ (a : MemberView). a.session.closing) (slice_get s.book.sessions n)))) there ∙ ap (fault_of true) closes in
           subst E (sym both.second) (by both.other.run.closing both refl fault)
       | inr neither ↦
           let E : Option Client → Type 0 = λ o. Acts turn (option_and_then (λ (c : Client). allowed (is_open c) (quietly (with_client n (next c) at))) o) new [] [] in
           let past = neither.past in
-          let F : Bool → Type 0 = λ b. session_fault s.book n ≡ fault_of b (is_some (option_and_then (λ (a : Attendance). a.session.closing) (slice_get s.book.sessions n))) in
+          let F : Bool → Type 0 = λ b. session_fault s.book n ≡ fault_of b (is_some (option_and_then (λ (a : MemberView). a.session.closing) (slice_get s.book.sessions n))) in
           let none : nat_lt n (length s.book.sessions) ≡ false = le-ltb n (length s.book.sessions) past in
-          let gone : RefusesAs (Some book.NoSuch) result = subst (λ f. RefusesAs f result) (ap (λ b. fault_of b (is_some (option_and_then (λ (a : Attendance). a.session.closing) (slice_get s.book.sessions n)))) none) refuses in
-          subst E (sym neither.second) (acts_by false false result turn at new comes gone (nothing_made book.NoSuch result (Plays new at) gone))
+          let gone : RefusesAs (Some book.NoSuch) result = subst (λ f. RefusesAs f result) (ap (λ b. fault_of b (is_some (option_and_then (λ (a : MemberView). a.session.closing) (slice_get s.book.sessions n)))) none) refuses in
+          subst E (sym neither.second) (acts_by false false result turn at new comes gone (nothing_made book.NoSuch result (BookStandsFor new at) gone))
     ])
   where
     by : (closing : Option (ℕ × Close)) (both : Both (Attends s.book.names plays.before s.book.log.log) s.book.sessions plays.clients n) → both.other.run.closing ≡ closing
@@ -164,10 +164,10 @@ changes_by s new state n next result turn plays comes refuses made =
     by (Some closing) both is fault =
         let ended : RefusesAs (Some book.Ended) result = subst (λ f. RefusesAs f result) (fault ∙ ap (λ o. fault_of true (is_some o)) is) refuses in
         acts_by true (is_some both.other.run.closing) result turn (with_client n (next both.other) (state_of s.book.names (plays.before ++ s.book.log.log) plays.firsts plays.clients plays.stores plays.watches)) new comes
-        (subst (λ f. RefusesAs f result) fault refuses) (nothing_made book.Ended result (Plays new (with_client n (next both.other) (state_of s.book.names (plays.before ++ s.book.log.log) plays.firsts plays.clients plays.stores plays.watches))) ended)
+        (subst (λ f. RefusesAs f result) fault refuses) (nothing_made book.Ended result (BookStandsFor new (with_client n (next both.other) (state_of s.book.names (plays.before ++ s.book.log.log) plays.firsts plays.clients plays.stores plays.watches))) ended)
 
 -- the stage over its own parts
-abbrev pub over_parts : (s : StageView) (state : State) → (plays : Plays s state) → Plays s (state_of s.book.names (plays.before ++ s.book.log.log) plays.firsts plays.clients plays.stores plays.watches)
+abbrev pub over_parts : (s : ReplayBookView) (state : State) → (plays : BookStandsFor s state) → BookStandsFor s (state_of s.book.names (plays.before ++ s.book.log.log) plays.firsts plays.clients plays.stores plays.watches)
 over_parts s state plays = record {
   before = plays.before;
   firsts = plays.firsts;
@@ -180,7 +180,7 @@ over_parts s state plays = record {
 
 -- hanging up, and the shut
 
-pub hung_one : (names : List (List ℕ)) (before log : List Entry) (why : Close) (place : ℕ) (a b : Attendance) (c : Client) → length (history_after before log) ≡ place
+pub hung_one : (names : List (List ℕ)) (before log : List Entry) (why : Close) (place : ℕ) (a b : MemberView) (c : Client) → length (history_after before log) ≡ place
     → Attends names before log a c → c.run.closing ≡ None → Closes place why a b → Attends names before log b (closed (before ++ log) why c)
 hung_one names before log why place a b c long attends c_open closes =
     let whole = before ++ log in
@@ -189,25 +189,25 @@ hung_one names before log why place a b c long attends c_open closes =
     let extends = closings_end names before log place why a b c.run long a_open closes attends.run in
     let run_is : closed_run whole why c.run ≡ d.run = ap (λ o. shut_run whole why o c.run) (sym c_open) in
     let E : SessionRun → Type 0 = λ r. Extends names before log before log a.session b.session [] c.run r in
-    let same : b.session.kept ≡ a.session.kept = ap (λ (x : Attendance). x.session.kept) closes.becomes in
-    let A : Attendance → Type 0 = λ x. length x.session.kept ≤ x.session.cap in
+    let same : b.session.kept ≡ a.session.kept = ap (λ (x : MemberView). x.session.kept) closes.becomes in
+    let A : MemberView → Type 0 = λ x. length x.session.kept ≤ x.session.cap in
     goes_on names before log log a b c d [] attends (subst E run_is extends)
     (record {
-      cap = ap (λ (x : Attendance). x.session.cap) closes.becomes;
-      policy = ap (λ (x : Attendance). x.session.policy) closes.becomes;
-      requests = ap (λ (x : Attendance). x.session.requests) closes.becomes;
+      cap = ap (λ (x : MemberView). x.session.cap) closes.becomes;
+      policy = ap (λ (x : MemberView). x.session.policy) closes.becomes;
+      requests = ap (λ (x : MemberView). x.session.requests) closes.becomes;
       items = λ more kept.
           let both : length a.session.kept ≡ length (a.session.kept ++ more) = ap length (sym same ∙ kept) in
           let none : 0 ≡ length more = omega (arith, both, length-append a.session.kept more) in
-          ap (λ (x : Attendance). x.session.items) closes.becomes ∙ ap (raised a.session.items) none;
+          ap (λ (x : MemberView). x.session.items) closes.becomes ∙ ap (raised a.session.items) none;
     })
     refl (ap (λ o. (shut_run whole why o c.run).stretches) c_open) (subst A (sym closes.becomes) attends.room)
     (λ is_open. absurd (let e : Some (length (history whole), why) ≡ None = sym (ap (λ o. (shut_run whole why o c.run).closing) c_open) ∙ is_open in cc))
     (λ is_open. c_open)
 
-pub hung : (s : StageView) (b : BookView) (n : ℕ) (result : Result (Unit {0}) BookFault) (turn : Result Turn NoMemory) → Holds s.book
+pub hung : (s : ReplayBookView) (b : BookView) (n : ℕ) (result : Result (Unit {0}) BookFault) (turn : Result EventStep NoMemory) → BookHolds s.book
     → ComesTo result turn → RefusesOnly (session_fault s.book n) result → OnOk result (HangsUp n HungUp s.book b)
-    → (state : State) → Plays s state → Acts turn (hangs n state) (record s { book = b }) [] []
+    → (state : State) → BookStandsFor s state → Acts turn (hangs n state) (record s { book = b }) [] []
 unfolding hangs
 hung s b n result turn held comes refuses hangs state plays =
     let P : State → Type 0 = λ st. Acts turn (changes n (closed st.log HungUp) st) (record s { book = b }) [] [] in
@@ -218,16 +218,16 @@ hung s b n result turn held comes refuses hangs state plays =
   where
     by : (both : Both (Attends s.book.names plays.before s.book.log.log) s.book.sessions plays.clients n) → both.other.run.closing ≡ None
         → (result : Result (Unit {0}) BookFault) → OnOk result (HangsUp n HungUp s.book b)
-        → OnOk result (Plays (record s { book = b }) (with_client n (closed (plays.before ++ s.book.log.log) HungUp both.other) (state_of s.book.names (plays.before ++ s.book.log.log) plays.firsts plays.clients plays.stores plays.watches)))
+        → OnOk result (BookStandsFor (record s { book = b }) (with_client n (closed (plays.before ++ s.book.log.log) HungUp both.other) (state_of s.book.names (plays.before ++ s.book.log.log) plays.firsts plays.clients plays.stores plays.watches)))
     by both c_open (Err fault) hangs = tt
     by both c_open (Ok u) hangs =
         let next = hangs.session.0 in
         let c = both.other in
-        let C : Attendance → Type 0 = λ x. Closes s.book.log.length HungUp x next in
+        let C : MemberView → Type 0 = λ x. Closes s.book.log.length HungUp x next in
         let closes = subst C (both.is both.one) (hangs.session.2 both.one) in
         let attends = hung_one s.book.names plays.before s.book.log.log HungUp s.book.log.length both.one next c (place_is s.book plays.before held plays.standing.stands) both.pair c_open closes in
         let zip = zip_set (Attends s.book.names plays.before s.book.log.log) s.book.sessions plays.clients n next (closed (plays.before ++ s.book.log.log) HungUp c) attends plays.standing.clients_are in
-        let Z : List Attendance → Type 0 = λ l. AllZip (Attends s.book.names plays.before s.book.log.log) l (set plays.clients n (closed (plays.before ++ s.book.log.log) HungUp c)) in
+        let Z : List MemberView → Type 0 = λ l. AllZip (Attends s.book.names plays.before s.book.log.log) l (set plays.clients n (closed (plays.before ++ s.book.log.log) HungUp c)) in
         seated s b plays.before plays.firsts plays.clients (set plays.clients n (closed (plays.before ++ s.book.log.log) HungUp c)) plays.stores plays.watches hangs.same plays.standing (subst Z (sym hangs.session.1) zip)
 
 -- a new session
@@ -251,8 +251,8 @@ attends_new names before log name cap place least most run items = record {
   cutter = λ is_open. refl;
 }
 
-pub admitted : (s : StageView) (b : BookView) (name : OutletName) (n cap : ℕ) (state : State) → Holds s.book → 1 ≤ cap → cap ≤ 65_536 → Admits name cap s.book b → (plays : Plays s state)
-    → Plays (record s { book = b }) (record (state_of s.book.names (plays.before ++ s.book.log.log) plays.firsts plays.clients plays.stores plays.watches) { clients = plays.clients ++ opened cap (plays.before ++ s.book.log.log) ∷ [] })
+pub admitted : (s : ReplayBookView) (b : BookView) (name : OutletName) (n cap : ℕ) (state : State) → BookHolds s.book → 1 ≤ cap → cap ≤ 65_536 → Admits name cap s.book b → (plays : BookStandsFor s state)
+    → BookStandsFor (record s { book = b }) (record (state_of s.book.names (plays.before ++ s.book.log.log) plays.firsts plays.clients plays.stores plays.watches) { clients = plays.clients ++ opened cap (plays.before ++ s.book.log.log) ∷ [] })
 admitted s b name n cap state held least most admits plays =
     let begins = admitted_begins name cap s.book b plays.before held plays.standing.stands admits in
     let log : b.log ≡ s.book.log = admits.same.log in
@@ -264,12 +264,12 @@ admitted s b name n cap state held least most admits plays =
     let c = opened cap (plays.before ++ s.book.log.log) in
     let attends = attends_new s.book.names plays.before s.book.log.log name cap s.book.log.length least most run items in
     let zip = zip_push (Attends s.book.names plays.before s.book.log.log) s.book.sessions plays.clients new c attends plays.standing.clients_are in
-    let Z : List Attendance → Type 0 = λ l. AllZip (Attends s.book.names plays.before s.book.log.log) l (plays.clients ++ c ∷ []) in
+    let Z : List MemberView → Type 0 = λ l. AllZip (Attends s.book.names plays.before s.book.log.log) l (plays.clients ++ c ∷ []) in
     seated s b plays.before plays.firsts plays.clients (plays.clients ++ c ∷ []) plays.stores plays.watches admits.same plays.standing (subst Z (sym admits.sessions) zip)
 
-pub opens_act : {X O : Type 0} (s : StageView) (b : BookView) (name : OutletName) (n cap : ℕ) (result : Result X (O × BookFault)) (turn : Result Turn NoMemory) → Holds s.book → 1 ≤ cap → cap ≤ 65_536
+pub opens_act : {X O : Type 0} (s : ReplayBookView) (b : BookView) (name : OutletName) (n cap : ℕ) (result : Result X (O × BookFault)) (turn : Result EventStep NoMemory) → BookHolds s.book → 1 ≤ cap → cap ≤ 65_536
     → n ≡ length s.book.sessions → AdmitsTo result turn → RefusesWith (crowd_fault s.book) result → OnOk result (Admits name cap s.book b)
-    → (state : State) → Plays s state → Acts turn (opens n cap state) (record s { book = b }) [] []
+    → (state : State) → BookStandsFor s state → Acts turn (opens n cap state) (record s { book = b }) [] []
 unfolding opens
 opens_act {X} {O} s b name n cap result turn held least most next admits refuses made state plays =
     let zip = plays.standing.clients_are in
@@ -289,19 +289,19 @@ opens_act {X} {O} s b name n cap result turn held least most next admits refuses
     (plays_so result made))))
   where
     plays_so : (result : Result X (O × BookFault)) → OnOk result (Admits name cap s.book b)
-        → OnOk result (Plays (record s { book = b }) (record (state_of s.book.names (plays.before ++ s.book.log.log) plays.firsts plays.clients plays.stores plays.watches) { clients = plays.clients ++ opened cap (plays.before ++ s.book.log.log) ∷ [] }))
+        → OnOk result (BookStandsFor (record s { book = b }) (record (state_of s.book.names (plays.before ++ s.book.log.log) plays.firsts plays.clients plays.stores plays.watches) { clients = plays.clients ++ opened cap (plays.before ++ s.book.log.log) ∷ [] }))
     plays_so (Ok x) made = admitted s b name n cap state held least most made plays
     plays_so (Err refusal) made = tt
 
-    wanting : (to : State) (turn : Result Turn NoMemory) → IsErr turn → Acts turn (Some (quietly to)) (record s { book = b }) [] []
+    wanting : (to : State) (turn : Result EventStep NoMemory) → IsErr turn → Acts turn (Some (quietly to)) (record s { book = b }) [] []
     wanting to (Ok t) is = absurd (cc)
     wanting to (Err e) is = tt
 
     by : (to : State) (crowd : Bool) → (nat_eq (live_here s.book.sessions) most_live || nat_eq (length s.book.sessions) most_opened) ≡ crowd → (result : Result X (O × BookFault)) → AdmitsTo result turn
-        → RefusesWith (crowd_fault s.book) result → OnOk result (Plays (record s { book = b }) to)
+        → RefusesWith (crowd_fault s.book) result → OnOk result (BookStandsFor (record s { book = b }) to)
         → Acts turn (allowed (not crowd) (quietly to)) (record s { book = b }) [] []
     by to false is (Ok x) admits refuses plays =
-        let A : Result Turn NoMemory → Type 0 = λ t. Acts t (Some (quietly to)) (record s { book = b }) [] [] in
+        let A : Result EventStep NoMemory → Type 0 = λ t. Acts t (Some (quietly to)) (record s { book = b }) [] [] in
         subst A (sym admits) (quietly to, refl, plays, refl)
     by to false is (Err refusal) admits refuses plays =
         let made_none : Result X (O × BookFault) = Err refusal in
@@ -314,5 +314,5 @@ opens_act {X} {O} s b name n cap result turn held least most next admits refuses
         let full : RefusesWith (Some (book.TooManySessions (live_here s.book.sessions) (length s.book.sessions))) result = subst F is refuses in
         let G : Result X (O × BookFault) → Type 0 = λ r. AdmitsTo r turn in
         let now : turn ≡ Ok Refused = subst G full.1 admits in
-        let A : Result Turn NoMemory → Type 0 = λ t. Acts t None (record s { book = b }) [] [] in
+        let A : Result EventStep NoMemory → Type 0 = λ t. Acts t None (record s { book = b }) [] [] in
         subst A (sym now) (refl, refl)

@@ -12,27 +12,27 @@ use Rattle.book_units.specs.Samples.{samples_of}
 use Rattle.book_units.specs.Units.{UnitView, segment_of}
 use Rattle.report_book.specs.BookView.{BookView}
 use Rattle.report_book.specs.Moves.{PublishesAt}
-use Rattle.report_book.specs.Standing.{Holds}
+use Rattle.report_book.specs.Standing.{BookHolds}
 use Rattle.session_runs.proofs.Zipping.{zip_push}
 use Rattle.replay_monitors.specs.Books.{IsStoredAt}
 use Rattle.replay_monitors.specs.Stored.{stores_next}
-use Rattle.replay_monitors.specs.Watched.{Watched, IsOf, watched}
+use Rattle.replay_monitors.specs.UnitMonitorView.{UnitMonitorView, IsOf, watched}
 use Rattle.replay_monitors.proofs.Books.{keeps_publishes, published, published_beside}
-use Rattle.replay_player.specs.declared.turn.Turn.TheVariants.{Made, Refused}
+use Rattle.replay_player.specs.declared.event_step.EventStep.TheVariants.{Made, Refused}
 use Rattle.replay_player.specs.Effects.{allowed, most_watches, quietly, stores, stores_after, watches, with_stores}
-use Rattle.replay_player.specs.Playing.{Acts, Attends, Plays, StageView, Watches, state_of}
-use Rattle.replay_player.specs.States.{State, Watch, most_units, samples_at, units_in}
+use Rattle.replay_player.specs.Playing.{Acts, Attends, BookStandsFor, ReplayBookView, Watches, state_of}
+use Rattle.replay_player.specs.States.{State, MonitorState, most_units, samples_at, units_in}
 use Rattle.replay_player.proofs.Bringing.{same_state, watched_on}
 
 -- a new monitor
 
-at_least : (units : List UnitView) (w : Watched) (u : ℕ) → 0 < length units → ((free : UnitView) → w ≡ watched u (segment_of (get_or units u free)) []) → (w.unit ≡ u) × (w.reading ≡ [])
+at_least : (units : List UnitView) (w : UnitMonitorView) (u : ℕ) → 0 < length units → ((free : UnitView) → w ≡ watched u (segment_of (get_or units u free)) []) → (w.unit ≡ u) × (w.reading ≡ [])
 at_least [] w u some is = absurd (omega (arith, some))
-at_least (x ∷ units) w u some is = (ap (λ (v : Watched). v.unit) (is x), ap (λ (v : Watched). v.reading) (is x))
+at_least (x ∷ units) w u some is = (ap (λ (v : UnitMonitorView). v.unit) (is x), ap (λ (v : UnitMonitorView). v.reading) (is x))
 
-pub watch_acts : (s : StageView) (b : BookView) (w : Watched) (m u : ℕ) → b ≡ s.book → ((free : UnitView) → w ≡ watched u (segment_of (get_or s.book.units u free)) []) → IsOf w s.book
+pub watch_acts : (s : ReplayBookView) (b : BookView) (w : UnitMonitorView) (m u : ℕ) → b ≡ s.book → ((free : UnitView) → w ≡ watched u (segment_of (get_or s.book.units u free)) []) → IsOf w s.book
     → (nat_eq m (length s.watchers) && nat_lt (length s.watchers) most_watches && nat_lt u (2 * length s.book.names)) ≡ true
-    → (state : State) → Plays s state → Acts (Ok Made) (watches m u state) (record { devices = s.devices; book = b; watchers = s.watchers ++ w ∷ [] }) [] []
+    → (state : State) → BookStandsFor s state → Acts (Ok Made) (watches m u state) (record { devices = s.devices; book = b; watchers = s.watchers ++ w ∷ [] }) [] []
 unfolding watches
 watch_acts s b w m u same new of test state plays =
     let at = state_of s.book.names (plays.before ++ s.book.log.log) plays.firsts plays.clients plays.stores plays.watches in
@@ -40,12 +40,12 @@ watch_acts s b w m u same new of test state plays =
     let is : (nat_eq m (length plays.watches) && nat_lt (length plays.watches) most_watches && nat_lt u (2 * length s.book.names)) ≡ true =
     ap (λ n. nat_eq m n && nat_lt n most_watches && nat_lt u (2 * length s.book.names)) (sym long) ∙ test in
     let parts = let some = of.unit in at_least s.book.units w u (omega (arith, some)) new in
-    let t : Watch = record { unit = u; reading = [] } in
+    let t : MonitorState = record { unit = u; reading = [] } in
     let to : State = record at { watches = plays.watches ++ t ∷ [] } in
     let low : length plays.watches < 64 = under m (length plays.watches) (nat_lt u (2 * length s.book.names)) is in
     let longer : length (plays.watches ++ t ∷ []) ≤ 64 = omega (arith, low, length-append plays.watches (t ∷ [])) in
     let zip = zip_push (Watches s.book) s.watchers plays.watches w t (record { unit = parts.0; reading = parts.1; of = of }) plays.standing.watches_are in
-    let now : Plays (record s { watchers = s.watchers ++ w ∷ [] }) to = record {
+    let now : BookStandsFor (record s { watchers = s.watchers ++ w ∷ [] }) to = record {
       before = plays.before;
       firsts = plays.firsts;
       clients = plays.clients;
@@ -79,8 +79,8 @@ watch_acts s b w m u same new of test state plays =
     long_zip R (x ∷ xs) [] zip = absurd zip
     long_zip R (x ∷ xs) (y ∷ ys) zip = ap suc (long_zip R xs ys zip.1)
 
-pub watch_none : (s : StageView) (m u : ℕ) → (nat_eq m (length s.watchers) && nat_lt (length s.watchers) most_watches && nat_lt u (2 * length s.book.names)) ≡ false
-    → (state : State) → Plays s state → Acts (Ok Refused) (watches m u state) s [] []
+pub watch_none : (s : ReplayBookView) (m u : ℕ) → (nat_eq m (length s.watchers) && nat_lt (length s.watchers) most_watches && nat_lt u (2 * length s.book.names)) ≡ false
+    → (state : State) → BookStandsFor s state → Acts (Ok Refused) (watches m u state) s [] []
 unfolding watches
 watch_none s m u test state plays =
     let at = state_of s.book.names (plays.before ++ s.book.log.log) plays.firsts plays.clients plays.stores plays.watches in
@@ -107,8 +107,8 @@ decide v u = elim (cases_lt v u) [
 
 -- one store
 
-pub stored_one : (s : StageView) (b : BookView) (u : ℕ) (step : UnitStep) → u < 2 * length s.book.names → Holds s.book → PublishesAt u step s.book b
-    → (state : State) → Plays s state → Plays (record s { book = b }) (with_stores u (stores_next (slice_index state.firsts u) (samples_at u state) (slice_index state.stores u)) state)
+pub stored_one : (s : ReplayBookView) (b : BookView) (u : ℕ) (step : UnitStep) → u < 2 * length s.book.names → BookHolds s.book → PublishesAt u step s.book b
+    → (state : State) → BookStandsFor s state → BookStandsFor (record s { book = b }) (with_stores u (stores_next (slice_index state.firsts u) (samples_at u state) (slice_index state.stores u)) state)
 stored_one s b u step below held publishes state plays =
     let within : u < length s.book.units = let count = held.units in omega (arith, below, count) in
     let many : length plays.stores ≡ 16 = plays.standing.many in
@@ -119,7 +119,7 @@ stored_one s b u step below held publishes state plays =
     let keeps = keeps_publishes u step s.book b publishes in
     let joined : plays.before ++ b.log.log ≡ whole = ap (λ l. plays.before ++ l.log) publishes.log in
     let N : List (List ℕ) → Type 0 = λ n. AllZip (Attends n plays.before b.log.log) b.sessions plays.clients in
-    let P : State → Type 0 = λ st. Plays (record s { book = b }) (with_stores u (stores_next (slice_index st.firsts u) (samples_at u st) (slice_index st.stores u)) st) in
+    let P : State → Type 0 = λ st. BookStandsFor (record s { book = b }) (with_stores u (stores_next (slice_index st.firsts u) (samples_at u st) (slice_index st.stores u)) st) in
     subst P plays.is (record {
       before = plays.before;
       firsts = plays.firsts;
@@ -166,8 +166,8 @@ stored_one s b u step below held publishes state plays =
 
 -- the loop
 
-abbrev pub StoredSoFar : StageView → StageView → ℕ → ℕ → Type 0
-StoredSoFar s now u i = (state : State) → Plays s state → Plays now (with_stores u (stores_after i (slice_index state.firsts u) (samples_at u state) (slice_index state.stores u)) state)
+abbrev pub StoredSoFar : ReplayBookView → ReplayBookView → ℕ → ℕ → Type 0
+StoredSoFar s now u i = (state : State) → BookStandsFor s state → BookStandsFor now (with_stores u (stores_after i (slice_index state.firsts u) (samples_at u state) (slice_index state.stores u)) state)
 
 after_next : (i first : ℕ) (samples : List Sample) (number : ℕ) → stores_after (i + 1) first samples number ≡ stores_next first samples (stores_after i first samples number)
 unfolding stores_after
@@ -181,17 +181,17 @@ set_itself [] n = refl
 set_itself (x ∷ xs) zero = refl
 set_itself (x ∷ xs) (suc n) = ap (λ l. x ∷ l) (set_itself xs n)
 
-pub none_stored : (s : StageView) (u : ℕ) → StoredSoFar s s u 0
+pub none_stored : (s : ReplayBookView) (u : ℕ) → StoredSoFar s s u 0
 unfolding stores_after
 none_stored s u = λ state plays.
     let begun : state.begun ≡ true = ap (λ (st : State). st.begun) (sym plays.is) in
     let same : with_stores u (slice_index state.stores u) state ≡ state =
     ap (λ l. record state { begun = true; stores = l }) (set_itself state.stores u) ∙ ap (λ x. record state { begun = x }) (sym begun) in
-    let P : State → Type 0 = λ st. Plays s st in
+    let P : State → Type 0 = λ st. BookStandsFor s st in
     subst P (sym same) plays
 
-pub one_more_stored : (s now next : StageView) (u i : ℕ) → u < most_units → StoredSoFar s now u i
-    → ((state : State) → Plays now state → Plays next (with_stores u (stores_next (slice_index state.firsts u) (samples_at u state) (slice_index state.stores u)) state))
+pub one_more_stored : (s now next : ReplayBookView) (u i : ℕ) → u < most_units → StoredSoFar s now u i
+    → ((state : State) → BookStandsFor now state → BookStandsFor next (with_stores u (stores_next (slice_index state.firsts u) (samples_at u state) (slice_index state.stores u)) state))
     → StoredSoFar s next u (i + 1)
 one_more_stored s now next u i below so_far step = λ state plays.
     let first = slice_index state.firsts u in
@@ -201,21 +201,21 @@ one_more_stored s now next u i below so_far step = λ state plays.
     let did = step mid (so_far state plays) in
     let many : length state.stores ≡ 16 = let P : State → Type 0 = λ st. length st.stores ≡ 16 in subst P plays.is plays.standing.many in
     let there : slice_index (set state.stores u number) u ≡ number = get_or-set_same state.stores u number 0 (omega (arith, below, many)) in
-    let P : ℕ → Type 0 = λ n. Plays next (with_stores u n state) in
-    let Q : List ℕ → Type 0 = λ l. Plays next (record state { begun = true; stores = l }) in
+    let P : ℕ → Type 0 = λ n. BookStandsFor next (with_stores u n state) in
+    let Q : List ℕ → Type 0 = λ l. BookStandsFor next (record state { begun = true; stores = l }) in
     subst P (ap (stores_next first samples) there ∙ sym (after_next i first samples (slice_index state.stores u)))
     (subst Q (set-set state.stores u number (stores_next first samples (slice_index (set state.stores u number) u))) did)
 
-pub stores_act : (s now : StageView) (u i steps : ℕ) → nat_lt u (2 * length s.book.names) ≡ true → i ≡ steps → StoredSoFar s now u i → (state : State) → Plays s state → Acts (Ok Made) (stores u steps state) now [] []
+pub stores_act : (s now : ReplayBookView) (u i steps : ℕ) → nat_lt u (2 * length s.book.names) ≡ true → i ≡ steps → StoredSoFar s now u i → (state : State) → BookStandsFor s state → Acts (Ok Made) (stores u steps state) now [] []
 unfolding stores
 stores_act s now u i steps test is so_far state plays =
     let names : length s.book.names ≡ length state.names = ap (λ (st : State). length st.names) plays.is in
     let ok : nat_lt u (units_in state) ≡ true = ap (λ n. nat_lt u (2 * n)) (sym names) ∙ test in
     let to = with_stores u (stores_after steps (slice_index state.firsts u) (samples_at u state) (slice_index state.stores u)) state in
-    let P : ℕ → Type 0 = λ k. Plays now (with_stores u (stores_after k (slice_index state.firsts u) (samples_at u state) (slice_index state.stores u)) state) in
+    let P : ℕ → Type 0 = λ k. BookStandsFor now (with_stores u (stores_after k (slice_index state.firsts u) (samples_at u state) (slice_index state.stores u)) state) in
     (quietly to, ap (λ x. allowed x (quietly to)) ok, subst P is (so_far state plays), refl)
 
-pub stores_none : (s : StageView) (u steps : ℕ) → nat_lt u (2 * length s.book.names) ≡ false → (state : State) → Plays s state → Acts (Ok Refused) (stores u steps state) s [] []
+pub stores_none : (s : ReplayBookView) (u steps : ℕ) → nat_lt u (2 * length s.book.names) ≡ false → (state : State) → BookStandsFor s state → Acts (Ok Refused) (stores u steps state) s [] []
 unfolding stores
 stores_none s u steps test state plays =
     let names : length s.book.names ≡ length state.names = ap (λ (st : State). length st.names) plays.is in

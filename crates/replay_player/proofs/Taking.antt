@@ -4,18 +4,18 @@ use Rattle.std.specs.List.{AllZip}
 use Rattle.std.proofs.lemmas.List.{length-drop, length-take, set-set}
 use Rattle.std.proofs.lemmas.List.Concat.{flat_map-append}
 use Rattle.book_log.specs.Entries.{Entry}
-use Rattle.book_sessions.specs.Attendance.{Attendance, with_kept}
+use Rattle.book_sessions.specs.MemberView.{MemberView, with_kept}
 use Rattle.report_book.specs.BookView.{BookView}
 use Rattle.report_book.specs.declared.fault.BookFault.{BookFault}
 use Rattle.report_book.specs.Moves.{TakesFirst}
 use Rattle.report_book.specs.Refusals.{RefusesOnly, missing}
-use Rattle.run_lines.specs.Items.{item_line}
+use Rattle.output_lines.specs.Items.{item_line}
 use Rattle.session_runs.proofs.Going.{taking_keeps}
 use Rattle.session_runs.proofs.Zipping.{zip_set}
-use Rattle.replay_player.specs.declared.turn.Turn.TheVariants.{Made}
+use Rattle.replay_player.specs.declared.event_step.EventStep.TheVariants.{Made}
 use Rattle.replay_player.specs.Clients.{Client, after_take, items_of, kept_of, next_taken}
-use Rattle.replay_player.specs.Effects.{Effect, item_lines, takes, with_client}
-use Rattle.replay_player.specs.Playing.{Acts, Attends, Plays, StageView, TakesOne, state_of}
+use Rattle.replay_player.specs.Effects.{EventEffect, item_lines, takes, with_client}
+use Rattle.replay_player.specs.Playing.{Acts, Attends, BookStandsFor, ReplayBookView, TakesOne, state_of}
 use Rattle.replay_player.specs.States.{State}
 use Rattle.replay_player.proofs.Seating.{Both, seated, zip_at}
 
@@ -48,7 +48,7 @@ set_same [] n x is = refl
 set_same (y ∷ xs) zero x is = let e : y ≡ x = cc in ap (λ z. z ∷ xs) (sym e)
 set_same (y ∷ xs) (suc n) x is = ap (λ l. y ∷ l) (set_same xs n x is)
 
-taken_one : (names : List (List ℕ)) (before log : List Entry) (a : Attendance) (c : Client) → Attends names before log a c → 0 < length (kept_of names (before ++ log) c)
+taken_one : (names : List (List ℕ)) (before log : List Entry) (a : MemberView) (c : Client) → Attends names before log a c → 0 < length (kept_of names (before ++ log) c)
     → Attends names before log (with_kept (drop 1 a.session.kept) a) (record c { taken = c.taken + 1 })
 taken_one names before log a c attends some =
     let whole = before ++ log in
@@ -70,16 +70,16 @@ taken_one names before log a c attends some =
     }
 
 -- a session that keeps nothing stays as it is
-kept_none : (names : List (List ℕ)) (before log : List Entry) (a : Attendance) (c : Client) → Attends names before log a c → a.session.kept ≡ []
+kept_none : (names : List (List ℕ)) (before log : List Entry) (a : MemberView) (c : Client) → Attends names before log a c → a.session.kept ≡ []
     → Attends names before log (with_kept (drop 1 a.session.kept) a) c
 kept_none names before log a c attends none =
     let same : a.session.kept ≡ drop 1 a.session.kept = none ∙ ap (drop 1) (sym none) in
     let P : List (List ℕ) → Type 0 = λ k. Attends names before log (with_kept k a) c in
     subst P same attends
 
-pub takes_item : (s : StageView) (b : BookView) (n : ℕ) (result : Result (Option (List ℕ)) BookFault) (item : Option (List ℕ)) (state : State) (c : Client) (out : List ℕ)
-    → result ≡ Ok item → IfOk result (λ item. (free : Attendance) → item ≡ slice_get (get_or s.book.sessions n free).session.kept 0) → OnOk result (TakesFirst n s.book b)
-    → Plays s state → slice_get state.clients n ≡ Some c
+pub takes_item : (s : ReplayBookView) (b : BookView) (n : ℕ) (result : Result (Option (List ℕ)) BookFault) (item : Option (List ℕ)) (state : State) (c : Client) (out : List ℕ)
+    → result ≡ Ok item → IfOk result (λ item. (free : MemberView) → item ≡ slice_get (get_or s.book.sessions n free).session.kept 0) → OnOk result (TakesFirst n s.book b)
+    → BookStandsFor s state → slice_get state.clients n ≡ Some c
     → ((x : List ℕ) → item ≡ Some x → TakesOne n (Ok true) (record s { book = b }) out (out ++ item_line n x) state c)
     × (item ≡ None → TakesOne n (Ok false) (record s { book = b }) out out state c)
 takes_item s b n (Err fault) item state c out is gives made plays there = absurd (cc)
@@ -105,46 +105,46 @@ takes_item s b n (Ok other) item state c out is gives made plays there =
         let C : Client → Type 0 = λ d. Attends names plays.before s.book.log.log a d in
         let attends : C c = subst C mine both.pair in
         let next = made.session.0 in
-        let N : Attendance → Type 0 = λ x. next ≡ with_kept (drop 1 x.session.kept) x in
+        let N : MemberView → Type 0 = λ x. next ≡ with_kept (drop 1 x.session.kept) x in
         let becomes : N a = subst N (both.is a) (made.session.2 a) in
-        let I : Attendance → Type 0 = λ x. other ≡ slice_get x.session.kept 0 in
+        let I : MemberView → Type 0 = λ x. other ≡ slice_get x.session.kept 0 in
         let same : other ≡ item = cc in
         let first : item ≡ slice_get (kept_of names whole c) 0 = sym same ∙ subst I (both.is a) (gives a) ∙ ap (λ k. slice_get k 0) attends.kept in
         let sits = λ (d : Client) (now : Attends names plays.before s.book.log.log (with_kept (drop 1 a.session.kept) a) d).
-        let D : Attendance → Type 0 = λ x. Attends names plays.before s.book.log.log x d in
+        let D : MemberView → Type 0 = λ x. Attends names plays.before s.book.log.log x d in
         let zip = zip_set (Attends names plays.before s.book.log.log) s.book.sessions plays.clients n next d (subst D (sym becomes) now) plays.standing.clients_are in
-        let Z : List Attendance → Type 0 = λ l. AllZip (Attends names plays.before s.book.log.log) l (set plays.clients n d) in
+        let Z : List MemberView → Type 0 = λ l. AllZip (Attends names plays.before s.book.log.log) l (set plays.clients n d) in
         seated s b plays.before plays.firsts plays.clients (set plays.clients n d) plays.stores plays.watches made.same plays.standing (subst Z (sym made.session.1) zip) in (
           λ x is.
               let is_first : slice_get (kept_of names whole c) 0 ≡ Some x = sym first ∙ is in
               (x, is_first, sits (record c { taken = c.taken + 1 }) (taken_one names plays.before s.book.log.log a c attends (some_left (kept_of names whole c) x is_first)), refl),
           λ is.
               let none : kept_of names whole c ≡ [] = none_kept (kept_of names whole c) (sym first ∙ is) in
-              let L : List Client → Type 0 = λ l. Plays (record s { book = b }) (state_of names whole plays.firsts l plays.stores plays.watches) in
+              let L : List Client → Type 0 = λ l. BookStandsFor (record s { book = b }) (state_of names whole plays.firsts l plays.stores plays.watches) in
               (none, subst L (set_same plays.clients n c there) (sits c (kept_none names plays.before s.book.log.log a c attends (attends.kept ∙ none))), refl),
         )
 
 -- the loop: so many were taken
 
-pub record Taken (s now : StageView) (n i : ℕ) (out out' : List ℕ) (state : State) (c : Client) : Type 0 where
+pub record Taken (s now : ReplayBookView) (n i : ℕ) (out out' : List ℕ) (state : State) (c : Client) : Type 0 where
   pub few : i ≤ length (kept_of state.names state.log c)
-  pub plays : Plays now (with_client n (record c { taken = c.taken + i }) state)
+  pub plays : BookStandsFor now (with_client n (record c { taken = c.taken + i }) state)
   pub written : out' ≡ out ++ item_lines n (take i (kept_of state.names state.log c))
 
-abbrev pub TakenSoFar : StageView → StageView → ℕ → ℕ → List ℕ → List ℕ → Type 0
-TakenSoFar s now n i out out' = (state : State) (c : Client) → Plays s state → slice_get state.clients n ≡ Some c → Taken s now n i out out' state c
+abbrev pub TakenSoFar : ReplayBookView → ReplayBookView → ℕ → ℕ → List ℕ → List ℕ → Type 0
+TakenSoFar s now n i out out' = (state : State) (c : Client) → BookStandsFor s state → slice_get state.clients n ≡ Some c → Taken s now n i out out' state c
 
-begun_so : (s : StageView) (state : State) → Plays s state → state.begun ≡ true
+begun_so : (s : ReplayBookView) (state : State) → BookStandsFor s state → state.begun ≡ true
 begun_so s state plays = ap (λ (st : State). st.begun) (sym plays.is)
 
-pub none_taken : (s : StageView) (n : ℕ) (out : List ℕ) → TakenSoFar s s n 0 out out
+pub none_taken : (s : ReplayBookView) (n : ℕ) (out : List ℕ) → TakenSoFar s s n 0 out out
 none_taken s n out = λ state c plays there.
     let zero_more : c.taken ≡ c.taken + 0 = omega arith in
     let same : with_client n (record c { taken = c.taken + 0 }) state ≡ state =
     ap (λ k. with_client n (record c { taken = k }) state) (sym zero_more)
     ∙ ap (λ l. record state { begun = true; clients = l }) (set_same state.clients n c there)
     ∙ ap (λ b. record state { begun = b }) (sym (begun_so s state plays)) in
-    let P : State → Type 0 = λ st. Plays s st in
+    let P : State → Type 0 = λ st. BookStandsFor s st in
     record { few = omega arith; plays = subst P (sym same) plays; written = sym (append-nil out) }
 
 item_at : {A : Type 0} (i : ℕ) (xs : List A) (x : A) → slice_get (drop i xs) 0 ≡ Some x → (i < length xs) × (take (i + 1) xs ≡ take i xs ++ x ∷ [])
@@ -162,8 +162,8 @@ set_there [] n x y is = absurd (cc)
 set_there (z ∷ xs) zero x y is = refl
 set_there (z ∷ xs) (suc n) x y is = set_there xs n x y is
 
-pub one_more_taken : (s now next : StageView) (n i : ℕ) (out out' out'' : List ℕ) → TakenSoFar s now n i out out'
-    → ((state : State) (c : Client) → Plays now state → slice_get state.clients n ≡ Some c → TakesOne n (Ok true) next out' out'' state c) → TakenSoFar s next n (i + 1) out out''
+pub one_more_taken : (s now next : ReplayBookView) (n i : ℕ) (out out' out'' : List ℕ) → TakenSoFar s now n i out out'
+    → ((state : State) (c : Client) → BookStandsFor now state → slice_get state.clients n ≡ Some c → TakesOne n (Ok true) next out' out'' state c) → TakenSoFar s next n (i + 1) out out''
 one_more_taken s now next n i out out' out'' so_far step = λ state c plays there.
     let was = so_far state c plays there in
     let d : Client = record c { taken = c.taken + i } in
@@ -173,8 +173,8 @@ one_more_taken s now next n i out out' out'' so_far step = λ state c plays ther
     let found = item_at i kept did.0 (ap (λ l. slice_get l 0) (sym left) ∙ did.1) in
     let low = found.0 in
     let count : c.taken + i + 1 ≡ c.taken + (i + 1) = omega arith in
-    let P : ℕ → Type 0 = λ k. Plays next (with_client n (record c { taken = k }) state) in
-    let Q : List Client → Type 0 = λ l. Plays next (record state { begun = true; clients = l }) in
+    let P : ℕ → Type 0 = λ k. BookStandsFor next (with_client n (record c { taken = k }) state) in
+    let Q : List Client → Type 0 = λ l. BookStandsFor next (record state { begun = true; clients = l }) in
     record {
       few = omega (arith, low);
       plays = subst P count (subst Q (set-set state.clients n d (record d { taken = d.taken + 1 })) did.2);
@@ -184,7 +184,7 @@ one_more_taken s now next n i out out' out'' so_far step = λ state c plays ther
           ∙ ap (λ l. out ++ item_lines n l) (sym found.1);
     }
 
-pub client_there : (s : StageView) (state : State) (n : ℕ) → Plays s state → n < length s.book.sessions → (c : Client) × (slice_get state.clients n ≡ Some c)
+pub client_there : (s : ReplayBookView) (state : State) (n : ℕ) → BookStandsFor s state → n < length s.book.sessions → (c : Client) × (slice_get state.clients n ≡ Some c)
 client_there s state n plays below =
     let P : State → Type 0 = λ st. (c : Client) × (slice_get st.clients n ≡ Some c) in
     subst P plays.is (elim (zip_at (Attends s.book.names plays.before s.book.log.log) s.book.sessions plays.clients n plays.standing.clients_are) [
@@ -192,7 +192,7 @@ client_there s state n plays below =
       | inr neither ↦ absurd (let past = neither.past in omega (arith, past, below))
     ])
 
-ends_so : (s now : StageView) (n i most : ℕ) (out out' : List ℕ) (state : State) (c : Client) → slice_get state.clients n ≡ Some c → Taken s now n i out out' state c
+ends_so : (s now : ReplayBookView) (n i most : ℕ) (out out' : List ℕ) (state : State) (c : Client) → slice_get state.clients n ≡ Some c → Taken s now n i out out' state c
     → take most (kept_of state.names state.log c) ≡ take i (kept_of state.names state.log c) → Acts (Ok Made) (takes n most state) now out out'
 unfolding takes
 ends_so s now n i most out out' state c there taken same =
@@ -200,7 +200,7 @@ ends_so s now n i most out out' state c there taken same =
     let few = taken.few in
     let long : length (take i kept) ≡ i = omega (arith, length-take i kept, few) in
     let count : length (next_taken most state.names state.log c) ≡ i = ap length same ∙ long in
-    let e : Effect = record { state = with_client n (record c { taken = c.taken + i }) state; written = item_lines n (take i kept) } in
+    let e : EventEffect = record { state = with_client n (record c { taken = c.taken + i }) state; written = item_lines n (take i kept) } in
     let whole : record { state = with_client n (after_take most state.names state.log c) state; written = item_lines n (next_taken most state.names state.log c) } ≡ e =
     ap (λ k. record { state = with_client n (record c { taken = c.taken + k }) state; written = item_lines n (next_taken most state.names state.log c) }) count
     ∙ ap (λ l. record { state = with_client n (record c { taken = c.taken + i }) state; written = item_lines n l }) same in (
@@ -225,9 +225,9 @@ take_past (suc i) zero (x ∷ xs) low few none = absurd (omega (arith, low))
 take_past (suc i) (suc most) (x ∷ xs) low few none = ap (λ l. x ∷ l) (take_past i most xs (omega (arith, low)) (omega (arith, few)) none)
 
 -- the outlet kept no more
-pub all_taken : (s now next : StageView) (n i most : ℕ) (out out' out'' : List ℕ) → n < length s.book.sessions → i ≤ most → TakenSoFar s now n i out out'
-    → ((state : State) (c : Client) → Plays now state → slice_get state.clients n ≡ Some c → TakesOne n (Ok false) next out' out'' state c)
-    → (state : State) → Plays s state → Acts (Ok Made) (takes n most state) next out out''
+pub all_taken : (s now next : ReplayBookView) (n i most : ℕ) (out out' out'' : List ℕ) → n < length s.book.sessions → i ≤ most → TakenSoFar s now n i out out'
+    → ((state : State) (c : Client) → BookStandsFor now state → slice_get state.clients n ≡ Some c → TakesOne n (Ok false) next out' out'' state c)
+    → (state : State) → BookStandsFor s state → Acts (Ok Made) (takes n most state) next out out''
 all_taken s now next n i most out out' out'' below low so_far step state plays =
     let found = client_there s state n plays below in
     let c = found.0 in
@@ -240,8 +240,8 @@ all_taken s now next n i most out out' out'' below low so_far step state plays =
     ends_so s next n i most out out'' state c there (record { few = was.few; plays = did.1; written = did.2 ∙ was.written }) (take_past i most kept low was.few none)
 
 -- as many as were asked for
-pub most_taken : (s now : StageView) (n i most : ℕ) (out out' : List ℕ) → n < length s.book.sessions → i ≡ most → TakenSoFar s now n i out out'
-    → (state : State) → Plays s state → Acts (Ok Made) (takes n most state) now out out'
+pub most_taken : (s now : ReplayBookView) (n i most : ℕ) (out out' : List ℕ) → n < length s.book.sessions → i ≡ most → TakenSoFar s now n i out out'
+    → (state : State) → BookStandsFor s state → Acts (Ok Made) (takes n most state) now out out'
 most_taken s now n i most out out' below is so_far state plays =
     let found = client_there s state n plays below in
     let was = so_far state found.0 plays found.1 in

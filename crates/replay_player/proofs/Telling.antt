@@ -3,16 +3,16 @@ use Rattle.std.proofs.Common.{◌≡◌, ◌≤◌, ◌<◌, ℕ, zero, suc, ◌
 use Rattle.std.specs.List.{AllZip}
 use Rattle.std.proofs.lemmas.List.{drop-append-le}
 use Rattle.gps_command.specs.Kept as input
-use Rattle.gps_command.specs.Kept.{Kept}
+use Rattle.gps_command.specs.Kept.{CommandCutterView}
 use Rattle.gps_report.specs.declared.report.Report.{Report}
 use Rattle.session_core.specs.declared.mark.Close.{Close}
-use Rattle.session_core.specs.Shown.{Shown, opening_policy}
+use Rattle.session_core.specs.SessionView.{SessionView, opening_policy}
 use Rattle.session_core.specs.Stretches.{Stretch, last_watched}
 use Rattle.book_batch.specs.Lines.{line_for}
 use Rattle.book_log.specs.Entries.{Entry}
 use Rattle.book_log.specs.History.{history, history_after}
 use Rattle.book_sessions.specs.Answering.{most_requests, raised}
-use Rattle.book_sessions.specs.Attendance.{Attendance, cutter_left, renewed}
+use Rattle.book_sessions.specs.MemberView.{MemberView, cutter_left, renewed}
 use Rattle.book_sessions.specs.Spreading.{Due, Reports, ReportsBy, Spreads, cutter_by, due}
 use Rattle.session_runs.specs.Runs.{SessionRun, IsRunOf, closed_from}
 use Rattle.session_runs.specs.Following.{Extends, closing_after, run_after}
@@ -29,11 +29,11 @@ open_from : (base : ℕ) (closing : Option (ℕ × Close)) → closed_from base 
 open_from base None is_open = refl
 open_from base (Some closing) is_open = absurd (cc)
 
-pub still_open : (names : List (List ℕ)) (before log : List Entry) (s : Shown) (r : SessionRun) → IsRunOf names before log s r → r.closing ≡ None → s.closing ≡ None
+pub still_open : (names : List (List ℕ)) (before log : List Entry) (s : SessionView) (r : SessionRun) → IsRunOf names before log s r → r.closing ≡ None → s.closing ≡ None
 still_open names before log s r (inl here) is_open = open_from (length (history before)) s.closing (sym here.closing ∙ is_open)
 still_open names before log s r (inr over) is_open = absurd (let e : Some (over.place, over.why) ≡ None = sym over.closing ∙ is_open in cc)
 
-pub run_open : (names : List (List ℕ)) (before log : List Entry) (s : Shown) (r : SessionRun) → IsRunOf names before log s r → s.closing ≡ None → r.closing ≡ None
+pub run_open : (names : List (List ℕ)) (before log : List Entry) (s : SessionView) (r : SessionRun) → IsRunOf names before log s r → s.closing ≡ None → r.closing ≡ None
 run_open names before log s r (inl here) is_open = here.closing ∙ ap (closed_from (length (history before))) is_open
 run_open names before log s r (inr over) is_open = absurd (let e : Some (0, over.why) ≡ None = sym over.now ∙ is_open in cc)
 
@@ -42,12 +42,12 @@ pub stays_closed : (was : Option (ℕ × Close)) (lines : List Due) → (was ≡
 stays_closed None lines some = absurd (some refl)
 stays_closed (Some was) lines some = refl
 
-pub closed_too : (closing : ℕ × Close) (names : List (List ℕ)) (before log : List Entry) (s : Shown) (r : SessionRun) → IsRunOf names before log s r → s.closing ≡ Some closing → r.closing ≡ None → ⊥
+pub closed_too : (closing : ℕ × Close) (names : List (List ℕ)) (before log : List Entry) (s : SessionView) (r : SessionRun) → IsRunOf names before log s r → s.closing ≡ Some closing → r.closing ≡ None → ⊥
 closed_too closing names before log s r run is_closed is_open = let e = still_open names before log s r run is_open in let f : None ≡ Some closing = sym e ∙ is_closed in cc
 
 -- the closing that a client is told of
 
-closed_so : (names : List (List ℕ)) (before log : List Entry) (reports : List Report) (first : ℕ) (a b : Attendance) (c : Client)
+closed_so : (names : List (List ℕ)) (before log : List Entry) (reports : List Report) (first : ℕ) (a b : MemberView) (c : Client)
     → length (history_after before log) ≡ first → Attends names before log a c
     → (closing : Option (ℕ × Close)) → a.session.closing ≡ closing
     → ReportsBy closing true (line_for names) first reports a.session b.session
@@ -69,7 +69,7 @@ closed_so names before log reports first a b c long attends None is_open reporte
       due_so.1,
     )
 closed_so names before log reports first a b c long attends (Some closing) is_closed unreported =
-    let P : Shown → Type 0 = λ s. length s.kept ≤ s.cap in (
+    let P : SessionView → Type 0 = λ s. length s.kept ≤ s.cap in (
       stays_closed c.run.closing (drop (room_of names (before ++ log) c) (lines_due names (before ++ log) reports c)) (closed_too closing names before log a.session c.run attends.run is_closed),
       subst P (sym unreported.same) attends.room,
     )
@@ -79,13 +79,13 @@ overrun_none None lines is_open = refl
 overrun_none (Some closing) lines is_open = absurd (cc)
 
 -- what reports leave as it is, and how many items there are
-pub record Leaves (old new : Shown) : Type 0 where
+pub record Leaves (old new : SessionView) : Type 0 where
   pub cap : new.cap ≡ old.cap
   pub policy : new.policy ≡ old.policy
   pub requests : new.requests ≡ old.requests
   pub items : (more : List (List ℕ)) → new.kept ≡ old.kept ++ more → new.items ≡ raised old.items (length more)
 
-leaves_so : (names : List (List ℕ)) (reports : List Report) (first : ℕ) (old new : Shown) (closing : Option (ℕ × Close))
+leaves_so : (names : List (List ℕ)) (reports : List Report) (first : ℕ) (old new : SessionView) (closing : Option (ℕ × Close))
     → ReportsBy closing true (line_for names) first reports old new → Leaves old new
 leaves_so names reports first old new None reported = record {
   cap = reported.stays.cap;
@@ -101,13 +101,13 @@ leaves_so names reports first old new (Some closing) unreported = record {
   policy = ap (λ s. s.policy) unreported.same;
   requests = ap (λ s. s.requests) unreported.same;
   items = λ more kept.
-      let both : length old.kept ≡ length (old.kept ++ more) = ap (λ (s : Shown). length s.kept) (sym unreported.same) ∙ ap length kept in
+      let both : length old.kept ≡ length (old.kept ++ more) = ap (λ (s : SessionView). length s.kept) (sym unreported.same) ∙ ap length kept in
       let none : 0 ≡ length more = omega (arith, both, length-append old.kept more) in
       ap (λ s. s.items) unreported.same ∙ ap (raised old.items) none;
 }
 
 -- a session that goes on so is that of the client that is told
-pub goes_on : (names : List (List ℕ)) (before log longer : List Entry) (a b : Attendance) (c d : Client) (more : List (List ℕ))
+pub goes_on : (names : List (List ℕ)) (before log longer : List Entry) (a b : MemberView) (c d : Client) (more : List (List ℕ))
     → Attends names before log a c → Extends names before log before longer a.session b.session more c.run d.run → Leaves a.session b.session
     → d ≡ record c { run = d.run } → d.run.stretches ≡ c.run.stretches → length b.session.kept ≤ b.session.cap
     → (d.run.closing ≡ None → b.cutter ≡ a.cutter) → (d.run.closing ≡ None → c.run.closing ≡ None)
@@ -136,12 +136,12 @@ goes_on names before log longer a b c d more attends extends leaves is stretches
       requests = leaves.requests ∙ attends.requests ∙ ap (λ (s : List Stretch). length s - 1) (sym stretches);
       few = let P : List Stretch → Type 0 = λ s. length s - 1 ≤ most_requests in subst P (sym stretches) attends.few;
       cutter = λ is_open.
-          let P : Kept → Type 0 = λ k. input.StandsFor k d.heard in
+          let P : CommandCutterView → Type 0 = λ k. input.StandsFor k d.heard in
           let Q : List ℕ → Type 0 = λ h. input.StandsFor a.cutter h in
           subst P (sym (cutter is_open)) (subst Q (sym heard) (attends.cutter (was_open is_open)));
     }
 
-pub told_one : (names : List (List ℕ)) (before log entries : List Entry) (reports : List Report) (first : ℕ) (a b : Attendance) (c : Client)
+pub told_one : (names : List (List ℕ)) (before log entries : List Entry) (reports : List Report) (first : ℕ) (a b : MemberView) (c : Client)
     → length (history_after before log) ≡ first → history_after (before ++ log) entries ≡ reports
     → Attends names before log a c → Spreads true (line_for names) first reports a b
     → Attends names before (log ++ entries) b (told names (before ++ log) reports c)
@@ -163,7 +163,7 @@ told_one names before log entries reports first a b c long is attends spreads =
     spreads.cutter ∙ ap (λ o. cutter_by o b.session.closing a.cutter) a_open ∙ ap (λ o. cutter_left o a.cutter) b_open)
     (overrun_none c.run.closing (drop (room_of names (before ++ log) c) (lines_due names (before ++ log) reports c)))
 
-pub turned_one : (names : List (List ℕ)) (before log : List Entry) (a : Attendance) (c : Client) → Attends names before log a c → Attends names (before ++ log) [] (renewed a) c
+pub turned_one : (names : List (List ℕ)) (before log : List Entry) (a : MemberView) (c : Client) → Attends names before log a c → Attends names (before ++ log) [] (renewed a) c
 turned_one names before log a c attends =
     let same : before ++ log ≡ (before ++ log) ++ [] = sym (append-nil (before ++ log)) in
     let keeps = turns_keep names before log a.session c.run attends.run in
@@ -183,14 +183,14 @@ turned_one names before log a c attends =
     }
 
 module _ (names : List (List ℕ)) (before log : List Entry) where
-  pub turned_all : (sessions : List Attendance) (clients : List Client) → AllZip (Attends names before log) sessions clients → AllZip (Attends names (before ++ log) []) (map renewed sessions) clients
+  pub turned_all : (sessions : List MemberView) (clients : List Client) → AllZip (Attends names before log) sessions clients → AllZip (Attends names (before ++ log) []) (map renewed sessions) clients
   turned_all [] [] zip = tt
   turned_all [] (c ∷ clients) zip = zip
   turned_all (a ∷ sessions) [] zip = zip
   turned_all (a ∷ sessions) (c ∷ clients) zip = (turned_one names before log a c zip.0, turned_all sessions clients zip.1)
 
   pub told_all : (entries : List Entry) (reports : List Report) (first : ℕ) → length (history_after before log) ≡ first → history_after (before ++ log) entries ≡ reports
-      → (sessions members : List Attendance) (clients : List Client) → AllZip (Attends names before log) sessions clients → AllZip (Spreads true (line_for names) first reports) sessions members
+      → (sessions members : List MemberView) (clients : List Client) → AllZip (Attends names before log) sessions clients → AllZip (Spreads true (line_for names) first reports) sessions members
       → AllZip (Attends names before (log ++ entries)) members (map (told names (before ++ log) reports) clients)
   told_all entries reports first long is [] [] [] zip spread = tt
   told_all entries reports first long is [] (b ∷ members) [] zip spread = spread

@@ -6,7 +6,7 @@ use Rattle.gps_report.specs.declared.policy.Policy.{Policy}
 use Rattle.gps_report.specs.declared.report.Report.{Report}
 use Rattle.session_core.specs.declared.mark.Close.{Close}
 use Rattle.session_core.specs.declared.mark.Close.TheVariants.{TooManyRequests, Overrun}
-use Rattle.session_core.specs.Shown.{opening_policy}
+use Rattle.session_core.specs.SessionView.{opening_policy}
 use Rattle.session_core.specs.Stretches.{last_watched}
 use Rattle.book_batch.specs.Lines.{line_for}
 use Rattle.book_log.specs.Entries.{Entry}

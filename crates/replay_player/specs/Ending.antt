@@ -1,4 +1,4 @@
--- The steps of a script's end. This project's own.
+-- The steps of a script's end.
 use Rattle.std.specs.Prelude.{◌≡◌, ◌<◌, ◌+◌, ◌-◌, ◌*◌, ℕ, true, false, Bool, List, ◌++◌, length, get_or, slice_get, slice_index, Option, Some, None, Result, Ok, Err}
 use Rattle.shm_segment.specs.declared.publisher.Phase.{Phase}
 use Rattle.shm_segment.specs.declared.publisher.Phase.TheVariants.{Idle, ToInvalid, ToOdd, ToBody, ToEven, ToValid}
@@ -11,7 +11,7 @@ use Rattle.replay_monitors.specs.Stored.{shown_state, stores_at_end}
 use Rattle.replay_player.specs.Clients.{Client, after_take}
 use Rattle.replay_player.specs.Effects.{with_client}
 use Rattle.replay_player.specs.Ends.{all_drained, drained, published}
-use Rattle.replay_player.specs.Playing.{Plays, StageView}
+use Rattle.replay_player.specs.Playing.{BookStandsFor, ReplayBookView}
 use Rattle.replay_player.specs.States.{State, samples_at}
 
 -- a call of a book did not fail for want of memory
@@ -31,9 +31,9 @@ pub record Alike (old new : State) : Type 0 where
   pub log : new.log ≡ old.log
 
 -- the stage stands for a state that is alike
-pub record Stands (new : StageView) (state : State) : Type 0 where
+pub record StandsAlike (new : ReplayBookView) (state : State) : Type 0 where
   pub now : State
-  pub plays : Plays new now
+  pub plays : BookStandsFor new now
   pub alike : Alike state now
 
 -- so many items are taken at once: no outlet keeps more
@@ -45,13 +45,13 @@ abbrev pub emptied : ℕ → Client → State → State
 emptied s c state = with_client s (after_take most_kept state.names state.log c) state
 
 -- the lines of one session
-pub record DrainsOne (s : ℕ) (new : StageView) (out out' : List ℕ) (state : State) (c : Client) : Type 0 where
-  pub plays : Plays new (emptied s c state)
+pub record DrainsOne (s : ℕ) (new : ReplayBookView) (out out' : List ℕ) (state : State) (c : Client) : Type 0 where
+  pub plays : BookStandsFor new (emptied s c state)
   pub written : out' ≡ out ++ drained state.names state.log s c
 
 -- the lines of all sessions
-pub record Drains (new : StageView) (out out' : List ℕ) (state : State) : Type 0 where
-  pub stands : Stands new state
+pub record Drains (new : ReplayBookView) (out out' : List ℕ) (state : State) : Type 0 where
+  pub stands : StandsAlike new state
   pub written : out' ≡ out ++ all_drained state.names state.log 0 state.clients
 
 -- how many stores are at most left of a sample in this phase
@@ -72,17 +72,17 @@ abbrev pub stores_left : ℕ → List UnitView → ℕ
 stores_left u units = unit_left (slice_get units u)
 
 -- a unit shows what it shows at its end
-abbrev pub IsPublished : ℕ → StageView → State → Type 0
-IsPublished u s state =
+abbrev pub IsUnitPublished : ℕ → ReplayBookView → State → Type 0
+IsUnitPublished u s state =
     (free : UnitView) → state_of (get_or s.book.units u free)
     ≡ shown_state (slice_index state.firsts u) (samples_at u state) (stores_at_end (slice_index state.firsts u) (samples_at u state))
 
 -- a step of a unit; where it makes no store, the unit has come to its end
-pub record PublishesOne (u : ℕ) (more : Bool) (new : StageView) (state : State) : Type 0 where
-  pub stands : Stands new state
-  pub last : more ≡ false → IsPublished u new state
+pub record PublishesOne (u : ℕ) (more : Bool) (new : ReplayBookView) (state : State) : Type 0 where
+  pub stands : StandsAlike new state
+  pub last : more ≡ false → IsUnitPublished u new state
 
 -- the line of one unit
-pub record Shows (u : ℕ) (new : StageView) (out out' : List ℕ) (state : State) : Type 0 where
-  pub stands : Stands new state
+pub record Shows (u : ℕ) (new : ReplayBookView) (out out' : List ℕ) (state : State) : Type 0 where
+  pub stands : StandsAlike new state
   pub written : out' ≡ out ++ published state u

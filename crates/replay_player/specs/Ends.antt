@@ -1,12 +1,12 @@
--- What happens at a script's end: its devices end, its sessions are closed and drained, its samples are published. This project's own.
+-- What happens at a script's end: its devices end, its sessions are closed and drained, its samples are published.
 use Rattle.std.specs.Prelude.{ℕ, ◌+◌, ◌-◌, ◌^◌, min, cond, List, [], ◌∷◌, ◌++◌, length, map, fold, slice_index, Option, Some, None}
 use Rattle.std.specs.List.{flat_map, range_with_len}
 use Rattle.session_core.specs.declared.mark.Close.{Close}
 use Rattle.session_core.specs.declared.mark.Close.TheVariants.{DaemonEnd}
 use Rattle.shm_segment.specs.declared.sample.Sample.{Sample}
 use Rattle.book_log.specs.Entries.{Entry, ended, stops_in}
-use Rattle.run_lines.specs.declared.closing.SessionEnd.TheVariants.{Drained}
-use Rattle.run_lines.specs.Closings.{closing_line, unit_text}
+use Rattle.output_lines.specs.declared.closing.SessionEnd.TheVariants.{Drained}
+use Rattle.output_lines.specs.Closings.{closing_line, unit_text}
 use Rattle.replay_monitors.specs.Stored.{shown_state, stores_at_end}
 use Rattle.replay_player.specs.Clients.{Client, closed, items_of, kept_of}
 use Rattle.replay_player.specs.States.{State, came, samples_at, units_in}

@@ -1,4 +1,4 @@
--- What a stage shows, and the state of a run that it stands for, though its book has forgotten a part of the log. This project's own.
+-- What a stage shows, and the state of a run that it stands for, though its book has forgotten a part of the log.
 use Rattle.std.specs.Prelude.{◌≡◌, ◌≤◌, ◌<◌, ◌+◌, ◌-◌, ◌^◌, ℕ, Bool, true, false, List, [], ◌++◌, length, min, nat_le, replicate, slice_get, slice_index, Option, Some, None, Result, Ok, Err, IsErr}
 use Rattle.std.specs.List.{AllZip, list_all}
 use Rattle.gps_fixed.specs.declared.no_memory.NoMemory.{NoMemory}
@@ -8,7 +8,7 @@ use Rattle.book_log.specs.Entries.{Entry}
 use Rattle.book_log.specs.History.{history}
 use Rattle.book_log.specs.Standing.{StandsFor}
 use Rattle.book_sessions.specs.Answering.{most_requests}
-use Rattle.book_sessions.specs.Attendance.{Attendance}
+use Rattle.book_sessions.specs.MemberView.{MemberView}
 use Rattle.book_units.specs.Samples.{samples_of}
 use Rattle.report_book.specs.BookView.{BookView}
 use Rattle.report_book.specs.declared.fault.BookFault.{BookFault}
@@ -16,21 +16,21 @@ use Rattle.report_book.specs.declared.fault.BookFault.TheVariants as book
 use Rattle.session_runs.specs.Runs.{IsRunOf}
 use Rattle.replay_monitors.specs.Books.{IsStoredAt}
 use Rattle.replay_monitors.specs.Loads.{reading_after, step_of}
-use Rattle.replay_monitors.specs.Watched.{Watched, IsOf}
-use Rattle.run_lines.specs.Items.{item_line}
-use Rattle.replay_player.specs.declared.turn.Turn.{Turn}
-use Rattle.replay_player.specs.declared.turn.Turn.TheVariants.{Made, Refused}
+use Rattle.replay_monitors.specs.UnitMonitorView.{UnitMonitorView, IsOf}
+use Rattle.output_lines.specs.Items.{item_line}
+use Rattle.replay_player.specs.declared.event_step.EventStep.{EventStep}
+use Rattle.replay_player.specs.declared.event_step.EventStep.TheVariants.{Made, Refused}
 use Rattle.replay_player.specs.Clients.{Client, asked_by, items_of, kept_of, policy_of}
-use Rattle.replay_player.specs.States.{State, Watch, most_units, words_at}
-use Rattle.replay_player.specs.Effects.{Effect, quietly, most_watches, step_line, with_client, with_watch}
+use Rattle.replay_player.specs.States.{State, MonitorState, most_units, words_at}
+use Rattle.replay_player.specs.Effects.{EventEffect, quietly, most_watches, step_line, with_client, with_watch}
 
-pub record StageView : Type 0 where
+pub record ReplayBookView : Type 0 where
   pub devices : ℕ
   pub book : BookView
-  pub watchers : List Watched
+  pub watchers : List UnitMonitorView
 
 -- a session of a book is that of this client
-pub record Attends (names : List (List ℕ)) (before log : List Entry) (a : Attendance) (c : Client) : Type 0 where
+pub record Attends (names : List (List ℕ)) (before log : List Entry) (a : MemberView) (c : Client) : Type 0 where
   pub run : IsRunOf names before log a.session c.run
   pub cap : a.session.cap ≡ c.cap
   pub least : c.cap ≤ 65_536
@@ -45,13 +45,13 @@ pub record Attends (names : List (List ℕ)) (before log : List Entry) (a : Atte
   pub cutter : c.run.closing ≡ None → input.StandsFor a.cutter c.heard
 
 -- a monitor beside a book is this one
-pub record Watches (b : BookView) (w : Watched) (t : Watch) : Type 0 where
+pub record Watches (b : BookView) (w : UnitMonitorView) (t : MonitorState) : Type 0 where
   pub unit : w.unit ≡ t.unit
   pub reading : w.reading ≡ t.reading
   pub of : IsOf w b
 
 -- the stage over a log of which this part is forgotten
-pub record Standing (s : StageView) (before : List Entry) (firsts : List ℕ) (clients : List Client) (stores : List ℕ) (watches : List Watch) : Type 0 where
+pub record Standing (s : ReplayBookView) (before : List Entry) (firsts : List ℕ) (clients : List Client) (stores : List ℕ) (watches : List MonitorState) : Type 0 where
   pub stands : StandsFor s.book.log.opening before
   pub clients_are : AllZip (Attends s.book.names before s.book.log.log) s.book.sessions clients
   pub units_are : (u : ℕ) → u < length s.book.units
@@ -60,7 +60,7 @@ pub record Standing (s : StageView) (before : List Entry) (firsts : List ℕ) (c
   pub few : length watches ≤ most_watches
   pub watches_are : AllZip (Watches s.book) s.watchers watches
 
-abbrev pub state_of : List (List ℕ) → List Entry → List ℕ → List Client → List ℕ → List Watch → State
+abbrev pub state_of : List (List ℕ) → List Entry → List ℕ → List Client → List ℕ → List MonitorState → State
 state_of names log firsts clients stores watches = record {
   names = names;
   firsts = firsts;
@@ -72,51 +72,51 @@ state_of names log firsts clients stores watches = record {
 }
 
 -- a stage stands for a state in which an event has come
-pub record Plays (s : StageView) (state : State) : Type 0 where
+pub record BookStandsFor (s : ReplayBookView) (state : State) : Type 0 where
   pub before : List Entry
   pub firsts : List ℕ
   pub clients : List Client
   pub stores : List ℕ
-  pub watches : List Watch
+  pub watches : List MonitorState
   pub standing : Standing s before firsts clients stores watches
   pub is : state_of s.book.names (before ++ s.book.log.log) firsts clients stores watches ≡ state
 
 -- a new stage stands for the state in which these were declared
-abbrev pub Opens : List (List ℕ) → List ℕ → StageView → Type 0
-Opens names firsts s = Plays s (state_of names [] firsts [] (replicate most_units 0) [])
+abbrev pub Opens : List (List ℕ) → List ℕ → ReplayBookView → Type 0
+Opens names firsts s = BookStandsFor s (state_of names [] firsts [] (replicate most_units 0) [])
 
 -- the line was refused, or has done what it does, and what it writes stands behind what was written; after want of memory nothing is known
-abbrev pub Acts : Result Turn NoMemory → Option Effect → StageView → List ℕ → List ℕ → Type 0
-Acts (Ok Made) effect new out out' = (e : Effect) × (effect ≡ Some e) × Plays new e.state × (out' ≡ out ++ e.written)
+abbrev pub Acts : Result EventStep NoMemory → Option EventEffect → ReplayBookView → List ℕ → List ℕ → Type 0
+Acts (Ok Made) effect new out out' = (e : EventEffect) × (effect ≡ Some e) × BookStandsFor new e.state × (out' ≡ out ++ e.written)
 Acts (Ok Refused) effect new out out' = (effect ≡ None) × (out' ≡ out)
 Acts (Err _) effect new out out' = Unit {0}
 
 -- what a refusal of a book comes to
-abbrev pub RefusesTo : BookFault → Result Turn NoMemory → Type 0
+abbrev pub RefusesTo : BookFault → Result EventStep NoMemory → Type 0
 RefusesTo book.NoMemory turn = IsErr turn
 RefusesTo fault turn = turn ≡ Ok Refused
 
 -- what a call of a book comes to
-abbrev pub ComesTo : Result (Unit {0}) BookFault → Result Turn NoMemory → Type 0
+abbrev pub ComesTo : Result (Unit {0}) BookFault → Result EventStep NoMemory → Type 0
 ComesTo (Ok _) turn = turn ≡ Ok Made
 ComesTo (Err fault) turn = RefusesTo fault turn
 
 -- what an admission comes to
-abbrev pub AdmitsTo : {X O : Type 0} → Result X (O × BookFault) → Result Turn NoMemory → Type 0
+abbrev pub AdmitsTo : {X O : Type 0} → Result X (O × BookFault) → Result EventStep NoMemory → Type 0
 AdmitsTo (Ok _) turn = turn ≡ Ok Made
 AdmitsTo (Err refusal) turn = RefusesTo refusal.1 turn
 
 -- The first item that a session's outlet keeps is taken, and its line stands behind what was written; or it keeps none.
-abbrev pub TakesOne : ℕ → Result Bool NoMemory → StageView → List ℕ → List ℕ → State → Client → Type 0
+abbrev pub TakesOne : ℕ → Result Bool NoMemory → ReplayBookView → List ℕ → List ℕ → State → Client → Type 0
 TakesOne s (Ok true) new out out' state c =
-    (item : List ℕ) × (slice_get (kept_of state.names state.log c) 0 ≡ Some item) × Plays new (with_client s (record c { taken = c.taken + 1 }) state) × (out' ≡ out ++ item_line s item)
-TakesOne s (Ok false) new out out' state c = (kept_of state.names state.log c ≡ []) × Plays new state × (out' ≡ out)
+    (item : List ℕ) × (slice_get (kept_of state.names state.log c) 0 ≡ Some item) × BookStandsFor new (with_client s (record c { taken = c.taken + 1 }) state) × (out' ≡ out ++ item_line s item)
+TakesOne s (Ok false) new out out' state c = (kept_of state.names state.log c ≡ []) × BookStandsFor new state × (out' ≡ out)
 TakesOne s (Err _) new out out' state c = Unit {0}
 
 -- A monitor makes one load, and the line of a reading that it ends stands behind what was written.
-abbrev pub LoadsOne : ℕ → StageView → List ℕ → List ℕ → State → Watch → Type 0
+abbrev pub LoadsOne : ℕ → ReplayBookView → List ℕ → List ℕ → State → MonitorState → Type 0
 LoadsOne m new out out' state t =
-    Plays new (with_watch m (reading_after (words_at t.unit state) t.reading) t state) × (out' ≡ out ++ step_line m (step_of (words_at t.unit state) t.reading))
+    BookStandsFor new (with_watch m (reading_after (words_at t.unit state) t.reading) t state) × (out' ≡ out ++ step_line m (step_of (words_at t.unit state) t.reading))
 
 -- devices and units are declared, and no event has come
 pub record DeclaredView : Type 0 where
@@ -142,7 +142,7 @@ pub record IsDeclared (limit : ℕ) (names : List (List ℕ)) (firsts : List ℕ
   pub are_firsts : list_all (λ first. nat_le first 1_073_741_823) firsts ≡ true
 
 -- a declaration was made, or refused
-abbrev pub DeclaresAs : Result Turn NoMemory → Option Effect → DeclaredView → Type 0
+abbrev pub DeclaresAs : Result EventStep NoMemory → Option EventEffect → DeclaredView → Type 0
 DeclaresAs (Ok Made) effect new = effect ≡ Some (quietly (declared_state new.names new.firsts))
 DeclaresAs (Ok Refused) effect new = effect ≡ None
 DeclaresAs (Err _) effect new = Unit {0}

@@ -1,4 +1,4 @@
--- What a script has made so far, over the whole run: its log is never forgotten. This project's own.
+-- What a script has made so far, over the whole run: its log is never forgotten.
 use Rattle.std.specs.Prelude.{ℕ, ◌*◌, Bool, false, true, List, [], ◌++◌, length, map, count_by, replicate, slice_index}
 use Rattle.shm_segment.specs.declared.sample.Sample.{Sample}
 use Rattle.shm_segment.specs.Words.{words_of}
@@ -8,7 +8,7 @@ use Rattle.book_units.specs.Samples.{samples_of}
 use Rattle.replay_player.specs.Clients.{Client, is_open, told}
 
 -- a monitor: its unit, and the values that its running reading has got
-pub record Watch : Type 0 where
+pub record MonitorState : Type 0 where
   pub unit : ℕ
   pub reading : List ℕ
 
@@ -19,7 +19,7 @@ pub record State : Type 0 where
   pub log : List Entry
   pub clients : List Client
   pub stores : List ℕ  -- of each unit
-  pub watches : List Watch
+  pub watches : List MonitorState
 
 abbrev pub most_units : ℕ
 most_units = 16

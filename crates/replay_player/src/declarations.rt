@@ -4,8 +4,8 @@ ghost use Rattle.std.specs.Cmp.Lexicographic.{pointwise};
 ghost use Rattle.replay_player.specs.Effects.{declares, most_devices, numbers};
 ghost use Rattle.replay_player.specs.Playing.{DeclaresAs, Opens, declared_state};
 
-use crate::stage::Stage;
-use crate::turn::Turn;
+use crate::event_step::EventStep;
+use crate::replay_book::ReplayBook;
 use gps_fixed::NoMemory;
 use gps_report::{Name, Names};
 use std::alloc::Global;
@@ -63,30 +63,30 @@ impl Declarations {
     }
 
     /// The next device has this name.
-    pub fn declare(&mut self, name: Name) -> Result<Turn, NoMemory>
+    pub fn declare(&mut self, name: Name) -> Result<EventStep, NoMemory>
         ensures { DeclaresAs result (declares name (declared_state self.old.names self.old.firsts)) self.new }
     {
         if !self.is_new(&name) {
-            return Ok(Turn::Refused);
+            return Ok(EventStep::Refused);
         }
         self.names.push(name)?;
-        Ok(Turn::Made)
+        Ok(EventStep::Made)
     }
 
     /// A unit's samples are numbered from behind this number on.
-    pub fn number(&mut self, u: u64, first: u32) -> Turn
+    pub fn number(&mut self, u: u64, first: u32) -> EventStep
         requires { first ≤ 1073741823 }
         ensures { DeclaresAs (Ok result) (numbers u first (declared_state self.old.names self.old.firsts)) self.new }
     {
         if u >= 2 * self.names.len() as u64 {
-            return Turn::Refused;
+            return EventStep::Refused;
         }
         self.firsts[u as usize] = first;
-        Turn::Made
+        EventStep::Made
     }
 
     /// The stage of these devices: no event has come.
-    pub fn begin(self) -> Result<Stage, NoMemory>
+    pub fn begin(self) -> Result<ReplayBook, NoMemory>
         ensures { IfOk result (λ s. Opens self.names self.firsts s) }
     {
         let Declarations {
@@ -96,7 +96,7 @@ impl Declarations {
             firsts,
         } = self;
         match Names::of(names) {
-            Some(names) => Stage::new(alloc, names, limit, firsts),
+            Some(names) => ReplayBook::new(alloc, names, limit, firsts),
             None => unreachable!(),
         }
     }

@@ -6,14 +6,14 @@ ghost use Rattle.replay_monitors.specs.Stored.{is_store};
 ghost use Rattle.replay_player.specs.Clients.{Client, items_of};
 ghost use Rattle.replay_player.specs.Ending.{Drains, DrainsOne, HaveStopped, IsServed, PublishesOne, Shows, stores_left};
 ghost use Rattle.replay_player.specs.Ends.{all_closed, all_ended, closings_at_end, counted, end_line, ended_at, published, shut, written_at_end};
-ghost use Rattle.replay_player.specs.Playing.{Plays};
+ghost use Rattle.replay_player.specs.Playing.{BookStandsFor};
 ghost use Rattle.replay_player.specs.States.{State, units_in};
 
-use crate::stage::Stage;
+use crate::replay_book::ReplayBook;
 use book_units::UnitStep;
 use gps_fixed::{Bytes, NoMemory};
+use output_lines::{SessionEnd, push_closing_line, push_unit_line};
 use report_book::BookFault;
-use run_lines::{SessionEnd, push_closing_line, push_unit_line};
 
 /// An outlet keeps no more items.
 const MOST_KEPT: u32 = 65_536;
@@ -28,11 +28,11 @@ fn unless_wanting(outcome: Result<(), BookFault>) -> Result<(), NoMemory>
     }
 }
 
-impl Stage {
+impl ReplayBook {
     /// A device that has not stopped ends.
     fn end_one(&mut self, d: u8) -> Result<(), NoMemory>
         requires { d < length self.old.book.names }
-        ensures ended { (state : State) → Plays self.old state → OnOk result (Plays self.new (ended_at state d)) }
+        ensures ended { (state : State) → BookStandsFor self.old state → OnOk result (BookStandsFor self.new (ended_at state d)) }
         ensures count { length self.new.book.names ≡ length self.old.book.names }
     {
         self.book.show();
@@ -41,7 +41,7 @@ impl Stage {
 
     /// Each device that has not stopped ends.
     fn end_devices(&mut self) -> Result<(), NoMemory>
-        ensures ended { (state : State) → Plays self.old state → OnOk result (Plays self.new (all_ended state)) }
+        ensures ended { (state : State) → BookStandsFor self.old state → OnOk result (BookStandsFor self.new (all_ended state)) }
     {
         'devices: for d in 0..self.devices {
             self.end_one(d)?;
@@ -51,7 +51,7 @@ impl Stage {
 
     /// Where each device has stopped, the open sessions are closed.
     fn close_sessions(&mut self)
-        ensures shut { (state : State) → Plays self.old state → HaveStopped state → Plays self.new (shut state) }
+        ensures shut { (state : State) → BookStandsFor self.old state → HaveStopped state → BookStandsFor self.new (shut state) }
     {
         self.book.show();
         if self.book.all_ended() {
@@ -61,7 +61,7 @@ impl Stage {
 
     /// Writes the closing line of a session.
     fn write_closing(&self, s: u32, out: &mut Bytes) -> Result<(), NoMemory>
-        ensures line { (state : State) (c : Client) → Plays self.now state → slice_get state.clients s ≡ Some c
+        ensures line { (state : State) (c : Client) → BookStandsFor self.now state → slice_get state.clients s ≡ Some c
             → OnOk result (out.new ≡ out.old ++ end_line s c.run.closing (counted (items_of state.names state.log c))) }
     {
         let Some((_, why)) = self.book.closing(s) else {
@@ -75,7 +75,8 @@ impl Stage {
 
     /// Writes the items of a session that are left, and its closing line.
     fn drain_one(&mut self, s: u32, out: &mut Bytes) -> Result<(), NoMemory>
-        ensures drains { (state : State) (c : Client) → Plays self.old state → slice_get state.clients s ≡ Some c → OnOk result (DrainsOne s self.new out.old out.new state c) }
+        ensures drains { (state : State) (c : Client) → BookStandsFor self.old state → slice_get state.clients s ≡ Some c
+            → OnOk result (DrainsOne s self.new out.old out.new state c) }
     {
         self.take(u64::from(s), MOST_KEPT, out)?;
         self.write_closing(s, out)
@@ -83,7 +84,7 @@ impl Stage {
 
     /// Writes the items of all sessions that are left, and their closing lines.
     fn drain(&mut self, out: &mut Bytes) -> Result<(), NoMemory>
-        ensures drains { (state : State) → Plays self.old state → OnOk result (Drains self.new out.old out.new state) }
+        ensures drains { (state : State) → BookStandsFor self.old state → OnOk result (Drains self.new out.old out.new state) }
     {
         'sessions: for s in 0..self.book.opened() {
             self.drain_one(s, out)?;
@@ -94,7 +95,7 @@ impl Stage {
     /// A unit's publisher makes a store; false where it makes none.
     fn publish_one(&mut self, u: u8) -> bool
         requires { u < 2 * length self.old.book.names }
-        ensures publishes { (state : State) → Plays self.old state → PublishesOne u result self.new state }
+        ensures publishes { (state : State) → BookStandsFor self.old state → PublishesOne u result self.new state }
         ensures less { result ≡ true → stores_left u self.new.book.units < stores_left u self.old.book.units }
         ensures count { length self.new.book.names ≡ length self.old.book.names }
     {
@@ -108,7 +109,7 @@ impl Stage {
     /// Publishes all samples of a unit, as far as its numbers go, and writes its line.
     fn publish_unit(&mut self, u: u8, out: &mut Bytes) -> Result<(), NoMemory>
         requires { u < 2 * length self.old.book.names }
-        ensures shows { (state : State) → Plays self.old state → OnOk result (Shows u self.new out.old out.new state) }
+        ensures shows { (state : State) → BookStandsFor self.old state → OnOk result (Shows u self.new out.old out.new state) }
         ensures count { length self.new.book.names ≡ length self.old.book.names }
     {
         'stores: while self.publish_one(u) {}
@@ -121,7 +122,8 @@ impl Stage {
 
     /// Publishes the samples of all units, and writes their lines.
     fn publish(&mut self, out: &mut Bytes) -> Result<(), NoMemory>
-        ensures shows { (state : State) → Plays self.old state → OnOk result (out.new ≡ out.old ++ flat_map (published state) (range_with_len 0 (units_in state))) }
+        ensures shows { (state : State) → BookStandsFor self.old state
+            → OnOk result (out.new ≡ out.old ++ flat_map (published state) (range_with_len 0 (units_in state))) }
     {
         self.book.show();
         'units: for u in 0..2 * self.devices {
@@ -132,7 +134,7 @@ impl Stage {
 
     /// Writes the closing lines of all sessions.
     fn close_lines(&self, out: &mut Bytes) -> Result<(), NoMemory>
-        ensures lines { (state : State) → Plays self.now state
+        ensures lines { (state : State) → BookStandsFor self.now state
             → OnOk result (out.new ≡ out.old ++ all_closed state.names state.log 0 state.clients) }
     {
         'sessions: for s in 0..self.book.opened() {
@@ -143,7 +145,7 @@ impl Stage {
 
     /// What happens at a script's end, and its closing lines alone, without the items that are left.
     pub fn end_quietly(&mut self, out: &mut Bytes) -> Result<(), NoMemory>
-        ensures writes { (state : State) → Plays self.old state → OnOk result (out.new ≡ out.old ++ closings_at_end state) }
+        ensures writes { (state : State) → BookStandsFor self.old state → OnOk result (out.new ≡ out.old ++ closings_at_end state) }
     {
         self.end_devices()?;
         self.close_sessions();
@@ -153,7 +155,7 @@ impl Stage {
 
     /// What happens at a script's end, and what it writes.
     pub fn end(&mut self, out: &mut Bytes) -> Result<(), NoMemory>
-        ensures writes { (state : State) → Plays self.old state → OnOk result (out.new ≡ out.old ++ written_at_end state) }
+        ensures writes { (state : State) → BookStandsFor self.old state → OnOk result (out.new ≡ out.old ++ written_at_end state) }
     {
         self.end_devices()?;
         self.close_sessions();

@@ -3,14 +3,14 @@
 
 mod declarations;
 mod ends;
+mod event_step;
 mod player;
 mod playing;
+mod replay_book;
 mod segments;
 mod sessions;
-mod stage;
-mod turn;
 
 pub use declarations::Declarations;
+pub use event_step::EventStep;
 pub use player::Player;
-pub use stage::Stage;
-pub use turn::Turn;
+pub use replay_book::ReplayBook;

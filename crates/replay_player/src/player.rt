@@ -4,15 +4,15 @@ ghost use Rattle.std.specs.Prelude.{◌≡◌, ◌≤◌, ◌++◌, OnOk, List, 
 ghost use Rattle.replay_script.specs.Events.{Fits};
 ghost use Rattle.replay_player.specs.Effects.{effect};
 ghost use Rattle.replay_player.specs.Ends.{closings_at_end, written_at_end};
-ghost use Rattle.replay_player.specs.Players.{Played, Stands};
-ghost use Rattle.replay_player.specs.Playing.{Plays, declared_state};
+ghost use Rattle.replay_player.specs.Players.{LinePlayed, PlayerStandsFor};
+ghost use Rattle.replay_player.specs.Playing.{BookStandsFor, declared_state};
 ghost use Rattle.replay_player.specs.States.{State, new_state};
 
 use crate::declarations::Declarations;
-use crate::stage::Stage;
-use crate::turn::Turn;
+use crate::event_step::EventStep;
+use crate::replay_book::ReplayBook;
 use gps_fixed::{Bytes, NoMemory};
-use replay_script::Event;
+use replay_script::ScriptEvent;
 use std::alloc::Global;
 
 /// A script that is being played.
@@ -21,25 +21,25 @@ pub enum Player {
     /// No event has come: devices and units are declared.
     Declaring(Declarations),
     /// An event has come.
-    Playing(Stage),
+    Playing(ReplayBook),
 }
 
 /// On a stage.
 fn play_on(
-    mut stage: Stage,
+    mut stage: ReplayBook,
     queue: u32,
-    event: Event,
+    event: ScriptEvent,
     out: &mut Bytes,
 ) -> Result<Option<Player>, NoMemory>
     requires least { 1 ≤ queue }
     requires most { queue ≤ 65536 }
     requires fits { Fits event }
-    requires known { (state : State) × Plays stage state }
-    ensures played { (state : State) → Plays stage state → Played result (effect queue state event) out.old out.new }
+    requires known { (state : State) × BookStandsFor stage state }
+    ensures played { (state : State) → BookStandsFor stage state → LinePlayed result (effect queue state event) out.old out.new }
 {
     match stage.play(queue, event, out)? {
-        Turn::Made => Ok(Some(Player::Playing(stage))),
-        Turn::Refused => Ok(None),
+        EventStep::Made => Ok(Some(Player::Playing(stage))),
+        EventStep::Refused => Ok(None),
     }
 }
 
@@ -47,23 +47,23 @@ fn play_on(
 fn play_first(
     mut declarations: Declarations,
     queue: u32,
-    event: Event,
+    event: ScriptEvent,
     out: &mut Bytes,
 ) -> Result<Option<Player>, NoMemory>
     requires least { 1 ≤ queue }
     requires most { queue ≤ 65536 }
     requires fits { Fits event }
-    ensures played { Played result (effect queue (declared_state declarations.names declarations.firsts) event) out.old out.new }
+    ensures played { LinePlayed result (effect queue (declared_state declarations.names declarations.firsts) event) out.old out.new }
 {
     match event {
-        Event::Nothing => Ok(Some(Player::Declaring(declarations))),
-        Event::Device(name) => match declarations.declare(name)? {
-            Turn::Made => Ok(Some(Player::Declaring(declarations))),
-            Turn::Refused => Ok(None),
+        ScriptEvent::Nothing => Ok(Some(Player::Declaring(declarations))),
+        ScriptEvent::Device(name) => match declarations.declare(name)? {
+            EventStep::Made => Ok(Some(Player::Declaring(declarations))),
+            EventStep::Refused => Ok(None),
         },
-        Event::Segment { unit, first } => match declarations.number(unit, first) {
-            Turn::Made => Ok(Some(Player::Declaring(declarations))),
-            Turn::Refused => Ok(None),
+        ScriptEvent::Segment { unit, first } => match declarations.number(unit, first) {
+            EventStep::Made => Ok(Some(Player::Declaring(declarations))),
+            EventStep::Refused => Ok(None),
         },
         event => {
             let stage = declarations.begin()?;
@@ -77,19 +77,24 @@ impl Player {
     pub fn new(alloc: Global, limit: u32) -> Player
         requires some { 1 ≤ limit }
         requires most { limit ≤ 33554432 }
-        ensures { Stands result new_state }
+        ensures { PlayerStandsFor result new_state }
     {
         Player::Declaring(Declarations::new(alloc, limit))
     }
 
     /// Does what an event does, and adds what it writes; none where it may not come now. An outlet keeps `queue` items where the event
     /// says no other number.
-    pub fn play(self, queue: u32, event: Event, out: &mut Bytes) -> Result<Option<Player>, NoMemory>
+    pub fn play(
+        self,
+        queue: u32,
+        event: ScriptEvent,
+        out: &mut Bytes,
+    ) -> Result<Option<Player>, NoMemory>
         requires least { 1 ≤ queue }
         requires most { queue ≤ 65536 }
         requires fits { Fits event }
-        requires known { (state : State) × Stands self state }
-        ensures played { (state : State) → Stands self state → Played result (effect queue state event) out.old out.new }
+        requires known { (state : State) × PlayerStandsFor self state }
+        ensures played { (state : State) → PlayerStandsFor self state → LinePlayed result (effect queue state event) out.old out.new }
     {
         match self {
             Player::Declaring(declarations) => play_first(declarations, queue, event, out),
@@ -99,8 +104,8 @@ impl Player {
 
     /// Does what happens at a script's end, and adds what it writes.
     pub fn finish(self, out: &mut Bytes) -> Result<(), NoMemory>
-        requires known { (state : State) × Stands self state }
-        ensures writes { (state : State) → Stands self state → OnOk result (out.new ≡ out.old ++ written_at_end state) }
+        requires known { (state : State) × PlayerStandsFor self state }
+        ensures writes { (state : State) → PlayerStandsFor self state → OnOk result (out.new ≡ out.old ++ written_at_end state) }
     {
         match self {
             Player::Declaring(declarations) => finish_first(declarations, out),
@@ -112,8 +117,8 @@ impl Player {
 impl Player {
     /// Does what happens at a script's end, and adds its closing lines alone, without the items that are left.
     pub fn finish_quietly(self, out: &mut Bytes) -> Result<(), NoMemory>
-        requires known { (state : State) × Stands self state }
-        ensures writes { (state : State) → Stands self state → OnOk result (out.new ≡ out.old ++ closings_at_end state) }
+        requires known { (state : State) × PlayerStandsFor self state }
+        ensures writes { (state : State) → PlayerStandsFor self state → OnOk result (out.new ≡ out.old ++ closings_at_end state) }
     {
         match self {
             Player::Declaring(declarations) => close_first(declarations, out),
@@ -123,8 +128,8 @@ impl Player {
 }
 
 /// On a stage.
-fn close_on(mut stage: Stage, out: &mut Bytes) -> Result<(), NoMemory>
-    ensures { (state : State) → Plays stage state → OnOk result (out.new ≡ out.old ++ closings_at_end state) }
+fn close_on(mut stage: ReplayBook, out: &mut Bytes) -> Result<(), NoMemory>
+    ensures { (state : State) → BookStandsFor stage state → OnOk result (out.new ≡ out.old ++ closings_at_end state) }
 {
     stage.end_quietly(out)
 }
@@ -138,8 +143,8 @@ fn close_first(declarations: Declarations, out: &mut Bytes) -> Result<(), NoMemo
 }
 
 /// On a stage.
-fn finish_on(mut stage: Stage, out: &mut Bytes) -> Result<(), NoMemory>
-    ensures { (state : State) → Plays stage state → OnOk result (out.new ≡ out.old ++ written_at_end state) }
+fn finish_on(mut stage: ReplayBook, out: &mut Bytes) -> Result<(), NoMemory>
+    ensures { (state : State) → BookStandsFor stage state → OnOk result (out.new ≡ out.old ++ written_at_end state) }
 {
     stage.end(out)
 }

@@ -3,38 +3,43 @@
 ghost use Rattle.std.specs.Prelude.{◌≡◌, ◌≤◌, List, []};
 ghost use Rattle.replay_script.specs.Events.{Fits};
 ghost use Rattle.replay_player.specs.Effects.{effect};
-ghost use Rattle.replay_player.specs.Playing.{Acts, Plays};
+ghost use Rattle.replay_player.specs.Playing.{Acts, BookStandsFor};
 ghost use Rattle.replay_player.specs.States.{State};
 
-use crate::stage::Stage;
-use crate::turn::Turn;
+use crate::event_step::EventStep;
+use crate::replay_book::ReplayBook;
 use gps_fixed::{Bytes, NoMemory};
-use replay_script::Event;
+use replay_script::ScriptEvent;
 
-impl Stage {
+impl ReplayBook {
     /// Does what an event does, and adds what it writes. Devices and units are declared before a stage is there, so it refuses them.
-    pub fn play(&mut self, queue: u32, event: Event, out: &mut Bytes) -> Result<Turn, NoMemory>
+    pub fn play(
+        &mut self,
+        queue: u32,
+        event: ScriptEvent,
+        out: &mut Bytes,
+    ) -> Result<EventStep, NoMemory>
         requires least { 1 ≤ queue }
         requires most { queue ≤ 65536 }
         requires fits { Fits event }
-        requires known { (state : State) × Plays self.old state }
-        ensures acts { (state : State) → Plays self.old state → Acts result (effect queue state event) self.new out.old out.new }
+        requires known { (state : State) × BookStandsFor self.old state }
+        ensures acts { (state : State) → BookStandsFor self.old state → Acts result (effect queue state event) self.new out.old out.new }
     {
         match event {
-            Event::Nothing => Ok(Turn::Made),
-            Event::Device(_) => Ok(Turn::Refused),
-            Event::Segment { unit: _, first: _ } => Ok(Turn::Refused),
-            Event::Feed { device, at, bytes } => self.feed(device, at, bytes.as_slice()),
-            Event::Edge { device, edge } => self.edge(device, edge),
-            Event::End(device) => self.end_device(device),
-            Event::Lose(device) => self.lose_device(device),
-            Event::Open { session, cap } => self.open_with(session, cap, queue),
-            Event::Input { session, bytes } => self.input(session, bytes.as_slice()),
-            Event::Hang(session) => self.hang(session),
-            Event::Take { session, most } => self.take(session, most, out),
-            Event::Monitor { monitor, unit } => self.watch(monitor, unit),
-            Event::Store { unit, steps } => self.store(unit, steps),
-            Event::Load { monitor, steps } => self.load(monitor, steps, out),
+            ScriptEvent::Nothing => Ok(EventStep::Made),
+            ScriptEvent::Device(_) => Ok(EventStep::Refused),
+            ScriptEvent::Segment { unit: _, first: _ } => Ok(EventStep::Refused),
+            ScriptEvent::Feed { device, at, bytes } => self.feed(device, at, bytes.as_slice()),
+            ScriptEvent::Edge { device, edge } => self.edge(device, edge),
+            ScriptEvent::End(device) => self.end_device(device),
+            ScriptEvent::Lose(device) => self.lose_device(device),
+            ScriptEvent::Open { session, cap } => self.open_with(session, cap, queue),
+            ScriptEvent::Input { session, bytes } => self.input(session, bytes.as_slice()),
+            ScriptEvent::Hang(session) => self.hang(session),
+            ScriptEvent::Take { session, most } => self.take(session, most, out),
+            ScriptEvent::Monitor { monitor, unit } => self.watch(monitor, unit),
+            ScriptEvent::Store { unit, steps } => self.store(unit, steps),
+            ScriptEvent::Load { monitor, steps } => self.load(monitor, steps, out),
         }
     }
 }

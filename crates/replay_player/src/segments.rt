@@ -5,17 +5,17 @@ ghost use Rattle.shm_monitor.specs.declared.reading.MonStep.{MonStep};
 ghost use Rattle.book_units.specs.Units.{UnitView};
 ghost use Rattle.replay_monitors.specs.Loads.{step_of};
 ghost use Rattle.replay_monitors.specs.Stored.{stores_next};
-ghost use Rattle.replay_monitors.specs.Watched.{Watched, IsOf, after_load, words_beside};
+ghost use Rattle.replay_monitors.specs.UnitMonitorView.{UnitMonitorView, IsOf, after_load, words_beside};
 ghost use Rattle.replay_player.specs.Effects.{loads, most_watches, step_line, stores, watches, with_stores};
-ghost use Rattle.replay_player.specs.Playing.{Acts, LoadsOne, Plays};
-ghost use Rattle.replay_player.specs.States.{State, Watch, samples_at};
+ghost use Rattle.replay_player.specs.Playing.{Acts, LoadsOne, BookStandsFor};
+ghost use Rattle.replay_player.specs.States.{State, MonitorState, samples_at};
 
-use crate::stage::Stage;
-use crate::turn::Turn;
+use crate::event_step::EventStep;
+use crate::replay_book::ReplayBook;
 use gps_fixed::{Bytes, NoMemory};
-use replay_monitors::Watcher;
+use output_lines::push_reading_line;
+use replay_monitors::UnitMonitor;
 use report_book::Book;
-use run_lines::push_reading_line;
 use session_core::PlainOutlet;
 use shm_monitor::MonStep;
 
@@ -33,11 +33,12 @@ fn push_step(out: &mut Bytes, m: u8, step: MonStep) -> Result<(), NoMemory>
 }
 
 /// One of the monitors makes a load.
-fn step_at(watchers: &mut Vec<Watcher>, m: usize, book: &mut Book<PlainOutlet>) -> MonStep
+fn step_at(watchers: &mut Vec<UnitMonitor>, m: usize, book: &mut Book<PlainOutlet>) -> MonStep
     requires there { m < length watchers.old.items }
-    requires of { (free : Watched) → IsOf (get_or watchers.old.items m free) book.old }
-    ensures step { (free : Watched) (other : UnitView) → result ≡ step_of (words_beside (get_or watchers.old.items m free) book.old other) (get_or watchers.old.items m free).reading }
-    ensures becomes { (free : Watched) (other : UnitView) → watchers.new.items
+    requires of { (free : UnitMonitorView) → IsOf (get_or watchers.old.items m free) book.old }
+    ensures step { (free : UnitMonitorView) (other : UnitView) → result
+        ≡ step_of (words_beside (get_or watchers.old.items m free) book.old other) (get_or watchers.old.items m free).reading }
+    ensures becomes { (free : UnitMonitorView) (other : UnitView) → watchers.new.items
         ≡ set watchers.old.items m (after_load (words_beside (get_or watchers.old.items m free) book.old other) (get_or watchers.old.items m free)) }
     ensures unchanged { book.new ≡ book.old }
 {
@@ -45,7 +46,7 @@ fn step_at(watchers: &mut Vec<Watcher>, m: usize, book: &mut Book<PlainOutlet>) 
     watcher.step(book)
 }
 
-impl Stage {
+impl ReplayBook {
     /// Whether there is such a unit.
     fn has_unit(&self, u: u64) -> bool
         ensures { result ≡ nat_lt u (2 * length self.now.book.names) }
@@ -55,32 +56,33 @@ impl Stage {
 
     /// Whether this is the next monitor, of a unit that is there.
     fn may_watch(&self, m: u64, u: u64) -> bool
-        ensures { result ≡ (nat_eq m (length self.now.watchers) && nat_lt (length self.now.watchers) most_watches && nat_lt u (2 * length self.now.book.names)) }
+        ensures { result ≡ (nat_eq m (length self.now.watchers) && nat_lt (length self.now.watchers) most_watches && nat_lt u
+            (2 * length self.now.book.names)) }
     {
         let count = self.watchers.len();
         m == count as u64 && count < MOST_WATCHERS && self.has_unit(u)
     }
 
     /// The next monitor, of this unit.
-    pub fn watch(&mut self, m: u64, u: u64) -> Result<Turn, NoMemory>
-        ensures acts { (state : State) → Plays self.old state → Acts result (watches m u state) self.new [] [] }
+    pub fn watch(&mut self, m: u64, u: u64) -> Result<EventStep, NoMemory>
+        ensures acts { (state : State) → BookStandsFor self.old state → Acts result (watches m u state) self.new [] [] }
     {
         if !self.may_watch(m, u) {
-            return Ok(Turn::Refused);
+            return Ok(EventStep::Refused);
         }
         self.book.show();
-        let Ok(watcher) = Watcher::of(&mut self.book, u as u8) else {
+        let Ok(watcher) = UnitMonitor::of(&mut self.book, u as u8) else {
             return Err(NoMemory);
         };
         self.watchers.push(watcher)?;
-        Ok(Turn::Made)
+        Ok(EventStep::Made)
     }
 
     /// A unit's publisher makes one step.
     fn store_one(&mut self, u: u8)
         requires { u < 2 * length self.old.book.names }
-        ensures stored { (state : State) → Plays self.old state
-            → Plays self.new (with_stores u (stores_next (slice_index state.firsts u) (samples_at u state) (slice_index state.stores u)) state) }
+        ensures stored { (state : State) → BookStandsFor self.old state
+            → BookStandsFor self.new (with_stores u (stores_next (slice_index state.firsts u) (samples_at u state) (slice_index state.stores u)) state) }
         ensures names { self.new.book.names ≡ self.old.book.names }
     {
         self.book.show();
@@ -90,18 +92,18 @@ impl Stage {
     }
 
     /// A unit's publisher makes so many steps.
-    pub fn store(&mut self, u: u64, steps: u32) -> Result<Turn, NoMemory>
-        ensures acts { (state : State) → Plays self.old state → Acts result (stores u steps state) self.new [] [] }
+    pub fn store(&mut self, u: u64, steps: u32) -> Result<EventStep, NoMemory>
+        ensures acts { (state : State) → BookStandsFor self.old state → Acts result (stores u steps state) self.new [] [] }
     {
         if !self.has_unit(u) {
-            return Ok(Turn::Refused);
+            return Ok(EventStep::Refused);
         }
         self.book.show();
         let u = u as u8;
         'steps: for made in 0..steps {
             self.store_one(u);
         }
-        Ok(Turn::Made)
+        Ok(EventStep::Made)
     }
 
     /// Whether there is such a monitor.
@@ -114,8 +116,8 @@ impl Stage {
     /// A monitor makes one load, and the line of a reading that it ends is written.
     fn load_one(&mut self, m: u8, out: &mut Bytes) -> Result<(), NoMemory>
         requires there { m < length self.old.watchers }
-        requires of { (free : Watched) → IsOf (get_or self.old.watchers m free) self.old.book }
-        ensures loaded { OnOk result ((state : State) (t : Watch) → Plays self.old state → slice_get state.watches m ≡ Some t
+        requires of { (free : UnitMonitorView) → IsOf (get_or self.old.watchers m free) self.old.book }
+        ensures loaded { OnOk result ((state : State) (t : MonitorState) → BookStandsFor self.old state → slice_get state.watches m ≡ Some t
             → LoadsOne m self.new out.old out.new state t) }
         ensures count { length self.new.watchers ≡ length self.old.watchers }
     {
@@ -124,17 +126,17 @@ impl Stage {
     }
 
     /// A monitor makes so many loads.
-    pub fn load(&mut self, m: u64, steps: u32, out: &mut Bytes) -> Result<Turn, NoMemory>
-        requires known { (state : State) × Plays self.old state }
-        ensures acts { (state : State) → Plays self.old state → Acts result (loads m steps state) self.new out.old out.new }
+    pub fn load(&mut self, m: u64, steps: u32, out: &mut Bytes) -> Result<EventStep, NoMemory>
+        requires known { (state : State) × BookStandsFor self.old state }
+        ensures acts { (state : State) → BookStandsFor self.old state → Acts result (loads m steps state) self.new out.old out.new }
     {
         if !self.has_watcher(m) {
-            return Ok(Turn::Refused);
+            return Ok(EventStep::Refused);
         }
         let m = m as u8;
         'loads: for made in 0..steps {
             self.load_one(m, out)?;
         }
-        Ok(Turn::Made)
+        Ok(EventStep::Made)
     }
 }

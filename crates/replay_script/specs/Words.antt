@@ -1,4 +1,4 @@
--- The words of a script's line: numbers, stamps, hexadecimal bytes and texts. This project's own.
+-- The words of a script's line: numbers, stamps, hexadecimal bytes and texts.
 use Rattle.std.specs.Prelude.{◌≡◌, ℕ, pos, ◌+◌, Bool, true, not, ◌&&◌, ◌==◌, List, [], ◌∷◌, ◌++◌, length, take, drop, nat_lt, nat_le, position, Option, Some, None, option_and_then, Result, Ok, Err, if◌then◌else◌}
 use Rattle.std.specs.Option.{option_map}
 use Rattle.std.specs.List.{list_all}

@@ -3,7 +3,7 @@ use gps_report::{Edge, Name};
 
 /// What a line of a script asks for. Devices, units, sessions and monitors are named by their numbers, as written.
 #[derive(Debug, Drop, PartialEq, Eq)]
-pub enum Event {
+pub enum ScriptEvent {
     /// The line is empty, or begins with `#`.
     Nothing,
     /// The next device has this name.

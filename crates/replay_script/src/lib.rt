@@ -11,6 +11,6 @@ mod line;
 mod payload;
 mod words;
 
-pub use event::Event;
+pub use event::ScriptEvent;
 pub use laws::halves_are_joined_by_the_mark;
 pub use line::event_of;

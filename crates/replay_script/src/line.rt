@@ -2,7 +2,7 @@ ghost use Rattle.std.specs.Prelude.{◌≡◌, IfOk, IfSome, Some, unwrap_or};
 ghost use Rattle.pps_edges.specs.Scan.{edge_in};
 ghost use Rattle.replay_script.specs.Events.{Fits, bytes_event, device_in, edge_at, event_in, feed_in, input_in, monitor_in, number_event, open_in, word_event};
 
-use crate::event::Event;
+use crate::event::ScriptEvent;
 use crate::payload::{Payload, payload_bytes};
 use crate::words::{halves, number, number_and_count, numbered, stamped};
 use gps_fixed::NoMemory;
@@ -11,19 +11,19 @@ use pps_edges::edge_of_line;
 use std::alloc::Global;
 
 #[tactic(auto, unfolding(crate::specs::Events::device_in))]
-fn device(alloc: Global, text: &[u8]) -> Result<Option<Event>, NoMemory>
+fn device(alloc: Global, text: &[u8]) -> Result<Option<ScriptEvent>, NoMemory>
     ensures is { IfOk result (λ event. event ≡ device_in text.now) }
     ensures fits { IfOk result (λ event. IfSome event Fits) }
 {
     match Name::of(alloc, text) {
-        Ok(name) => Ok(Some(Event::Device(name))),
+        Ok(name) => Ok(Some(ScriptEvent::Device(name))),
         Err(NameFault::BadName) => Ok(None),
         Err(NameFault::NoMemory) => Err(NoMemory),
     }
 }
 
 #[tactic(auto, unfolding(crate::specs::Events::feed_in))]
-fn feed(alloc: Global, payload: Payload, text: &[u8]) -> Result<Option<Event>, NoMemory>
+fn feed(alloc: Global, payload: Payload, text: &[u8]) -> Result<Option<ScriptEvent>, NoMemory>
     ensures is { IfOk result (λ event. event ≡ feed_in payload text.now) }
     ensures fits { IfOk result (λ event. IfSome event Fits) }
 {
@@ -34,13 +34,13 @@ fn feed(alloc: Global, payload: Payload, text: &[u8]) -> Result<Option<Event>, N
         return Ok(None);
     };
     match payload_bytes(alloc, payload, rest)? {
-        Some(bytes) => Ok(Some(Event::Feed { device, at, bytes })),
+        Some(bytes) => Ok(Some(ScriptEvent::Feed { device, at, bytes })),
         None => Ok(None),
     }
 }
 
 #[tactic(auto, unfolding(crate::specs::Events::input_in))]
-fn input(alloc: Global, payload: Payload, text: &[u8]) -> Result<Option<Event>, NoMemory>
+fn input(alloc: Global, payload: Payload, text: &[u8]) -> Result<Option<ScriptEvent>, NoMemory>
     ensures is { IfOk result (λ event. event ≡ input_in payload text.now) }
     ensures fits { IfOk result (λ event. IfSome event Fits) }
 {
@@ -48,7 +48,7 @@ fn input(alloc: Global, payload: Payload, text: &[u8]) -> Result<Option<Event>, 
         return Ok(None);
     };
     match payload_bytes(alloc, payload, rest)? {
-        Some(bytes) => Ok(Some(Event::Input { session, bytes })),
+        Some(bytes) => Ok(Some(ScriptEvent::Input { session, bytes })),
         None => Ok(None),
     }
 }
@@ -60,43 +60,47 @@ fn edge_in_line(text: &[u8]) -> Option<Edge>
 }
 
 #[tactic(auto, unfolding(crate::specs::Events::edge_at))]
-fn edge(text: &[u8]) -> Option<Event>
+fn edge(text: &[u8]) -> Option<ScriptEvent>
     ensures is { result ≡ edge_at text.now }
     ensures fits { IfSome result Fits }
 {
     let (device, line) = numbered(text)?;
     let edge = edge_in_line(line)?;
-    Some(Event::Edge { device, edge })
+    Some(ScriptEvent::Edge { device, edge })
 }
 
 #[tactic(auto, unfolding(crate::specs::Events::open_in))]
-fn open(text: &[u8]) -> Option<Event>
+fn open(text: &[u8]) -> Option<ScriptEvent>
     ensures is { result ≡ open_in text.now }
     ensures fits { IfSome result Fits }
 {
     if let Some(session) = number(text) {
-        return Some(Event::Open { session, cap: None });
+        return Some(ScriptEvent::Open { session, cap: None });
     }
     let (session, cap) = number_and_count(text, 1, 65_536)?;
-    Some(Event::Open {
+    Some(ScriptEvent::Open {
         session,
         cap: Some(cap),
     })
 }
 
 #[tactic(auto, unfolding(crate::specs::Events::monitor_in))]
-fn monitor(text: &[u8]) -> Option<Event>
+fn monitor(text: &[u8]) -> Option<ScriptEvent>
     ensures is { result ≡ monitor_in text.now }
     ensures fits { IfSome result Fits }
 {
     let (monitor, rest) = numbered(text)?;
     let unit = number(rest)?;
-    Some(Event::Monitor { monitor, unit })
+    Some(ScriptEvent::Monitor { monitor, unit })
 }
 
 /// The event of a word that brings a name or bytes; none where it is another word.
 #[tactic(auto, unfolding(crate::specs::Events::bytes_event))]
-fn bytes_event(alloc: Global, word: &[u8], rest: &[u8]) -> Result<Option<Option<Event>>, NoMemory>
+fn bytes_event(
+    alloc: Global,
+    word: &[u8],
+    rest: &[u8],
+) -> Result<Option<Option<ScriptEvent>>, NoMemory>
     ensures is { IfOk result (λ event. event ≡ bytes_event word.now rest.now) }
     ensures fits { IfOk result (λ event. IfSome event (λ e. IfSome e Fits)) }
 {
@@ -120,40 +124,40 @@ fn bytes_event(alloc: Global, word: &[u8], rest: &[u8]) -> Result<Option<Option<
 
 /// The event of a word that brings numbers or an edge.
 #[tactic(auto, unfolding(crate::specs::Events::number_event))]
-fn number_event(word: &[u8], rest: &[u8]) -> Option<Event>
+fn number_event(word: &[u8], rest: &[u8]) -> Option<ScriptEvent>
     ensures is { result ≡ number_event word.now rest.now }
     ensures fits { IfSome result Fits }
 {
     if word == b"segment".as_slice() {
         let (unit, first) = number_and_count(rest, 0, 1_073_741_823)?;
-        Some(Event::Segment { unit, first })
+        Some(ScriptEvent::Segment { unit, first })
     } else if word == b"edge".as_slice() {
         edge(rest)
     } else if word == b"end".as_slice() {
-        Some(Event::End(number(rest)?))
+        Some(ScriptEvent::End(number(rest)?))
     } else if word == b"lose".as_slice() {
-        Some(Event::Lose(number(rest)?))
+        Some(ScriptEvent::Lose(number(rest)?))
     } else if word == b"open".as_slice() {
         open(rest)
     } else if word == b"hang".as_slice() {
-        Some(Event::Hang(number(rest)?))
+        Some(ScriptEvent::Hang(number(rest)?))
     } else if word == b"take".as_slice() {
         let (session, most) = number_and_count(rest, 1, 65_536)?;
-        Some(Event::Take { session, most })
+        Some(ScriptEvent::Take { session, most })
     } else if word == b"monitor".as_slice() {
         monitor(rest)
     } else if word == b"store".as_slice() {
         let (unit, steps) = number_and_count(rest, 1, 1_000)?;
-        Some(Event::Store { unit, steps })
+        Some(ScriptEvent::Store { unit, steps })
     } else if word == b"load".as_slice() {
         let (monitor, steps) = number_and_count(rest, 1, 1_000)?;
-        Some(Event::Load { monitor, steps })
+        Some(ScriptEvent::Load { monitor, steps })
     } else {
         None
     }
 }
 
-fn word_event(alloc: Global, word: &[u8], rest: &[u8]) -> Result<Option<Event>, NoMemory>
+fn word_event(alloc: Global, word: &[u8], rest: &[u8]) -> Result<Option<ScriptEvent>, NoMemory>
     ensures is { IfOk result (λ event. event ≡ word_event word.now rest.now) }
     ensures fits { IfOk result (λ event. IfSome event Fits) }
 {
@@ -164,15 +168,15 @@ fn word_event(alloc: Global, word: &[u8], rest: &[u8]) -> Result<Option<Event>, 
 }
 
 /// The event of a line, without its line end. None exactly where the line is none that a script may have: an empty line or
-/// one that begins with `#`, or a word, one space and what the word brings, by the table of [`Event`]. Memory is taken for
+/// one that begins with `#`, or a word, one space and what the word brings, by the table of [`ScriptEvent`]. Memory is taken for
 /// a name and for bytes alone.
 #[tactic(auto, unfolding(crate::specs::Events::event_in))]
-pub fn event_of(alloc: Global, line: &[u8]) -> Result<Option<Event>, NoMemory>
+pub fn event_of(alloc: Global, line: &[u8]) -> Result<Option<ScriptEvent>, NoMemory>
     ensures exact { IfOk result (λ event. event ≡ event_in line.now) }
     ensures fits { IfOk result (λ event. IfSome event Fits) }
 {
     match line {
-        [] | [b'#', ..] => Ok(Some(Event::Nothing)),
+        [] | [b'#', ..] => Ok(Some(ScriptEvent::Nothing)),
         [_, ..] => match halves(line, b' ') {
             Some((word, rest)) => word_event(alloc, word, rest),
             None => Ok(None),

@@ -52,15 +52,15 @@ receiver_lines device t rmc_body gga_body gll_body =
     ++ text_line device t gll_body
 
 -- the same, with the place whose minutes have these decimals
-unfoldable pub text_lines : ℕ → ℕ → ℕ → List ℕ
-text_lines device t n = receiver_lines device t (rmc (43_200 + t) n) (gga (43_200 + t) n) (gll (43_200 + t) n)
+unfoldable pub line_cut : ℕ → ℕ → ℕ → List ℕ
+line_cut device t n = receiver_lines device t (rmc (43_200 + t) n) (gga (43_200 + t) n) (gll (43_200 + t) n)
 
 -- each unit stores a sample, the monitor makes a reading, and each session takes what it has
 unfoldable pub steps : List ℕ
 steps = codes "store 0 13\nstore 1 13\nstore 2 13\nstore 3 13\nload 0 12\ntake 0 64\ntake 1 64\ntake 2 64\n"
 
 unfoldable pub second_lines : ℕ → ℕ → List ℕ
-second_lines t n = edge_line 0 t ++ edge_line 1 t ++ text_lines 0 t n ++ text_lines 1 t n ++ steps
+second_lines t n = edge_line 0 t ++ edge_line 1 t ++ line_cut 0 t n ++ line_cut 1 t n ++ steps
 
 -- the first so many seconds
 unfoldable pub seconds : ℕ → ℕ → List ℕ

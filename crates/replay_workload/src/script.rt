@@ -138,7 +138,7 @@ fn push_steps(out: &mut Bytes) -> Result<(), NoMemory>
     )
 }
 
-#[tactic(auto, unfolding(crate::specs::Workload::second_lines, crate::specs::Workload::text_lines))]
+#[tactic(auto, unfolding(crate::specs::Workload::second_lines, crate::specs::Workload::line_cut))]
 fn push_second(out: &mut Bytes, bodies: &mut Bodies, t: u32, n: u32) -> Result<(), NoMemory>
     requires { t < 10_000 }
     ensures { OnOk result (out.new ≡ out.old ++ second_lines t n) }

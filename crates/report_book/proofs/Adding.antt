@@ -8,38 +8,38 @@ use Rattle.shm_segment.specs.declared.sample.Sample.{Sample}
 use Rattle.book_batch.specs.Lines.{line_for}
 use Rattle.book_log.specs.Entries.{Entry}
 use Rattle.book_log.specs.History.{history_after}
-use Rattle.book_log.specs.Logged.{Logged, Adds as LogAdds, Holds as LogHolds}
+use Rattle.book_log.specs.DeviceLogView.{DeviceLogView, LogAdds, LogHolds}
 use Rattle.book_log.specs.Standing.{StandsFor}
 use Rattle.book_log.proofs.Histories.{history-append}
-use Rattle.book_sessions.specs.Attendance.{Attendance}
+use Rattle.book_sessions.specs.MemberView.{MemberView}
 use Rattle.book_sessions.specs.Spreading.{Spreads, ReportsBy}
-use Rattle.session_core.specs.Holding.{Gains}
-use Rattle.session_core.specs.Shown.{Shown}
+use Rattle.session_core.specs.Holding.{SessionGains}
+use Rattle.session_core.specs.SessionView.{SessionView}
 use Rattle.session_core.proofs.Gaining.{over}
 use Rattle.report_book.specs.Moves.{Earns, SessionEarns}
-use Rattle.book_units.specs.Changes.{EachUnit, Gains as UnitGains}
+use Rattle.book_units.specs.Changes.{EachUnit, UnitGains}
 use Rattle.book_units.specs.Samples.{samples_in, samples_of}
 use Rattle.book_units.specs.Units.{UnitView, all_of, carried_by, since_turn}
 use Rattle.report_book.specs.BookView.{BookView}
-use Rattle.report_book.specs.Standing.{Holds, Over, SessionHolds, UnitHolds, history_of}
+use Rattle.report_book.specs.Standing.{BookHolds, FollowsReports, SessionHolds, UnitHolds, history_of}
 use Rattle.std.proofs.lemmas.List.Elements.{AllZip-get_or}
 use Rattle.report_book.proofs.Lists.{all_along}
 
-pub history_added : (log next : Logged) (entries : List Entry) (reports : List Report) (before : List Entry) → LogAdds log next entries reports
+pub history_added : (log next : DeviceLogView) (entries : List Entry) (reports : List Report) (before : List Entry) → LogAdds log next entries reports
     → StandsFor log.opening before → history_after before next.log ≡ history_after before log.log ++ reports
 history_added log next entries reports before adds stands =
     ap (history_after before) adds.log ∙ history-append before log.log entries ∙ ap (λ r. history_after before log.log ++ r) (adds.reports_are before stands)
 
-spread_by : (c : Option (ℕ × Close)) (exact : Bool) (names : List (List ℕ)) (first : ℕ) (history reports : List Report) (old new : Shown) → length history ≡ first
+spread_by : (c : Option (ℕ × Close)) (exact : Bool) (names : List (List ℕ)) (first : ℕ) (history reports : List Report) (old new : SessionView) → length history ≡ first
     → SessionHolds names history old → ReportsBy c exact (line_for names) first reports old new → SessionHolds names (history ++ reports) new
 spread_by None exact names first history reports old new long held spreads = (held.0, (spreads.gets.gains history held.0 long held.1).holding)
 spread_by (Some closing) exact names first history reports old new long held spreads = (held.0, spreads.holding history held.0 long held.1)
 
-earned_by : (c : Option (ℕ × Close)) (exact : Bool) (names : List (List ℕ)) (first : ℕ) (history reports : List Report) (old new : Shown) → length history ≡ first → old.closing ≡ c
+earned_by : (c : Option (ℕ × Close)) (exact : Bool) (names : List (List ℕ)) (first : ℕ) (history reports : List Report) (old new : SessionView) → length history ≡ first → old.closing ≡ c
     → ReportsBy c exact (line_for names) first reports old new → SessionEarns names history (history ++ reports) old new
 earned_by None exact names first history reports old new long is spreads = λ stretches held. (spreads.more, spreads.gets.gains history stretches long held)
 earned_by (Some closing) exact names first history reports old new long is spreads = λ stretches held.
-    let P : Shown → Type 0 = λ s. Gains (line_for names) history (history ++ reports) old s stretches stretches [] in
+    let P : SessionView → Type 0 = λ s. SessionGains (line_for names) history (history ++ reports) old s stretches stretches [] in
     ([], subst P (sym spreads.same) (over (line_for names) closing history reports old stretches is held.agrees))
 
 unit_more : (u : ℕ) (history reports : List Report) (x y : UnitView) → UnitHolds u history x → UnitGains (samples_of u reports) x y → UnitHolds u (history ++ reports) y
@@ -50,12 +50,12 @@ unit_more u history reports x y held gains =
     ∙ ap (λ c. c ++ (samples_of u history ++ samples_of u reports)) (sym gains.carried)
     ∙ ap (λ l. carried_by y ++ l) (sym (flat_map-append (λ (r : Report). samples_in u r.device r.body) history reports))
 
-over_more : (exact : Bool) (names : List (List ℕ)) (log next : Logged) (sessions members : List Attendance) (units others : List UnitView) (first : ℕ) (history reports longer : List Report)
+over_more : (exact : Bool) (names : List (List ℕ)) (log next : DeviceLogView) (sessions members : List MemberView) (units others : List UnitView) (first : ℕ) (history reports longer : List Report)
     → length history ≡ first → longer ≡ history ++ reports
-    → Over (record { names = names; log = log; sessions = sessions; units = units }) history
+    → FollowsReports (record { names = names; log = log; sessions = sessions; units = units }) history
     → AllZip (Spreads exact (line_for names) first reports) sessions members
     → EachUnit (λ u. UnitGains (samples_of u reports)) units others
-    → Over (record { names = names; log = next; sessions = members; units = others }) (history ++ reports)
+    → FollowsReports (record { names = names; log = next; sessions = members; units = others }) (history ++ reports)
 over_more exact names log next sessions members units others first history reports longer long is over spread gains =
     record {
       sessions = all_along (λ a. SessionHolds names history a.session) (λ a. SessionHolds names (history ++ reports) a.session) (Spreads exact (line_for names) first reports)
@@ -66,18 +66,18 @@ over_more exact names log next sessions members units others first history repor
           unit_more u history reports (get_or units u free) (get_or others u free) (over.units u free there) (gains.each u free there);
     }
 
-pub added : (exact : Bool) (names : List (List ℕ)) (log next : Logged) (sessions members : List Attendance) (units others : List UnitView) (entries : List Entry) (reports : List Report)
-    → Holds (record { names = names; log = log; sessions = sessions; units = units })
+pub added : (exact : Bool) (names : List (List ℕ)) (log next : DeviceLogView) (sessions members : List MemberView) (units others : List UnitView) (entries : List Entry) (reports : List Report)
+    → BookHolds (record { names = names; log = log; sessions = sessions; units = units })
     → LogHolds next → LogAdds log next entries reports
     → AllZip (Spreads exact (line_for names) log.length reports) sessions members
     → EachUnit (λ u. UnitGains (samples_of u reports)) units others
-    → Holds (record { names = names; log = next; sessions = members; units = others })
+    → BookHolds (record { names = names; log = next; sessions = members; units = others })
 added exact names log next sessions members units others entries reports held holds adds spread gains =
     let count = gains.count in
     record {
       log = holds;
       over = λ before stands.
-          let P : List Report → Type 0 = λ r. Over (record { names = names; log = next; sessions = members; units = others }) r in
+          let P : List Report → Type 0 = λ r. FollowsReports (record { names = names; log = next; sessions = members; units = others }) r in
           let was : StandsFor log.opening before = subst (λ s. StandsFor s before) adds.opening stands in
           subst P (sym (history_added log next entries reports before adds was))
           (over_more exact names log next sessions members units others log.length (history_after before log.log) reports (history_after before next.log)
@@ -87,8 +87,8 @@ added exact names log next sessions members units others entries reports held ho
       units = count ∙ held.units;
     }
 
-pub earned : (exact : Bool) (names : List (List ℕ)) (log next : Logged) (sessions members : List Attendance) (units others : List UnitView) (entries : List Entry) (reports : List Report)
-    → Holds (record { names = names; log = log; sessions = sessions; units = units })
+pub earned : (exact : Bool) (names : List (List ℕ)) (log next : DeviceLogView) (sessions members : List MemberView) (units others : List UnitView) (entries : List Entry) (reports : List Report)
+    → BookHolds (record { names = names; log = log; sessions = sessions; units = units })
     → LogAdds log next entries reports
     → AllZip (Spreads exact (line_for names) log.length reports) sessions members
     → EachUnit (λ u. UnitGains (samples_of u reports)) units others

@@ -11,28 +11,28 @@ use Rattle.std.proofs.lemmas.List.{length-take}
 use Rattle.gps_report.specs.declared.policy.Policy.{Policy}
 use Rattle.gps_report.specs.declared.report.Report.{Report}
 use Rattle.session_core.specs.declared.mark.Close.{Close}
-use Rattle.session_core.specs.Holding.{Gains, Holding}
-use Rattle.session_core.specs.Shown.{Shown, last_place, turned_marks}
+use Rattle.session_core.specs.Holding.{SessionGains, Holding}
+use Rattle.session_core.specs.SessionView.{SessionView, last_place, turned_marks}
 use Rattle.session_core.specs.Stretches.{Stretch}
 use Rattle.session_core.proofs.Gaining.{taken}
 use Rattle.book_batch.specs.Lines.{line_for}
 use Rattle.book_log.specs.Entries.{Entry}
 use Rattle.book_log.specs.History.{history_after}
-use Rattle.book_log.specs.Logged.{Logged, Adds as LogAdds, AreOf, Holds as LogHolds, IsFresh, stopped_of, turned_if as log_turned_if}
+use Rattle.book_log.specs.DeviceLogView.{DeviceLogView, LogAdds, AreOf, LogHolds, IsFresh, stopped_of, turned_if as log_turned_if}
 use Rattle.book_log.specs.Standing.{StandsFor}
-use Rattle.book_replies.specs.Knowledge.{Knowledge}
+use Rattle.book_replies.specs.ReplyDataView.{ReplyDataView}
 use Rattle.book_sessions.specs.Answering.{Inputs}
-use Rattle.book_sessions.specs.Attendance.{Attendance, renewed, with_kept}
-use Rattle.book_sessions.specs.Roster.{Changes, Closes, IsAfterAll, IsOpenAt, Shuts, ShutsBy, Turns}
+use Rattle.book_sessions.specs.MemberView.{MemberView, renewed, with_kept}
+use Rattle.book_sessions.specs.Roster.{Changes, Closes, IsAfterAll, IsOpenAt, Shuts, ShutsBy, MemberTurns}
 use Rattle.book_sessions.specs.Spreading.{Spreads}
-use Rattle.book_units.specs.Changes.{EachUnit, Gains as UnitGains, Turns as UnitTurns, turned as turned_unit}
+use Rattle.book_units.specs.Changes.{EachUnit, UnitGains, UnitTurns, turned as turned_unit}
 use Rattle.book_units.specs.Samples.{samples_of}
 use Rattle.book_units.specs.Units.{UnitView, HasRoom, HasRoomAt, IsNew, all_of, carried_by, new_unit, since_turn}
 use Rattle.book_units.proofs.Given.{few, room}
 use Rattle.report_book.specs.BookView.{BookView, renewed_if, turned_if, units_turned_if}
-use Rattle.report_book.specs.Moves.{Adds, Earns, SessionEarns}
+use Rattle.report_book.specs.Moves.{BookAdds, Earns, SessionEarns}
 use Rattle.report_book.specs.Refusals.{RefusesOnly, device_fault, missing_session, session_fault}
-use Rattle.report_book.specs.Standing.{Holds, Over, SessionHolds, UnitHolds, history_of}
+use Rattle.report_book.specs.Standing.{BookHolds, FollowsReports, SessionHolds, UnitHolds, history_of}
 use Rattle.report_book.proofs.Adding.{added, earned, history_added}
 use Rattle.report_book.proofs.Changing.{after_all, no_fault, not_missing, passes, sessions_changed}
 use Rattle.report_book.proofs.Lists.{all_along}
@@ -40,15 +40,15 @@ use Rattle.report_book.proofs.Turning.{book_turned_if}
 
 -- entries came, behind a turn where one was due
 pub record Moved (exact turns : Bool) (old new : BookView) (entries : List Entry) (reports : List Report) : Type 0 where
-  pub holds : Holds new
-  pub adds : Adds exact (turned_if turns old) new entries reports
+  pub holds : BookHolds new
+  pub adds : BookAdds exact (turned_if turns old) new entries reports
   pub earns : Earns (turned_if turns old) new entries
 
-pub moved : (exact : Bool) (names : List (List ℕ)) (log next : Logged) (sessions members : List Attendance) (units kept others : List UnitView) (turns began : Bool) (first : ℕ) (entries : List Entry) (reports : List Report)
-    → Holds (record { names = names; log = log; sessions = sessions; units = units })
+pub moved : (exact : Bool) (names : List (List ℕ)) (log next : DeviceLogView) (sessions members : List MemberView) (units kept others : List UnitView) (turns began : Bool) (first : ℕ) (entries : List Entry) (reports : List Report)
+    → BookHolds (record { names = names; log = log; sessions = sessions; units = units })
     → began ≡ turns → first ≡ (log_turned_if turns log).length → kept ≡ units
     → LogHolds next → LogAdds (log_turned_if turns log) next entries reports
-    → (began ≡ true → AllZip Turns sessions (map renewed sessions))
+    → (began ≡ true → AllZip MemberTurns sessions (map renewed sessions))
     → (began ≡ true → EachUnit (λ _. UnitTurns) kept (map turned_unit kept))
     → AllZip (Spreads exact (line_for names) first reports) (renewed_if began sessions) members
     → EachUnit (λ u. UnitGains (samples_of u reports)) (units_turned_if began kept) others
@@ -73,13 +73,13 @@ marks_first : (policy : Policy) (closing : Option (ℕ × Close)) → last_place
 marks_first policy None = omega arith
 marks_first policy (Some closing) = omega arith
 
-after_begun : (turns : Bool) (b : BookView) → Holds b → IsAfterAll (log_turned_if turns b.log).length (renewed_if turns b.sessions)
+after_begun : (turns : Bool) (b : BookView) → BookHolds b → IsAfterAll (log_turned_if turns b.log).length (renewed_if turns b.sessions)
 after_begun true b held =
-    let P : Attendance → Type 0 = λ a. last_place 0 a.session.marks ≤ 0 in
+    let P : MemberView → Type 0 = λ a. last_place 0 a.session.marks ≤ 0 in
     All-map P renewed b.sessions (λ k d within. marks_first (get_or b.sessions k d).session.policy (get_or b.sessions k d).session.closing)
 after_begun false b held = after_all b held.log.some.0 held held.log.some.1
 
-pub after_if : (turns began : Bool) (first : ℕ) (b : BookView) → Holds b → began ≡ turns → first ≡ (log_turned_if turns b.log).length → IsAfterAll first (renewed_if began b.sessions)
+pub after_if : (turns began : Bool) (first : ℕ) (b : BookView) → BookHolds b → began ≡ turns → first ≡ (log_turned_if turns b.log).length → IsAfterAll first (renewed_if began b.sessions)
 after_if turns began first b held is first_is =
     let P : Bool → Type 0 = λ t. IsAfterAll first (renewed_if t b.sessions) in
     let F : ℕ → Type 0 = λ n. IsAfterAll n (renewed_if turns b.sessions) in
@@ -99,7 +99,7 @@ is_device b d x passed = ltb-true d (length b.names) (no_fault (nat_lt d (length
 
 pub is_session : (b : BookView) (s : ℕ) (x : Unit {0}) → RefusesOnly (session_fault b s) (Ok x) → s < length b.sessions
 is_session b s x passed =
-    ltb-true s (length b.sessions) (no_fault (nat_lt s (length b.sessions)) (is_some (option_and_then (λ (a : Attendance). a.session.closing) (slice_get b.sessions s))) (passes (session_fault b s) x passed)).0
+    ltb-true s (length b.sessions) (no_fault (nat_lt s (length b.sessions)) (is_some (option_and_then (λ (a : MemberView). a.session.closing) (slice_get b.sessions s))) (passes (session_fault b s) x passed)).0
 
 none_of : {X : Type 0} (o : Option X) → is_some o ≡ false → o ≡ None
 none_of None e = refl
@@ -107,85 +107,85 @@ none_of (Some x) e = absurd (cc)
 
 pub is_open_at : (b : BookView) (s : ℕ) (x : Unit {0}) → RefusesOnly (session_fault b s) (Ok x) → IsOpenAt s b.sessions
 is_open_at b s x passed = λ free.
-    let closings = λ (a : Attendance). a.session.closing in
+    let closings = λ (a : MemberView). a.session.closing in
     let parts = no_fault (nat_lt s (length b.sessions)) (is_some (option_and_then closings (slice_get b.sessions s))) (passes (session_fault b s) x passed) in
     let there = slice_get-get_or b.sessions s free (ltb-true s (length b.sessions) parts.0) in
     sym (ap (option_and_then closings) there) ∙ none_of (option_and_then closings (slice_get b.sessions s)) parts.1
 
-pub after_at : (b : BookView) (s place : ℕ) → Holds b → s < length b.sessions → place ≡ b.log.length → (free : Attendance) → last_place 0 (get_or b.sessions s free).session.marks ≤ place
+pub after_at : (b : BookView) (s place : ℕ) → BookHolds b → s < length b.sessions → place ≡ b.log.length → (free : MemberView) → last_place 0 (get_or b.sessions s free).session.marks ≤ place
 after_at b s place held within place_is = λ free.
     let F : ℕ → Type 0 = λ n. last_place 0 (get_or b.sessions s free).session.marks ≤ n in
     subst F (sym place_is) (after_all b held.log.some.0 held held.log.some.1 s free within)
 
-pub after_all_at : (b : BookView) (place : ℕ) → Holds b → place ≡ b.log.length → IsAfterAll place b.sessions
+pub after_all_at : (b : BookView) (place : ℕ) → BookHolds b → place ≡ b.log.length → IsAfterAll place b.sessions
 after_all_at b place held place_is =
     let F : ℕ → Type 0 = λ n. IsAfterAll n b.sessions in
     subst F (sym place_is) (after_all b held.log.some.0 held held.log.some.1)
 
 -- one session becomes another, of which it is known what it has over any history as long as the place
-pub one_changed : (R : Attendance → Attendance → Type 0) (b : BookView) (s place : ℕ) (members : List Attendance)
-    → ((history : List Report) (old next : Attendance) → length history ≡ place → R old next → SessionHolds b.names history old.session → SessionHolds b.names history next.session)
-    → Holds b → s < length b.sessions → place ≡ b.log.length → Changes s R b.sessions members
-    → Holds (record { names = b.names; log = b.log; sessions = members; units = b.units })
+pub one_changed : (R : MemberView → MemberView → Type 0) (b : BookView) (s place : ℕ) (members : List MemberView)
+    → ((history : List Report) (old next : MemberView) → length history ≡ place → R old next → SessionHolds b.names history old.session → SessionHolds b.names history next.session)
+    → BookHolds b → s < length b.sessions → place ≡ b.log.length → Changes s R b.sessions members
+    → BookHolds (record { names = b.names; log = b.log; sessions = members; units = b.units })
 one_changed R b s place members keeps held within place_is changes =
     sessions_changed b.names b.log b.sessions members b.units held (λ before stands all.
-    let P : Attendance → Type 0 = λ a. SessionHolds b.names (history_of b before) a.session in
+    let P : MemberView → Type 0 = λ a. SessionHolds b.names (history_of b before) a.session in
     let next = changes.0 in
-    let Q : List Attendance → Type 0 = λ l. All P l in
+    let Q : List MemberView → Type 0 = λ l. All P l in
     subst Q (sym changes.1) (All-set P b.sessions s next
     (keeps (history_of b before) (get_or b.sessions s next) next (sym (held.log.over before stands).places ∙ sym place_is) (changes.2 next) (all s next within)) all))
 
-pub closed_holds : (why : Close) (names : List (List ℕ)) (place : ℕ) (history : List Report) (old next : Attendance) → length history ≡ place → Closes place why old next
+pub closed_holds : (why : Close) (names : List (List ℕ)) (place : ℕ) (history : List Report) (old next : MemberView) → length history ≡ place → Closes place why old next
     → SessionHolds names history old.session → SessionHolds names history next.session
 closed_holds why names place history old next long closes held = (held.0, (closes.gains (line_for names) history held.0 long held.1).holding)
 
-pub heard_holds : (exact : Bool) (known : Knowledge) (place : ℕ) (piece : List ℕ) (names : List (List ℕ)) (history : List Report) (old next : Attendance) → length history ≡ place
+pub heard_holds : (exact : Bool) (known : ReplyDataView) (place : ℕ) (piece : List ℕ) (names : List (List ℕ)) (history : List Report) (old next : MemberView) → length history ≡ place
     → Inputs exact known names place piece old next → SessionHolds names history old.session → SessionHolds names history next.session
 heard_holds exact known place piece names history old next long inputs held = (_, (inputs.puts.gains (line_for names) history held.0 long held.1).holding)
 
-shut_by_holds : (c : Option (ℕ × Close)) (why : Close) (names : List (List ℕ)) (place : ℕ) (history : List Report) (old next : Attendance) → length history ≡ place → ShutsBy c place why old next
+shut_by_holds : (c : Option (ℕ × Close)) (why : Close) (names : List (List ℕ)) (place : ℕ) (history : List Report) (old next : MemberView) → length history ≡ place → ShutsBy c place why old next
     → SessionHolds names history old.session → SessionHolds names history next.session
 shut_by_holds None why names place history old next long shuts held = closed_holds why names place history old next long shuts held
-shut_by_holds (Some closing) why names place history old next long shuts held = let P : Attendance → Type 0 = λ a. SessionHolds names history a.session in subst P (sym shuts) held
+shut_by_holds (Some closing) why names place history old next long shuts held = let P : MemberView → Type 0 = λ a. SessionHolds names history a.session in subst P (sym shuts) held
 
-pub shut_all : (why : Close) (b : BookView) (place : ℕ) (members : List Attendance) → Holds b → place ≡ b.log.length → AllZip (Shuts place why) b.sessions members
-    → Holds (record { names = b.names; log = b.log; sessions = members; units = b.units })
+pub shut_all : (why : Close) (b : BookView) (place : ℕ) (members : List MemberView) → BookHolds b → place ≡ b.log.length → AllZip (Shuts place why) b.sessions members
+    → BookHolds (record { names = b.names; log = b.log; sessions = members; units = b.units })
 shut_all why b place members held place_is shuts =
     sessions_changed b.names b.log b.sessions members b.units held (λ before stands all.
-    let P : Attendance → Type 0 = λ a. SessionHolds b.names (history_of b before) a.session in
+    let P : MemberView → Type 0 = λ a. SessionHolds b.names (history_of b before) a.session in
     all_along P P (Shuts place why) (λ x y old shut. shut_by_holds x.session.closing why b.names place (history_of b before) x y (sym (held.log.over before stands).places ∙ sym place_is) shut old)
     b.sessions members all shuts)
 
-pub one_more : (b : BookView) (place : ℕ) (a : Attendance) (stretches : List Stretch) (members : List Attendance) → Holds b → place ≡ b.log.length
+pub one_more : (b : BookView) (place : ℕ) (a : MemberView) (stretches : List Stretch) (members : List MemberView) → BookHolds b → place ≡ b.log.length
     → ((lines : Policy → Report → List (List ℕ)) (history : List Report) → length history ≡ place → Holding lines history a.session stretches)
     → members ≡ b.sessions ++ a ∷ []
-    → Holds (record { names = b.names; log = b.log; sessions = members; units = b.units })
+    → BookHolds (record { names = b.names; log = b.log; sessions = members; units = b.units })
 one_more b place a stretches members held place_is opens is =
     sessions_changed b.names b.log b.sessions members b.units held (λ before stands all.
-    let P : Attendance → Type 0 = λ x. SessionHolds b.names (history_of b before) x.session in
-    let Q : List Attendance → Type 0 = λ l. All P l in
+    let P : MemberView → Type 0 = λ x. SessionHolds b.names (history_of b before) x.session in
+    let Q : List MemberView → Type 0 = λ l. All P l in
     subst Q (sym is) (All-push P b.sessions a all (stretches, opens (line_for b.names) (history_of b before) (sym (held.log.over before stands).places ∙ sym place_is))))
 
-pub taken_holds : (names : List (List ℕ)) (place : ℕ) (history : List Report) (old next : Attendance) → length history ≡ place → next ≡ with_kept (drop 1 old.session.kept) old
+pub taken_holds : (names : List (List ℕ)) (place : ℕ) (history : List Report) (old next : MemberView) → length history ≡ place → next ≡ with_kept (drop 1 old.session.kept) old
     → SessionHolds names history old.session → SessionHolds names history next.session
 taken_holds names place history old next long is held =
-    let P : Attendance → Type 0 = λ a. SessionHolds names history a.session in
+    let P : MemberView → Type 0 = λ a. SessionHolds names history a.session in
     subst P (sym is) (held.0, taken (line_for names) history old.session held.0 held.1)
 
 pub is_there : (b : BookView) (s : ℕ) (x : Unit {0}) → RefusesOnly (missing_session b s) (Ok x) → s < length b.sessions
 is_there b s x passed = ltb-true s (length b.sessions) (not_missing (nat_lt s (length b.sessions)) (passes (missing_session b s) x passed))
 
 -- entries that give no report change nothing else
-pub quiet : (names : List (List ℕ)) (log next : Logged) (sessions : List Attendance) (units : List UnitView) (entries : List Entry)
-    → Holds (record { names = names; log = log; sessions = sessions; units = units }) → LogHolds next → LogAdds log next entries []
-    → Holds (record { names = names; log = next; sessions = sessions; units = units }) × Earns (record { names = names; log = log; sessions = sessions; units = units }) (record { names = names; log = next; sessions = sessions; units = units }) entries
+pub quiet : (names : List (List ℕ)) (log next : DeviceLogView) (sessions : List MemberView) (units : List UnitView) (entries : List Entry)
+    → BookHolds (record { names = names; log = log; sessions = sessions; units = units }) → LogHolds next → LogAdds log next entries []
+    → BookHolds (record { names = names; log = next; sessions = sessions; units = units }) × Earns (record { names = names; log = log; sessions = sessions; units = units }) (record { names = names; log = next; sessions = sessions; units = units }) entries
 quiet names log next sessions units entries held holds adds =
     let same : (before : List Entry) → StandsFor log.opening before → history_after before log.log ≡ history_after before next.log =
     λ before stands. sym (append-nil (history_after before log.log)) ∙ sym (history_added log next entries [] before adds stands) in (
       record {
         log = holds;
         over = λ before stands.
-            let P : List Report → Type 0 = λ r. Over (record { names = names; log = next; sessions = sessions; units = units }) r in
+            let P : List Report → Type 0 = λ r. FollowsReports (record { names = names; log = next; sessions = sessions; units = units }) r in
             let was : StandsFor log.opening before = subst (λ s. StandsFor s before) adds.opening stands in
             subst P (same before was) (record { sessions = (held.over before was).sessions; units = (held.over before was).units });
         names = held.names ∙ sym adds.count;
@@ -195,7 +195,7 @@ quiet names log next sessions units entries held holds adds =
       record {
         sessions = λ before stands s free within stretches holding.
             let a = (get_or sessions s free).session in
-            let P : List Report → Type 0 = λ r. Gains (line_for names) (history_after before log.log) r a a stretches stretches [] in
+            let P : List Report → Type 0 = λ r. SessionGains (line_for names) (history_after before log.log) r a a stretches stretches [] in
             ([], subst P (same before stands) (record { kept = sym (append-nil a.kept); items = sym (append-nil _); holding = holding }));
         units = λ before stands u free within.
             sym (append-nil (all_of (get_or units u free))) ∙ ap (λ r. all_of (get_or units u free) ++ samples_of u r) (sym (adds.reports_are before stands));
@@ -215,15 +215,15 @@ new_at (first ∷ firsts) [] new u free within = absurd new
 new_at (first ∷ firsts) (x ∷ units) new zero free within = (first, new.0)
 new_at (first ∷ firsts) (x ∷ units) new (suc u) free within = new_at firsts units new.1 u free (omega arith)
 
-pub new_holds : (names : List (List ℕ)) (log : Logged) (limit : ℕ) (firsts : List ℕ) (units : List UnitView) → IsFresh (length names) limit log → LogHolds log → length names ≤ 8
+pub new_holds : (names : List (List ℕ)) (log : DeviceLogView) (limit : ℕ) (firsts : List ℕ) (units : List UnitView) → IsFresh (length names) limit log → LogHolds log → length names ≤ 8
     → AllZip IsNew (take (2 * length names) firsts) units → length units ≡ 2 * length names
-    → Holds (record { names = names; log = log; sessions = []; units = units })
+    → BookHolds (record { names = names; log = log; sessions = []; units = units })
 unfolding history_after
 new_holds names log limit firsts units fresh holds short new count =
     record {
       log = holds;
       over = λ before stands.
-          let P : List Entry → Type 0 = λ l. Over (record { names = names; log = log; sessions = []; units = units }) (history_after before l) in
+          let P : List Entry → Type 0 = λ l. FollowsReports (record { names = names; log = log; sessions = []; units = units }) (history_after before l) in
           subst P (sym fresh.log) (record {
             sessions = λ k d within. absurd (omega arith);
             units = λ u free within.

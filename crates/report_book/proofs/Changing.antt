@@ -6,21 +6,21 @@ use Rattle.std.proofs.lemmas.List.Elements.{All-set, All-push}
 use Rattle.gps_report.specs.declared.report.Report.{Report}
 use Rattle.session_core.specs.declared.mark.Close.{Close}
 use Rattle.session_core.specs.Holding.{Holding}
-use Rattle.session_core.specs.Shown.{Shown, last_place}
+use Rattle.session_core.specs.SessionView.{SessionView, last_place}
 use Rattle.session_core.specs.Stretches.{Stretch, AreInOrder, end_of, mark_of, next_place}
 use Rattle.book_batch.specs.Lines.{line_for}
 use Rattle.book_log.specs.Entries.{Entry}
 use Rattle.book_log.specs.History.{history_after}
-use Rattle.book_log.specs.Logged.{Logged}
+use Rattle.book_log.specs.DeviceLogView.{DeviceLogView}
 use Rattle.book_log.specs.Standing.{StandsFor}
-use Rattle.book_sessions.specs.Attendance.{Attendance}
+use Rattle.book_sessions.specs.MemberView.{MemberView}
 use Rattle.book_sessions.specs.Roster.{IsAfterAll}
 use Rattle.book_units.specs.Units.{UnitView}
 use Rattle.report_book.specs.declared.fault.BookFault.{BookFault}
 use Rattle.report_book.specs.declared.fault.BookFault.TheVariants.{NoSuch, Ended}
 use Rattle.report_book.specs.BookView.{BookView}
 use Rattle.report_book.specs.Refusals.{RefusesOnly, fault_of, missing}
-use Rattle.report_book.specs.Standing.{Holds, Over, SessionHolds, history_of}
+use Rattle.report_book.specs.Standing.{BookHolds, FollowsReports, SessionHolds, history_of}
 
 -- no mark stands behind the history's end
 next_within : (end : ℕ) (stretches : List Stretch) → AreInOrder end stretches → next_place end stretches ≤ end
@@ -32,7 +32,7 @@ places_within end place [] order within = within
 places_within end place (stretch ∷ more) order within =
     places_within end stretch.place more order.1 (let rest = next_within end more order.1 in let first = order.0 in omega arith)
 
-pub after_history : (names : List (List ℕ)) (history : List Report) (s : Shown) → SessionHolds names history s → last_place 0 s.marks ≤ length history
+pub after_history : (names : List (List ℕ)) (history : List Report) (s : SessionView) → SessionHolds names history s → last_place 0 s.marks ≤ length history
 after_history names history s held =
     let agrees = held.1.agrees in
     let P : List _ → Type 0 = λ marks. last_place 0 marks ≤ length history in
@@ -40,18 +40,18 @@ after_history names history s held =
     let low = places_within (end_of s.closing history) 0 held.0 agrees.order (omega arith) in
     subst P agrees.marks (omega arith)
 
-pub after_all : (b : BookView) (before : List Entry) → Holds b → StandsFor b.log.opening before → IsAfterAll b.log.length b.sessions
+pub after_all : (b : BookView) (before : List Entry) → BookHolds b → StandsFor b.log.opening before → IsAfterAll b.log.length b.sessions
 after_all b before held stands =
     let P : ℕ → Type 0 = λ n. IsAfterAll n b.sessions in
     subst P (sym (held.log.over before stands).places)
     (λ k d within. after_history b.names (history_of b before) (get_or b.sessions k d).session ((held.over before stands).sessions k d within))
 
 -- the sessions alone have changed
-pub sessions_changed : (names : List (List ℕ)) (log : Logged) (sessions members : List Attendance) (units : List UnitView)
-    → Holds (record { names = names; log = log; sessions = sessions; units = units })
+pub sessions_changed : (names : List (List ℕ)) (log : DeviceLogView) (sessions members : List MemberView) (units : List UnitView)
+    → BookHolds (record { names = names; log = log; sessions = sessions; units = units })
     → ((before : List Entry) → StandsFor log.opening before → All (λ a. SessionHolds names (history_after before log.log) a.session) sessions
     → All (λ a. SessionHolds names (history_after before log.log) a.session) members)
-    → Holds (record { names = names; log = log; sessions = members; units = units })
+    → BookHolds (record { names = names; log = log; sessions = members; units = units })
 sessions_changed names log sessions members units held change = record {
   log = held.log;
   over = λ before stands. record { sessions = change before stands (held.over before stands).sessions; units = (held.over before stands).units };

@@ -13,10 +13,10 @@ use Rattle.gps_report.specs.declared.report.Report.{Report}
 use Rattle.json_line.specs.Lines.{is_tpv, is_sky}
 use Rattle.book_log.specs.Entries.{Entry}
 use Rattle.book_log.specs.History.{active, history}
-use Rattle.book_log.specs.Logged.{Logged, Holds}
+use Rattle.book_log.specs.DeviceLogView.{DeviceLogView, LogHolds}
 use Rattle.book_log.specs.Readings.{last_fix, last_sky, last_stamp}
 use Rattle.book_log.specs.Standing.{StandsFor}
-use Rattle.book_replies.specs.Knowledge.{AreOfDevices, Knowledge}
+use Rattle.book_replies.specs.ReplyDataView.{AreOfDevices, ReplyDataView}
 use Rattle.report_book.specs.Knowing.{AreRead, fix_of, fix_reports, known_in, sky_of, sky_reports}
 
 pub none_read : (log : List Entry) → AreRead 0 log [] [] []
@@ -78,7 +78,7 @@ pub record Fit (count : ℕ) (firsts : List (Option Moment)) (fixes skies : List
   pub skies_named : AreOfDevices (length firsts) skies
   pub long : length firsts ≡ count
 
-pub all_fit : (log : Logged) (n : ℕ) (firsts : List (Option Moment)) (fixes skies : List Report) → Holds log
+pub all_fit : (log : DeviceLogView) (n : ℕ) (firsts : List (Option Moment)) (fixes skies : List Report) → LogHolds log
     → ((before : List Entry) → StandsFor log.opening before → AreRead n (before ++ log.log) firsts fixes skies) → Fit n firsts fixes skies
 all_fit log n firsts fixes skies holds read =
     let before = holds.some.0 in
@@ -97,7 +97,7 @@ all_fit log n firsts fixes skies holds read =
       long = long;
     }
 
-pub read_known : (count : ℕ) (log : List Entry) (known : Knowledge) → AreRead count log known.firsts known.fixes known.skies → known.last ≡ last_stamp log → known ≡ known_in count log
+pub read_known : (count : ℕ) (log : List Entry) (known : ReplyDataView) → AreRead count log known.firsts known.fixes known.skies → known.last ≡ last_stamp log → known ≡ known_in count log
 read_known count log known read last =
     let P : List (Option Moment) → Type 0 = λ f. record { firsts = f; last = known.last; fixes = known.fixes; skies = known.skies } ≡ known_in count log in
     subst P (sym read.firsts_are)

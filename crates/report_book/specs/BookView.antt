@@ -1,17 +1,17 @@
--- What contracts see of a book: the names of its devices, what came of them, its sessions by number, and its units. This project's own.
+-- What contracts see of a book: the names of its devices, what came of them, its sessions by number, and its units.
 use Rattle.std.specs.Prelude.{ℕ, Bool, List, cond, map}
-use Rattle.book_log.specs.Logged.{Logged, turned_if as log_turned_if}
-use Rattle.book_sessions.specs.Attendance.{Attendance, renewed}
+use Rattle.book_log.specs.DeviceLogView.{DeviceLogView, turned_if as log_turned_if}
+use Rattle.book_sessions.specs.MemberView.{MemberView, renewed}
 use Rattle.book_units.specs.Changes.{turned as turned_unit}
 use Rattle.book_units.specs.Units.{UnitView}
 
 pub record BookView : Type 0 where
   pub names : List (List ℕ)
-  pub log : Logged
-  pub sessions : List Attendance
+  pub log : DeviceLogView
+  pub sessions : List MemberView
   pub units : List UnitView
 
-abbrev pub renewed_if : Bool → List Attendance → List Attendance
+abbrev pub renewed_if : Bool → List MemberView → List MemberView
 renewed_if turns sessions = cond turns (map renewed sessions) sessions
 
 abbrev pub units_turned_if : Bool → List UnitView → List UnitView

@@ -1,4 +1,4 @@
--- A refused admission as a refusal of the book. This project's own.
+-- A refused admission as a refusal of the book.
 use Rattle.book_sessions.specs.declared.roster.AdmitFault.{AdmitFault}
 use Rattle.book_sessions.specs.declared.roster.AdmitFault.TheVariants as admit
 use Rattle.report_book.specs.declared.fault.BookFault.{BookFault}

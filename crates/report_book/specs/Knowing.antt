@@ -1,5 +1,5 @@
 -- What replies show of the devices, by a whole log: of each active device the stamp of its first byte, its last fix and its last sky, and the
--- stamp of the last byte of any device. This project's own.
+-- stamp of the last byte of any device.
 use Rattle.std.specs.Prelude.{◌≡◌, ℕ, Bool, List, [], ◌∷◌, Option, Some, None, map, option_map, is_some, cond}
 use Rattle.std.specs.List.{flat_map, range_with_len}
 use Rattle.std.specs.Option.{option_to_list}
@@ -11,7 +11,7 @@ use Rattle.gps_report.specs.declared.report.Report.{Report}
 use Rattle.book_log.specs.Entries.{Entry}
 use Rattle.book_log.specs.History.{active, history}
 use Rattle.book_log.specs.Readings.{last_fix, last_sky, last_stamp}
-use Rattle.book_replies.specs.Knowledge.{Knowledge}
+use Rattle.book_replies.specs.ReplyDataView.{ReplyDataView}
 
 -- the last fix of device d, where it is active
 abbrev pub fix_reports : ℕ → Bool → Option Fix → List Report
@@ -27,7 +27,7 @@ abbrev pub sky_of : List Entry → ℕ → List Report
 sky_of log d = sky_reports d (is_some (active d log)) (last_sky d (history log))
 
 -- of so many devices
-abbrev pub known_in : ℕ → List Entry → Knowledge
+abbrev pub known_in : ℕ → List Entry → ReplyDataView
 known_in count log = record {
   firsts = map (λ d. active d log) (range_with_len 0 count);
   last = last_stamp log;

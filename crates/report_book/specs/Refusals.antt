@@ -1,6 +1,6 @@
--- Why a book refuses a call: exactly by its numbers, in this order, and last for want of memory. This project's own.
+-- Why a book refuses a call: exactly by its numbers, in this order, and last for want of memory.
 use Rattle.std.specs.Prelude.{◌≡◌, ◌*◌, ℕ, Bool, true, cond, List, length, get_or, slice_get, nat_lt, nat_eq, ◌||◌, Option, Some, None, option_and_then, is_some, Result, Err, IfErr, IsOk}
-use Rattle.book_log.specs.Logged.{stopped_of}
+use Rattle.book_log.specs.DeviceLogView.{stopped_of}
 use Rattle.book_sessions.specs.Roster.{live_in, most_live, most_opened}
 use Rattle.report_book.specs.declared.fault.BookFault.{BookFault}
 use Rattle.report_book.specs.declared.fault.BookFault.TheVariants.{NoSuch, Ended, TooManySessions, NoMemory}

@@ -5,21 +5,21 @@ ghost use Rattle.std.specs.Option.{option_to_list};
 ghost use Rattle.session_core.specs.declared.mark.Close.{Close as CloseValue};
 ghost use Rattle.shm_segment.specs.Publishing.{noticed};
 ghost use Rattle.book_log.specs.Entries.{edged, ended, fed, lost};
-ghost use Rattle.book_log.specs.Logged.{turns_at};
+ghost use Rattle.book_log.specs.DeviceLogView.{turns_at};
 ghost use Rattle.book_log.specs.Standing.{has_stopped};
 ghost use Rattle.book_batch.specs.Lines.{line_for};
 ghost use Rattle.book_batch.specs.Sharing.{AreNamed, SharesLines, shares_of};
-ghost use Rattle.book_sessions.specs.Attendance.{Attendance, renewed};
-ghost use Rattle.book_sessions.specs.Roster.{IsAfterAll, Turns, listening_in, live_in, was_watched};
+ghost use Rattle.book_sessions.specs.MemberView.{MemberView, renewed};
+ghost use Rattle.book_sessions.specs.Roster.{IsAfterAll, MemberTurns, listening_in, live_in, was_watched};
 ghost use Rattle.book_sessions.specs.Spreading.{Spreads};
-ghost use Rattle.book_units.specs.Changes.{EachUnit, Gains as UnitGains, Turns as UnitTurns, turned as turned_unit};
+ghost use Rattle.book_units.specs.Changes.{EachUnit, UnitGains, UnitTurns, turned as turned_unit};
 ghost use Rattle.book_units.specs.Samples.{samples_of};
 ghost use Rattle.book_units.specs.Steps.{BearsOut, state_of};
 ghost use Rattle.book_units.specs.Units.{UnitView, HasRoom, IsInOrder, IsUnit, segment_of};
 ghost use Rattle.report_book.specs.BookView.{renewed_if, turned_if, units_turned_if};
-ghost use Rattle.report_book.specs.Moves.{AddsQuietly, Admits, Earns, HangsUp, Hears, IsNewBook, Moves, PublishesAt, ShutsAll, TakesFirst};
+ghost use Rattle.report_book.specs.Moves.{AddsQuietly, Admits, Earns, HangsUp, AnswersRequests, IsNewBook, Moves, PublishesAt, ShutsAll, TakesFirst};
 ghost use Rattle.report_book.specs.Refusals.{RefusesAs, RefusesOnly, RefusesWith, crowd_fault, device_fault, missing_session, missing_unit, session_fault};
-ghost use Rattle.report_book.specs.Standing.{Holds};
+ghost use Rattle.report_book.specs.Standing.{BookHolds};
 
 use crate::fault::BookFault;
 use crate::knowing::known;
@@ -53,19 +53,19 @@ pub struct Book<O: Outlet> {
 
 impl<O: Outlet> Model for Book<O> {
     ghost use Rattle.report_book.specs.BookView.{BookView};
-    ghost use Rattle.report_book.specs.Standing.{Holds};
+    ghost use Rattle.report_book.specs.Standing.{BookHolds};
 
     ghost Value = { BookView };
 
     ghost view = { λ b. record { names = b.names; log = b.log; sessions = b.roster; units = b.units.units } };
 
-    ghost invariant = { λ b. Holds (record { names = b.names; log = b.log; sessions = b.roster; units = b.units.units }) };
+    ghost invariant = { λ b. BookHolds (record { names = b.names; log = b.log; sessions = b.roster; units = b.units.units }) };
 }
 
 /// Begins a new generation of the sessions and the units, where one is due. Takes no memory.
 fn turn_if<O: Outlet>(turns: bool, roster: &mut Roster<O>, units: &mut Units)
     ensures sessions { roster.new ≡ renewed_if turns roster.old }
-    ensures turned { turns ≡ true → AllZip Turns roster.old (map renewed roster.old) }
+    ensures turned { turns ≡ true → AllZip MemberTurns roster.old (map renewed roster.old) }
     ensures units { units.new.units ≡ units_turned_if turns units.old.units }
     ensures carried { turns ≡ true → EachUnit (λ _. UnitTurns) units.old.units (map turned_unit units.old.units) }
     ensures room { units.new.spare ≡ units.old.spare }
@@ -84,7 +84,7 @@ fn put<O: Outlet>(roster: &mut Roster<O>, units: &mut Units, names: &Names, adde
     requires named { AreNamed names.now added.batch.reports }
     requires lines { SharesLines names.now added.batch }
     requires room { HasRoom units.old.spare added.batch.reports }
-    ensures turned { added.turned ≡ true → AllZip Turns roster.old (map renewed roster.old) }
+    ensures turned { added.turned ≡ true → AllZip MemberTurns roster.old (map renewed roster.old) }
     ensures carried { added.turned ≡ true → EachUnit (λ _. UnitTurns) units.old.units (map turned_unit units.old.units) }
     ensures sessions { AllZip (Spreads O.exact (line_for names.now) added.first added.batch.reports) (renewed_if added.turned roster.old) roster.new }
     ensures units { EachUnit (λ u. UnitGains (samples_of u added.batch.reports)) (units_turned_if added.turned units.old.units) units.new.units }
@@ -112,7 +112,7 @@ impl<O: Outlet> Book<O> {
         requires most { limit ≤ 33554432 }
         requires firsts { All (λ first. first ≤ 1073741823) firsts }
         ensures new { IfOk result (λ b. IsNewBook names limit firsts b) }
-        ensures holds { IfOk result Holds }
+        ensures holds { IfOk result BookHolds }
     {
         let devices = names.len() as u8;
         let log = DeviceLog::new(alloc, devices, limit)?;
@@ -251,7 +251,7 @@ impl<O: Outlet> Book<O> {
     pub fn input(&mut self, s: u32, piece: &[u8]) -> Result<(), BookFault>
         requires some { 1 ≤ length piece.now }
         requires piece { length piece.now ≤ 512 }
-        ensures hears { OnOk result (Hears O.exact s piece.now self.old self.new) }
+        ensures hears { OnOk result (AnswersRequests O.exact s piece.now self.old self.new) }
         ensures refusal { RefusesAs (session_fault self.old s) result }
         ensures unchanged { OnErr result (self.new ≡ self.old) }
     {
@@ -296,7 +296,8 @@ impl<O: Outlet> Book<O> {
 
     /// A unit's segment, and a seat for a monitor of it.
     pub fn monitor_seat(&mut self, u: u8) -> Result<(Arc<Segment>, MonitorSeat), BookFault>
-        ensures part { IfOk result (λ r. (free : UnitView) → (arc_value r.0 ≡ segment_of (get_or self.old.units u free)) × (r.1 ≡ segment_of (get_or self.old.units u free))) }
+        ensures part { IfOk result (λ r. (free : UnitView) → (arc_value r.0 ≡ segment_of (get_or self.old.units u free))
+            × (r.1 ≡ segment_of (get_or self.old.units u free))) }
         ensures refusal { RefusesAs (missing_unit self.old u) result }
         ensures unchanged { self.new ≡ self.old }
     {
@@ -397,7 +398,7 @@ impl<O: Outlet> Book<O> {
     /// What always holds of a book. Of each unit the samples since the last turn are the published ones, and then those that are
     /// left, in order.
     pub fn show(&self)
-        ensures holds { Holds self.now }
+        ensures holds { BookHolds self.now }
         ensures order { All IsInOrder self.now.units }
         ensures units { All IsUnit self.now.units }
     {
@@ -408,7 +409,7 @@ impl<O: Outlet> Book<O> {
 impl Book<PlainOutlet> {
     /// The item that was put first of those that a session's outlet holds; none exactly where it holds nothing. Takes no memory.
     pub fn take(&mut self, s: u32) -> Result<Option<Item>, BookFault>
-        ensures item { IfOk result (λ item. (free : Attendance) → item ≡ slice_get (get_or self.old.sessions s free).session.kept 0) }
+        ensures item { IfOk result (λ item. (free : MemberView) → item ≡ slice_get (get_or self.old.sessions s free).session.kept 0) }
         ensures takes { OnOk result (TakesFirst s self.old self.new) }
         ensures refusal { RefusesOnly (missing_session self.old s) result }
         ensures unchanged { OnErr result (self.new ≡ self.old) }
@@ -423,10 +424,10 @@ impl<O: TwoEnded> Book<O> {
     /// Takes one item at the far end of a session's outlet and hands it on: what the far end has got begins what the outlet keeps, and is
     /// all of it where there was none. Takes no memory.
     pub fn settle(&mut self, s: u32, far: &mut O::Far) -> Result<Option<Item>, BookFault>
-        requires { s < length self.old.sessions → (free : Attendance) → O.belongs (O.far_name far.old) (get_or self.old.sessions s free).session.name }
+        requires { s < length self.old.sessions → (free : MemberView) → O.belongs (O.far_name far.old) (get_or self.old.sessions s free).session.name }
         ensures got { IfOk result (λ item. O.got far.new ≡ O.got far.old ++ option_to_list item) }
-        ensures prefix { OnOk result ((free : Attendance) → (rest : List (List ℕ)) × ((get_or self.new.sessions s free).session.kept ≡ O.got far.new ++ rest)) }
-        ensures all { IfOk result (λ item. IfNone item ((free : Attendance) → O.got far.new ≡ (get_or self.new.sessions s free).session.kept)) }
+        ensures prefix { OnOk result ((free : MemberView) → (rest : List (List ℕ)) × ((get_or self.new.sessions s free).session.kept ≡ O.got far.new ++ rest)) }
+        ensures all { IfOk result (λ item. IfNone item ((free : MemberView) → O.got far.new ≡ (get_or self.new.sessions s free).session.kept)) }
         ensures far_name { O.far_name far.new ≡ O.far_name far.old }
         ensures refusal { RefusesOnly (missing_session self.old s) result }
         ensures unchanged { self.new ≡ self.old }

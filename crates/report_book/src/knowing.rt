@@ -1,12 +1,12 @@
 ghost use Rattle.std.specs.Prelude.{◌≡◌, ◌++◌, List, IfOk, OnOk, length};
 ghost use Rattle.std.specs.Option.{option_copied};
 ghost use Rattle.book_log.specs.Entries.{Entry};
-ghost use Rattle.book_log.specs.Logged.{Holds};
+ghost use Rattle.book_log.specs.DeviceLogView.{LogHolds};
 ghost use Rattle.book_log.specs.Standing.{StandsFor};
 ghost use Rattle.report_book.specs.Knowing.{fix_reports, known_in, sky_reports};
 
 use book_log::DeviceLog;
-use book_replies::Known;
+use book_replies::ReplyData;
 use gps_fixed::NoMemory;
 use gps_report::{Body, Fix, Names, Report, Sky};
 use std::alloc::Global;
@@ -49,9 +49,9 @@ fn push_sky(
 
 /// What replies show of the devices now.
 #[tactic(auto, using(crate::proofs::Reading::none_read, crate::proofs::Reading::one_more_read))]
-pub fn known(alloc: Global, log: &DeviceLog, names: &Names) -> Result<Known, NoMemory>
+pub fn known(alloc: Global, log: &DeviceLog, names: &Names) -> Result<ReplyData, NoMemory>
     requires named { length names.now ≡ length log.now.present.lines }
-    requires holds { Holds log.now }
+    requires holds { LogHolds log.now }
     ensures known { IfOk result (λ known. (before : List Entry) → StandsFor log.now.opening before
         → known ≡ known_in (length names.now) (before ++ log.now.log)) }
     ensures count { IfOk result (λ known. length known.firsts ≡ length names.now) }
@@ -66,5 +66,5 @@ pub fn known(alloc: Global, log: &DeviceLog, names: &Names) -> Result<Known, NoM
         push_fix(&mut fixes, device, is_active, log.last_fix(device))?;
         push_sky(&mut skies, device, is_active, log.last_sky(device))?;
     }
-    Ok(Known::of(firsts, log.last_stamp(), fixes, skies))
+    Ok(ReplyData::of(firsts, log.last_stamp(), fixes, skies))
 }

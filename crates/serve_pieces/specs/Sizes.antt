@@ -1,4 +1,4 @@
--- How many bytes a piece may have. This project's own.
+-- How many bytes a piece may have.
 use Rattle.std.specs.Prelude.{ℕ, ◌≤◌, List, length}
 
 -- what one read may give

@@ -4,7 +4,7 @@ use Rattle.std.proofs.lemmas.List.{map-append}
 use Rattle.std.specs.Arc.{arc_value}
 use Rattle.book_units.specs.Units.{UnitView, segment_of}
 use Rattle.shm_segment.specs.Seats.{SegmentId}
-use Rattle.serve_threads.specs.declared.monitors.Watcher.{Watcher}
+use Rattle.serve_threads.specs.declared.monitors.MonitorStart.{MonitorStart}
 use Rattle.serve_threads.specs.Segments.{segments_of}
 
 pub no_segment : (units : List UnitView) → segments_of [] ≡ take 0 (map segment_of units)
@@ -24,11 +24,11 @@ there_if view [] u o is some = let no : false ≡ true = subst (λ (p : Option _
 there_if view (unit ∷ units) zero o is some = omega arith
 there_if view (unit ∷ units) (suc u) o is some = let h = there_if view units u o is some in omega arith
 
-pub one_segment : (watchers : List Watcher) (watcher : Watcher) (units : List UnitView) (u : ℕ) → segments_of watchers ≡ take u (map segment_of units) → u < length units
+pub one_segment : (watchers : List MonitorStart) (watcher : MonitorStart) (units : List UnitView) (u : ℕ) → segments_of watchers ≡ take u (map segment_of units) → u < length units
     → ((free : UnitView) → arc_value watcher.segment ≡ segment_of (get_or units u free))
     → segments_of (watchers ++ watcher ∷ []) ≡ take (u + 1) (map segment_of units)
 one_segment watchers watcher units u so there is =
-    map-append (λ (w : Watcher). arc_value w.segment) watchers (watcher ∷ []) ∙ ap (λ l. l ++ arc_value watcher.segment ∷ []) so
+    map-append (λ (w : MonitorStart). arc_value w.segment) watchers (watcher ∷ []) ∙ ap (λ l. l ++ arc_value watcher.segment ∷ []) so
     ∙ next units u (arc_value watcher.segment) there is ∙ ap (λ k. take k (map segment_of units)) (one_more u)
 
 all_taken : (units : List UnitView) (u : ℕ) → length units ≤ u → take u (map segment_of units) ≡ map segment_of units
@@ -43,10 +43,10 @@ none_there view (unit ∷ units) zero is = absurd cc
 none_there view (unit ∷ units) (suc u) is = let h = none_there view units u is in omega arith
 
 -- behind the last unit
-pub no_unit : {X : Type 0} (view : UnitView → X) (watchers : List Watcher) (units : List UnitView) (u : ℕ) → segments_of watchers ≡ take u (map segment_of units)
+pub no_unit : {X : Type 0} (view : UnitView → X) (watchers : List MonitorStart) (units : List UnitView) (u : ℕ) → segments_of watchers ≡ take u (map segment_of units)
     → option_map view (slice_get units u) ≡ None → segments_of watchers ≡ map segment_of units
 no_unit view watchers units u so none = so ∙ all_taken units u (none_there view units u none)
 
-pub last_unit : (watchers : List Watcher) (units : List UnitView) (u : ℕ) → segments_of watchers ≡ take u (map segment_of units) → length units ≤ u
+pub last_unit : (watchers : List MonitorStart) (units : List UnitView) (u : ℕ) → segments_of watchers ≡ take u (map segment_of units) → length units ≤ u
     → segments_of watchers ≡ map segment_of units
 last_unit watchers units u so few = so ∙ all_taken units u few

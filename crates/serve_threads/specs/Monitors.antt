@@ -1,12 +1,12 @@
--- What a unit's monitor did. This project's own.
+-- What a unit's monitor did.
 use Rattle.std.specs.Prelude.{◌≡◌, ℕ, ◌*◌, ◌≤◌, Bool, true, List, length}
 use Rattle.shm_segment.specs.declared.view.Numbered.{Numbered}
 use Rattle.shm_segment.specs.Seats.{SegmentId}
-use Rattle.shm_monitor.specs.Watching.{Watching}
+use Rattle.shm_monitor.specs.MonitorView.{MonitorView}
 use Rattle.serve_workers.specs.Watching.{Climbs, IsBeginning, each_once}
 
 -- It kept the pairs that it took with a new number, and made all its readings where it says so.
-pub record Watched (segment : SegmentId) (tries : ℕ) (whole : Bool) (monitor : Watching) (taken : List Numbered) : Type 0 where
+pub record MonitorRan (segment : SegmentId) (tries : ℕ) (whole : Bool) (monitor : MonitorView) (taken : List Numbered) : Type 0 where
   pub segment_is : monitor.segment ≡ segment
   pub first : IsBeginning taken (each_once monitor.taken)
   pub climbs : Climbs taken

@@ -1,4 +1,4 @@
--- What a reader did from its start to its end. This project's own.
+-- What a reader did from its start to its end.
 use Rattle.std.specs.Prelude.{◌≡◌, ℕ, ◌≤◌, List, Option, Some}
 use Rattle.gps_lane.specs.Ends.{Putting}
 use Rattle.gps_outside.specs.Counts.{Rose, Tally}

@@ -1,8 +1,8 @@
--- The segments that monitors read. This project's own.
+-- The segments that monitors read.
 use Rattle.std.specs.Prelude.{List, map}
 use Rattle.std.specs.Arc.{arc_value}
 use Rattle.shm_segment.specs.Seats.{SegmentId}
-use Rattle.serve_threads.specs.declared.monitors.Watcher.{Watcher}
+use Rattle.serve_threads.specs.declared.monitors.MonitorStart.{MonitorStart}
 
-abbrev pub segments_of : List Watcher → List SegmentId
-segments_of watchers = map (λ (w : Watcher). arc_value w.segment) watchers
+abbrev pub segments_of : List MonitorStart → List SegmentId
+segments_of watchers = map (λ (w : MonitorStart). arc_value w.segment) watchers

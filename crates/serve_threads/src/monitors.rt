@@ -1,13 +1,13 @@
 ghost use Rattle.std.specs.Prelude.{◌≡◌, ◌≤◌, [], length, map, IfOk};
 ghost use Rattle.std.specs.Arc.{arc_value};
 ghost use Rattle.book_units.specs.Units.{segment_of};
-ghost use Rattle.serve_threads.specs.Monitors.{Watched};
+ghost use Rattle.serve_threads.specs.Monitors.{MonitorRan};
 
 use crate::work::{Work, start};
 use gps_fixed::NoMemory;
 use gps_lane::{Bell, Tx};
 use report_book::Book;
-use serve_workers::watch;
+use serve_workers::run_monitor;
 use session_core::Item;
 use shm_monitor::{Monitor, Numbered};
 use shm_segment::Segment;
@@ -21,7 +21,7 @@ const UNITS: u8 = 16;
 
 /// A unit's monitor, before it reads.
 #[derive(Drop)]
-pub struct Watcher {
+pub struct MonitorStart {
     pub segment: Arc<Segment>,
     pub monitor: Monitor,
     ghost part: { monitor.segment ≡ arc_value segment },
@@ -30,7 +30,7 @@ pub struct Watcher {
 
 /// What a monitor hands back: itself, what it took with a new number, and whether it made all its readings.
 #[derive(Drop)]
-pub struct WatchDone {
+pub struct ReadingsDone {
     pub segment: Arc<Segment>,
     pub monitor: Monitor,
     pub taken: Vec<Numbered>,
@@ -39,17 +39,17 @@ pub struct WatchDone {
 
 /// A monitor promises that it made so many readings of this segment.
 #[derive(Drop)]
-pub struct Watching {
+pub struct MonitorPromise {
     pub segment: Snapshot<Arc<Segment>>,
     pub tries: u32,
 }
 
-impl Promise<WatchDone> for Watching {
+impl Promise<ReadingsDone> for MonitorPromise {
     ghost use Rattle.std.specs.Prelude.{◌≡◌};
     ghost use Rattle.std.specs.Arc.{arc_value};
-    ghost use Rattle.serve_threads.specs.Monitors.{Watched};
+    ghost use Rattle.serve_threads.specs.Monitors.{MonitorRan};
 
-    ghost kept_by = { λ p r. (r.segment ≡ p.segment.value) × Watched (arc_value r.segment) p.tries r.whole r.monitor r.taken.items };
+    ghost kept_by = { λ p r. (r.segment ≡ p.segment.value) × MonitorRan (arc_value r.segment) p.tries r.whole r.monitor r.taken.items };
 }
 
 /// A monitor for each unit, in order.
@@ -57,7 +57,7 @@ impl Promise<WatchDone> for Watching {
 pub fn watchers<R: Wait + Copy>(
     alloc: Global,
     book: &mut Book<Tx<Item, R>>,
-) -> Result<Vec<Watcher>, NoMemory>
+) -> Result<Vec<MonitorStart>, NoMemory>
     requires few { length book.old.units ≤ 16 }
     ensures book { book.new ≡ book.old }
     ensures segments { IfOk result (λ watchers. map (λ watcher. arc_value watcher.segment) watchers.items ≡ map segment_of book.old.units) }
@@ -71,22 +71,28 @@ pub fn watchers<R: Wait + Copy>(
             return Err(NoMemory);
         };
         let monitor = Monitor::of(seat);
-        watchers.push(Watcher { segment, monitor })?;
+        watchers.push(MonitorStart { segment, monitor })?;
     }
     Ok(watchers)
 }
 
-fn watch_all<R: Wait>(rt: &R, alloc: Global, watcher: Watcher, tries: u32, own: &Bell) -> WatchDone
+fn monitor_all<R: Wait>(
+    rt: &R,
+    alloc: Global,
+    watcher: MonitorStart,
+    tries: u32,
+    own: &Bell,
+) -> ReadingsDone
     ensures segment { result.segment ≡ watcher.segment }
-    ensures watched { Watched (arc_value result.segment) tries result.whole result.monitor result.taken.items }
+    ensures watched { MonitorRan (arc_value result.segment) tries result.whole result.monitor result.taken.items }
 {
-    let Watcher {
+    let MonitorStart {
         segment,
         mut monitor,
     } = watcher;
     let mut taken = Vec::new(alloc);
-    let whole = watch(rt, &segment, &mut monitor, tries, own, &mut taken).is_ok();
-    WatchDone {
+    let whole = run_monitor(rt, &segment, &mut monitor, tries, own, &mut taken).is_ok();
+    ReadingsDone {
         segment,
         monitor,
         taken,
@@ -95,25 +101,25 @@ fn watch_all<R: Wait>(rt: &R, alloc: Global, watcher: Watcher, tries: u32, own: 
 }
 
 /// Starts a unit's monitor. Without a thread it makes its readings at once.
-pub fn start_watcher<'s, E, R: Wait + Copy + Send + Sync + 's>(
+pub fn start_monitor<'s, E, R: Wait + Copy + Send + Sync + 's>(
     rt: R,
     alloc: Global,
     scope: &'s Scope<'s, E>,
-    watcher: Watcher,
+    watcher: MonitorStart,
     tries: u32,
     own: &'s Bell,
-) -> Work<WatchDone, Watching>
+) -> Work<ReadingsDone, MonitorPromise>
     ensures segment { result.segment.value ≡ watcher.segment }
     ensures tries { result.tries ≡ tries }
 {
-    let promise = Watching {
+    let promise = MonitorPromise {
         segment: Snapshot::of(&watcher.segment),
         tries,
     };
     start(
         scope,
         promise,
-        move || watch_all(&rt, alloc, watcher, tries, own),
+        move || monitor_all(&rt, alloc, watcher, tries, own),
         move || own.close(),
     )
 }

@@ -63,7 +63,8 @@ pub fn device_reader<S: Source, C: Clock, D: Dials, R: Wait + Copy>(
     alone: &Alone,
     pump: &Bell,
 ) -> ReaderDone<S, R>
-    ensures { Reads device_part (IsDevicePiece D.may) result.ending pieces result.pieces (S.content source) (S.content result.source) (counts (S.faults source) (S.quiets source)) (counts (S.faults result.source) (S.quiets result.source)) }
+    ensures { Reads device_part (IsDevicePiece D.may) result.ending pieces result.pieces (S.content source) (S.content result.source)
+        (counts (S.faults source) (S.quiets source)) (counts (S.faults result.source) (S.quiets result.source)) }
 {
     let mut source = source;
     let mut pieces = pieces;
@@ -94,7 +95,8 @@ pub fn session_reader<S: Source, R: Wait + Copy>(
     alone: &Alone,
     pump: &Bell,
 ) -> ReaderDone<S, R>
-    ensures { Reads input_part IsInputPiece result.ending pieces result.pieces (S.content source) (S.content result.source) (counts (S.faults source) (S.quiets source)) (counts (S.faults result.source) (S.quiets result.source)) }
+    ensures { Reads input_part IsInputPiece result.ending pieces result.pieces (S.content source) (S.content result.source)
+        (counts (S.faults source) (S.quiets source)) (counts (S.faults result.source) (S.quiets result.source)) }
 {
     let mut source = source;
     let mut pieces = pieces;
@@ -151,7 +153,8 @@ pub fn edge_reader<S: Source, R: Wait + Copy>(
     alone: &Alone,
     pump: &Bell,
 ) -> ReaderDone<S, R>
-    ensures { ReadsLines result.ending pieces result.pieces (S.content source) (S.content result.source) (counts (S.faults source) (S.quiets source)) (counts (S.faults result.source) (S.quiets result.source)) }
+    ensures { ReadsLines result.ending pieces result.pieces (S.content source) (S.content result.source) (counts (S.faults source) (S.quiets source))
+        (counts (S.faults result.source) (S.quiets result.source)) }
 {
     let mut source = source;
     let mut pieces = pieces;

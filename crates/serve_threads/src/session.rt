@@ -7,7 +7,7 @@ use crate::work::{Work, start};
 use gps_lane::{Bell, Rx, Tx};
 use gps_outside::{Sink, Source};
 use serve_pieces::Piece;
-use serve_workers::{SessionEnd, write_items};
+use serve_workers::{WriterEnd, write_items};
 use session_core::Item;
 use std::alloc::Global;
 use std::snapshot::Snapshot;
@@ -19,19 +19,19 @@ use std::thread::{Promise, Scope, Threads};
 pub struct WriterDone<K: Sink, R> {
     pub sink: K,
     pub items: Rx<Item, R>,
-    pub end: SessionEnd,
+    pub end: WriterEnd,
 }
 
 /// What the two threads of a session hand back.
 #[derive(Drop)]
-pub struct SessionRun<S: Source, K: Sink, R> {
+pub struct LinkDone<S: Source, K: Sink, R> {
     pub reader: ReaderDone<S, R>,
     pub writer: WriterDone<K, R>,
 }
 
 /// What a session's threads work with.
 #[derive(Drop)]
-pub struct Link<S: Source, K: Sink, R> {
+pub struct SessionLink<S: Source, K: Sink, R> {
     pub source: S,
     pub sink: K,
     pub pieces: Tx<Piece, R>,
@@ -54,10 +54,10 @@ impl<K: Sink, R> Promise<WriterDone<K, R>> for Writing<K, R> {
 /// A session's threads promise that both did their work on this link.
 #[derive(Drop)]
 pub struct Attending<S: Source, K: Sink, R> {
-    pub link: Snapshot<Link<S, K, R>>,
+    pub link: Snapshot<SessionLink<S, K, R>>,
 }
 
-impl<S: Source, K: Sink, R> Promise<SessionRun<S, K, R>> for Attending<S, K, R> {
+impl<S: Source, K: Sink, R> Promise<LinkDone<S, K, R>> for Attending<S, K, R> {
     ghost use Rattle.serve_threads.specs.Sessions.{SessionRuns};
 
     ghost kept_by = { λ p r. SessionRuns S.content S.faults S.quiets K.written K.faults p.link.value r };
@@ -91,14 +91,14 @@ pub fn attend<
     rt: R,
     alloc: Global,
     scope: &'s Scope<'s, E>,
-    link: Link<S, K, R>,
+    link: SessionLink<S, K, R>,
     bells: Arc<SessionBells>,
     writers: Arc<SessionBells>,
     pump: &'s Bell,
-) -> SessionRun<S, K, R>
+) -> LinkDone<S, K, R>
     ensures { SessionRuns S.content S.faults S.quiets K.written K.faults link result }
 {
-    let Link {
+    let SessionLink {
         source,
         sink,
         pieces,
@@ -118,14 +118,14 @@ pub fn attend<
             let reader = session_reader(&rt, alloc, source, pieces, own, &bells.alone, pump);
             let writer = writer.join(&rt);
             bells.leave();
-            SessionRun { reader, writer }
+            LinkDone { reader, writer }
         }
         Err(refused) => {
             bells.alone.leave();
             let reader = session_reader(&rt, alloc, source, pieces, own, &bells.alone, pump);
             let writer = (refused.value)();
             bells.leave();
-            SessionRun { reader, writer }
+            LinkDone { reader, writer }
         }
     }
 }
@@ -141,12 +141,12 @@ pub fn start_session<
     rt: R,
     alloc: Global,
     scope: &'s Scope<'s, E>,
-    link: Link<S, K, R>,
+    link: SessionLink<S, K, R>,
     bells: Arc<SessionBells>,
     writers: Arc<SessionBells>,
     own: &SessionBells,
     pump: &'s Bell,
-) -> Work<SessionRun<S, K, R>, Attending<S, K, R>>
+) -> Work<LinkDone<S, K, R>, Attending<S, K, R>>
     ensures { result.link.value ≡ link }
 {
     let promise = Attending {

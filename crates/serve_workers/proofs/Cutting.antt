@@ -4,18 +4,18 @@ use Rattle.std.proofs.lemmas.List.{map-append, take-append-drop, take_rest}
 use Rattle.std.proofs.Math.Seq.{take-length}
 use Rattle.serve_pieces.specs.declared.piece.Piece.{Piece}
 use Rattle.serve_pieces.specs.declared.piece.Piece.TheVariants as made
-use Rattle.text_lines.specs.declared.next.Line.{Line}
-use Rattle.text_lines.specs.declared.next.Next.{Next}
-use Rattle.text_lines.specs.declared.next.Next.TheVariants as next
-use Rattle.text_lines.specs.Lines.{lines, open_line, text_of}
-use Rattle.text_lines.specs.Limits.{fitting_lines}
-use Rattle.text_lines.specs.Standing.{Kept, StandsFor, Steps, spelling, used, gained}
-use Rattle.text_lines.proofs.Splits.{fitting_goes_on}
+use Rattle.line_cut.specs.declared.next.WholeLine.{WholeLine}
+use Rattle.line_cut.specs.declared.next.Next.{Next}
+use Rattle.line_cut.specs.declared.next.Next.TheVariants as next
+use Rattle.line_cut.specs.Lines.{lines, open_line, text_of}
+use Rattle.line_cut.specs.Limits.{fitting_lines}
+use Rattle.line_cut.specs.Standing.{LineCutterView, StandsFor, Steps, spelling, used, gained}
+use Rattle.line_cut.proofs.Splits.{fitting_goes_on}
 use Rattle.serve_workers.specs.EdgeLines.{edge_limit, edge_lines, line_pieces, AreFirst, PutsLines}
 use Rattle.serve_workers.specs.declared.edges.Put.TheVariants as put
 
 -- The lines of a piece were put as far as `rest`, behind these bytes.
-pub record Cuts (bytes piece rest : List ℕ) (kept : Kept) (before now : List Piece) : Type 0 where
+pub record Cuts (bytes piece rest : List ℕ) (kept : LineCutterView) (before now : List Piece) : Type 0 where
   pub done : List ℕ
   pub split : piece ≡ done ++ rest
   pub stands : StandsFor kept (bytes ++ done)
@@ -23,7 +23,7 @@ pub record Cuts (bytes piece rest : List ℕ) (kept : Kept) (before now : List P
   pub puts : now ≡ before ++ line_pieces lines
   pub are : edge_lines (bytes ++ done) ≡ edge_lines bytes ++ lines
 
-pub begun : (bytes piece : List ℕ) (kept : Kept) (now : List Piece) → StandsFor kept bytes → Cuts bytes piece piece kept now now
+pub begun : (bytes piece : List ℕ) (kept : LineCutterView) (now : List Piece) → StandsFor kept bytes → Cuts bytes piece piece kept now now
 begun bytes piece kept now stands = record {
   done = [];
   split = refl;
@@ -36,7 +36,7 @@ begun bytes piece kept now stands = record {
 pieces_on : (first second : List (List ℕ)) → line_pieces (first ++ second) ≡ line_pieces first ++ line_pieces second
 pieces_on first second = map-append made.Line first second
 
-lines_more : (kept : Kept) (bytes more : List ℕ) (next : Next)
+lines_more : (kept : LineCutterView) (bytes more : List ℕ) (next : Next)
     → kept.limit ≡ edge_limit
     → fitting_lines kept.limit (bytes ++ more) ≡ fitting_lines kept.limit bytes ++ gained next
     → edge_lines (bytes ++ more) ≡ edge_lines bytes ++ map text_of (gained next)
@@ -45,7 +45,7 @@ lines_more kept bytes more next limit is =
     ∙ map-append text_of (fitting_lines edge_limit bytes) (gained next)
 
 -- one step of the cutter, and its line put
-pub step_on : (bytes piece rest later : List ℕ) (kept kept' : Kept) (before now after : List Piece) (next : Next)
+pub step_on : (bytes piece rest later : List ℕ) (kept kept' : LineCutterView) (before now after : List Piece) (next : Next)
     → Cuts bytes piece rest kept before now
     → kept.limit ≡ edge_limit
     → Steps kept kept' rest next
@@ -73,7 +73,7 @@ rest_of : (n : ℕ) (rest : List ℕ) → rest ≡ take n rest ++ take (length r
 rest_of n rest = rw take_rest (sym (take-append-drop n rest))
 
 -- a line of the piece
-pub line_put : (bytes piece rest : List ℕ) (kept kept' : Kept) (before now after : List Piece) (line : Line) (n : ℕ) (text : List ℕ)
+pub line_put : (bytes piece rest : List ℕ) (kept kept' : LineCutterView) (before now after : List Piece) (line : WholeLine) (n : ℕ) (text : List ℕ)
     → Cuts bytes piece rest kept before now
     → kept.limit ≡ edge_limit
     → Steps kept kept' rest (next.Line line n)
@@ -85,7 +85,7 @@ line_put bytes piece rest kept kept' before now after line n text cuts limit ste
     (puts ∙ ap (λ l. now ++ made.Line l ∷ []) is)
 
 -- a part of a line that is too long
-pub passed_over : (bytes piece rest : List ℕ) (kept kept' : Kept) (before now : List Piece) (n : ℕ)
+pub passed_over : (bytes piece rest : List ℕ) (kept kept' : LineCutterView) (before now : List Piece) (n : ℕ)
     → Cuts bytes piece rest kept before now
     → kept.limit ≡ edge_limit
     → Steps kept kept' rest (next.TooLong n)
@@ -93,7 +93,7 @@ pub passed_over : (bytes piece rest : List ℕ) (kept kept' : Kept) (before now 
 passed_over bytes piece rest kept kept' before now n cuts limit steps =
     step_on bytes piece rest (take (length rest - n) (drop n rest)) kept kept' before now now (next.TooLong n) cuts limit steps (rest_of n rest) (sym (append-nil now))
 
-whole : (bytes piece : List ℕ) (kept : Kept) (before now : List Piece) → Cuts bytes piece [] kept before now → PutsLines put.Done bytes piece kept before now
+whole : (bytes piece : List ℕ) (kept : LineCutterView) (before now : List Piece) → Cuts bytes piece [] kept before now → PutsLines put.Done bytes piece kept before now
 whole bytes piece kept before now cuts =
     let all : piece ≡ cuts.done = cuts.split ∙ append-nil cuts.done in record {
       lines = cuts.lines;
@@ -103,7 +103,7 @@ whole bytes piece kept before now cuts =
     }
 
 -- all of the piece
-pub all_put : (bytes piece rest : List ℕ) (kept kept' : Kept) (before now : List Piece)
+pub all_put : (bytes piece rest : List ℕ) (kept kept' : LineCutterView) (before now : List Piece)
     → Cuts bytes piece rest kept before now
     → kept.limit ≡ edge_limit
     → Steps kept kept' rest next.Used
@@ -125,7 +125,7 @@ lines_first bytes piece rest done lines split are =
     )
 
 -- the first lines of the piece, where memory was wanting
-pub first_put : (bytes piece rest : List ℕ) (kept kept' : Kept) (before now : List Piece)
+pub first_put : (bytes piece rest : List ℕ) (kept kept' : LineCutterView) (before now : List Piece)
     → Cuts bytes piece rest kept before now → PutsLines put.NoMemory bytes piece kept' before now
 first_put bytes piece rest kept kept' before now cuts = record {
   lines = cuts.lines;
@@ -135,7 +135,7 @@ first_put bytes piece rest kept kept' before now cuts = record {
 }
 
 -- and where the reader was told to end
-pub first_put_closed : (bytes piece rest : List ℕ) (kept kept' : Kept) (before now : List Piece)
+pub first_put_closed : (bytes piece rest : List ℕ) (kept kept' : LineCutterView) (before now : List Piece)
     → Cuts bytes piece rest kept before now → PutsLines put.Closed bytes piece kept' before now
 first_put_closed bytes piece rest kept kept' before now cuts = record {
   lines = cuts.lines;
@@ -144,5 +144,5 @@ first_put_closed bytes piece rest kept kept' before now cuts = record {
   stands = tt;
 }
 
-pub steps_as : (kept kept' : Kept) (rest : List ℕ) (next next' : Next) → next ≡ next' → Steps kept kept' rest next → Steps kept kept' rest next'
+pub steps_as : (kept kept' : LineCutterView) (rest : List ℕ) (next next' : Next) → next ≡ next' → Steps kept kept' rest next → Steps kept kept' rest next'
 steps_as kept kept' rest next next' is steps = subst (λ (n : Next). Steps kept kept' rest n) is steps

@@ -1,6 +1,6 @@
 pub mod Dialing
-pub mod Turning
+pub mod Stepping
 pub mod Rounds
 pub mod Once
 pub mod Cutting
-pub mod LineTurning
+pub mod LineStepping

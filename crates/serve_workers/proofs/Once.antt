@@ -102,12 +102,12 @@ not_zero : (n : ℕ) → (suc n == 0) ≡ false
 not_zero n = grind (arith, nat_tests)
 
 -- what is known beforehand of the next pair's number, by the last number alone
-pub is_seen : (first : Bool) (pairs : List Numbered) (new : ℕ)
+pub is_used_id : (first : Bool) (pairs : List Numbered) (new : ℕ)
     → first ≡ (length (each_once pairs) == 0) → Rises 0 pairs → last_from 0 pairs ≤ new
     → has_number new pairs ≡ not (first || not (new == last_from 0 pairs))
 unfolding each_once
-is_seen first [] new is rises le = rw is refl
-is_seen first (pair ∷ pairs) new is rises le =
+is_used_id first [] new is rises le = rw is refl
+is_used_id first (pair ∷ pairs) new is rises le =
     let later : first ≡ false = is ∙ not_zero (length (filter (other_than pair) (each_once pairs))) in
     rw later (seen_case (new == last_from pair.number pairs) pair new pairs refl rises le ∙ not_not (new == last_from pair.number pairs))
 
@@ -123,5 +123,5 @@ pub taken_once : (new first : Bool) (before : ℕ) (old now : List Numbered) (pa
     → each_once now ≡ each_once old ++ (if new then pair ∷ [] else [])
 taken_once new first before old now pair is empty rises last le test =
     let there : has_number pair.number old ≡ not new =
-    is_seen first old pair.number empty rises le ∙ ap (λ n. not (first || not (pair.number == n))) (sym last) ∙ ap not (sym test) in
+    is_used_id first old pair.number empty rises le ∙ ap (λ n. not (first || not (pair.number == n))) (sym last) ∙ ap not (sym test) in
     ap each_once is ∙ once_more old pair ∙ ap (λ b. each_once old ++ newer b pair) there ∙ ap (λ l. each_once old ++ l) (newer_is new pair)

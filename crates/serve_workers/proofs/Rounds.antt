@@ -6,7 +6,7 @@ use Rattle.std.proofs.lemmas.List.Folds.{concat-append}
 use Rattle.gps_outside.specs.Told.{Goes, Appends, AppendsPart}
 use Rattle.gps_outside.proofs.Going.{goes_as}
 use Rattle.gps_outside.proofs.Writing.{appends_on, part_on, appends_none}
-use Rattle.serve_workers.specs.declared.writer.SessionEnd.TheVariants.{Drained, WriteFault}
+use Rattle.serve_workers.specs.declared.writer.WriterEnd.TheVariants.{Drained, WriteFault}
 use Rattle.serve_workers.specs.Writing.{Writes, Gathers}
 
 pub nothing_gathered : (before : List ℕ) (got : List (List ℕ)) → Gathers None before before got got

@@ -1,4 +1,4 @@
--- The stamps of a clock that several readers share. This project's own.
+-- The stamps of a clock that several readers share.
 use Rattle.std.specs.Prelude.{◌≡◌, List, Option, Some, None}
 use Rattle.std.specs.List.{IsAmong}
 use Rattle.gps_fixed.specs.Moment.{Moment}

@@ -1,18 +1,18 @@
--- The lines of an edges file that are put into a lane: those of at most 64 bytes without their line end. This project's own.
+-- The lines of an edges file that are put into a lane: those of at most 64 bytes without their line end.
 use Rattle.std.specs.Prelude.{◌≡◌, ℕ, List, [], ◌∷◌, ◌++◌, length, map, nat_le, if◌then◌else◌, Option, Some, None}
 use Rattle.gps_outside.specs.Told.{Stream, Goes, Passes}
-use Rattle.gps_outside.specs.Turns.{TakesAll, TakesSome}
+use Rattle.gps_outside.specs.ReadSteps.{TakesAll, TakesSome}
 use Rattle.serve_pieces.specs.declared.piece.Ending.{Ending}
 use Rattle.serve_pieces.specs.declared.piece.Ending.TheVariants.{End, Failed, NoMemory}
 use Rattle.serve_pieces.specs.declared.piece.Piece.{Piece}
 use Rattle.serve_pieces.specs.declared.piece.Piece.TheVariants.{Line}
-use Rattle.text_lines.specs.declared.limit.Limit.{Limit}
-use Rattle.text_lines.specs.declared.limit.Limit.TheVariants.{Text}
-use Rattle.text_lines.specs.Lines.{text_of, open_line, last_lines}
-use Rattle.text_lines.specs.Limits.{fitting_lines}
-use Rattle.text_lines.specs.Standing.{Kept, StandsFor}
-use Rattle.serve_workers.specs.declared.readers.Turn.{Turn}
-use Rattle.serve_workers.specs.declared.readers.Turn.TheVariants.{On, Over, Closed}
+use Rattle.line_cut.specs.declared.limit.Limit.{Limit}
+use Rattle.line_cut.specs.declared.limit.Limit.TheVariants.{Text}
+use Rattle.line_cut.specs.Lines.{text_of, open_line, last_lines}
+use Rattle.line_cut.specs.Limits.{fitting_lines}
+use Rattle.line_cut.specs.Standing.{LineCutterView, StandsFor}
+use Rattle.serve_workers.specs.declared.readers.ReaderStep.{ReaderStep}
+use Rattle.serve_workers.specs.declared.readers.ReaderStep.TheVariants.{On, Over, Closed}
 use Rattle.serve_workers.specs.declared.edges.Put.{Put}
 use Rattle.serve_workers.specs.declared.edges.Put.TheVariants as put
 use Rattle.serve_workers.specs.Readings.{last_piece}
@@ -71,13 +71,13 @@ Lines put.NoMemory got all = AreFirst got all
 Lines put.Closed got all = AreFirst got all
 
 -- what is kept stands for the bytes, where the reading goes on
-abbrev pub StandsOn : Put → Kept → List ℕ → Type 0
+abbrev pub StandsOn : Put → LineCutterView → List ℕ → Type 0
 StandsOn put.Done kept bytes = StandsFor kept bytes
 StandsOn put.NoMemory kept bytes = Unit {0}
 StandsOn put.Closed kept bytes = Unit {0}
 
 -- behind these bytes the lines that a piece ends were put
-pub record PutsLines (result : Put) (bytes piece : List ℕ) (kept : Kept) (before after : List Piece) : Type 0 where
+pub record PutsLines (result : Put) (bytes piece : List ℕ) (kept : LineCutterView) (before after : List Piece) : Type 0 where
   pub lines : List (List ℕ)
   pub puts : after ≡ before ++ line_pieces lines
   pub are : Lines result (edge_lines bytes ++ lines) (edge_lines (bytes ++ piece))
@@ -89,14 +89,14 @@ PutsLast put.Done bytes before after = after ≡ before ++ line_pieces (last_edg
 PutsLast put.NoMemory bytes before after = after ≡ before
 PutsLast put.Closed bytes before after = after ≡ before
 
--- what a turn of the reader took
-abbrev pub TookTurn : Turn → List ℕ → Option Stream → Option Stream → Type 0
+-- what a step of the reader took
+abbrev pub TookTurn : ReaderStep → List ℕ → Option Stream → Option Stream → Type 0
 TookTurn On more before after = Goes (Passes more) before after
 TookTurn (Over ending) more before after = TookLines (Some ending) more before after
 TookTurn Closed more before after = TookLines None more before after
 
--- which lines a turn put, of those that its bytes end
-abbrev pub LinesIn : Turn → List (List ℕ) → List (List ℕ) → Type 0
+-- which lines a step put, of those that its bytes end
+abbrev pub LinesIn : ReaderStep → List (List ℕ) → List (List ℕ) → Type 0
 LinesIn On got all = all ≡ got
 LinesIn (Over End) got all = all ≡ got
 LinesIn (Over Failed) got all = all ≡ got
@@ -104,15 +104,15 @@ LinesIn (Over NoMemory) got all = AreFirst got all
 LinesIn Closed got all = AreFirst got all
 
 -- what is kept stands for the bytes, until they are lost
-abbrev pub StandsIn : Turn → Kept → List ℕ → Type 0
+abbrev pub StandsIn : ReaderStep → LineCutterView → List ℕ → Type 0
 StandsIn On kept bytes = StandsFor kept bytes
 StandsIn (Over End) kept bytes = StandsFor kept bytes
 StandsIn (Over Failed) kept bytes = Unit {0}
 StandsIn (Over NoMemory) kept bytes = Unit {0}
 StandsIn Closed kept bytes = Unit {0}
 
--- turns of the reader behind these bytes
-pub record LineTurns (turn : Turn) (bytes : List ℕ) (kept : Kept) (put put' : List Piece) (before after : Option Stream) : Type 0 where
+-- steps of the reader behind these bytes
+pub record EdgeLineSteps (turn : ReaderStep) (bytes : List ℕ) (kept : LineCutterView) (put put' : List Piece) (before after : Option Stream) : Type 0 where
   pub more : List ℕ
   pub lines : List (List ℕ)
   pub puts : put' ≡ put ++ line_pieces lines

@@ -1,4 +1,4 @@
--- A piece that is put into a lane, or dropped. This project's own.
+-- A piece that is put into a lane, or dropped.
 use Rattle.std.specs.Prelude.{Bool, true, false, [], ◌∷◌, ◌++◌}
 use Rattle.gps_lane.specs.Ends.{Putting}
 use Rattle.serve_pieces.specs.declared.piece.Piece.{Piece}

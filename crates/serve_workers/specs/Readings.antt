@@ -1,17 +1,17 @@
--- What a reader took from its source, and what it put into its lane. This project's own.
+-- What a reader took from its source, and what it put into its lane.
 use Rattle.std.specs.Prelude.{◌≡◌, ℕ, ◌≤◌, ◌<◌, ◌⊎◌, List, [], ◌∷◌, ◌++◌, length, Option, Some, None}
 use Rattle.std.specs.List.{flat_map}
 use Rattle.gps_fixed.specs.Moment.{Moment}
 use Rattle.gps_outside.specs.Counts.{Rose}
 use Rattle.gps_outside.specs.Told.{Stream, Goes, Passes}
-use Rattle.gps_outside.specs.Turns.{TakesAll, TakesSome}
+use Rattle.gps_outside.specs.ReadSteps.{TakesAll, TakesSome}
 use Rattle.serve_pieces.specs.declared.piece.Ending.{Ending}
 use Rattle.serve_pieces.specs.declared.piece.Ending.TheVariants.{End, Failed, NoMemory}
 use Rattle.serve_pieces.specs.declared.piece.Piece.{Piece}
 use Rattle.serve_pieces.specs.declared.piece.Piece.TheVariants.{Bytes, Line, Input, Last}
 use Rattle.serve_pieces.specs.Sizes.{IsChunk}
-use Rattle.serve_workers.specs.declared.readers.Turn.{Turn}
-use Rattle.serve_workers.specs.declared.readers.Turn.TheVariants.{On, Over, Closed}
+use Rattle.serve_workers.specs.declared.readers.ReaderStep.{ReaderStep}
+use Rattle.serve_workers.specs.declared.readers.ReaderStep.TheVariants.{On, Over, Closed}
 use Rattle.serve_workers.specs.Clocks.{IsAllowed}
 
 -- each piece is as P says
@@ -61,28 +61,28 @@ pub record HandsOn (part : Piece → List ℕ) (P : Piece → Type 0) (ending : 
 abbrev pub WasRead : ℕ → ℕ → Stream → Stream → Type 0
 WasRead faults quiets before after = (0 < length after.taken) ⊎ (0 < quiets) ⊎ (0 < faults) ⊎ (after.left ≡ [])
 
--- what a turn of a reader took for the pieces that it put
-abbrev pub TookIn : Turn → List ℕ → Option Stream → Option Stream → Type 0
+-- what a step of a reader took for the pieces that it put
+abbrev pub TookIn : ReaderStep → List ℕ → Option Stream → Option Stream → Type 0
 TookIn On bytes before after = Goes (Passes bytes) before after
 TookIn (Over ending) bytes before after = Took (Some ending) bytes before after
 TookIn Closed bytes before after = Took None bytes before after
 
--- the same of turns, before the last piece
-pub record Turns (part : Piece → List ℕ) (P : Piece → Type 0) (turn : Turn) (put put' : List Piece) (before after : Option Stream) : Type 0 where
+-- the same of steps, before the last piece
+pub record ReaderSteps (part : Piece → List ℕ) (P : Piece → Type 0) (turn : ReaderStep) (put put' : List Piece) (before after : Option Stream) : Type 0 where
   pub pieces : List Piece
   pub puts : put' ≡ put ++ pieces
   pub good : Each P pieces
   pub took : TookIn turn (flat_map part pieces) before after
 
 -- a reading that is over
-abbrev pub over : Option Ending → Turn
+abbrev pub over : Option Ending → ReaderStep
 over None = Closed
 over (Some ending) = Over ending
 
--- the cause of a turn's answer
-abbrev pub HasCause : Turn → ℕ → ℕ → Type 0
-HasCause On before now = Unit {0}
-HasCause (Over End) before now = Unit {0}
-HasCause (Over Failed) before now = Rose before now
-HasCause (Over NoMemory) before now = Unit {0}
-HasCause Closed before now = Unit {0}
+-- the cause of a step's answer
+abbrev pub StepHasCause : ReaderStep → ℕ → ℕ → Type 0
+StepHasCause On before now = Unit {0}
+StepHasCause (Over End) before now = Unit {0}
+StepHasCause (Over Failed) before now = Rose before now
+StepHasCause (Over NoMemory) before now = Unit {0}
+StepHasCause Closed before now = Unit {0}

@@ -1,4 +1,4 @@
--- The pairs that a monitor took, each number once. This project's own.
+-- The pairs that a monitor took, each number once.
 use Rattle.std.specs.Prelude.{◌≡◌, ℕ, ◌<◌, ◌==◌, not, List, [], ◌∷◌, ◌++◌}
 use Rattle.std.specs.List.{filter}
 use Rattle.shm_segment.specs.declared.view.Numbered.{Numbered}

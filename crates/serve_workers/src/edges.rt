@@ -2,19 +2,19 @@ ghost use Rattle.std.specs.Prelude.{◌≡◌, ◌≤◌, ℕ, List, [], Some};
 ghost use Rattle.gps_outside.specs.Counts.{Rose};
 ghost use Rattle.serve_pieces.specs.declared.piece.Ending.{Ending};
 ghost use Rattle.serve_pieces.specs.Sizes.{IsShort};
-ghost use Rattle.text_lines.specs.Standing.{StandsFor};
-ghost use Rattle.serve_workers.specs.Readings.{HasCause, over};
-ghost use Rattle.serve_workers.specs.EdgeLines.{edge_limit, PutsLine, PutsLines, PutsLast, LineTurns, CutsLines, HandsLines};
+ghost use Rattle.line_cut.specs.Standing.{StandsFor};
+ghost use Rattle.serve_workers.specs.Readings.{StepHasCause, over};
+ghost use Rattle.serve_workers.specs.EdgeLines.{edge_limit, PutsLine, PutsLines, PutsLast, EdgeLineSteps, CutsLines, HandsLines};
 
 use crate::pauses::pause;
 use crate::puts::{put, put_ending};
-use crate::readers::{READ, Span, Turn};
+use crate::readers::{READ, ReaderStep, Span};
 use gps_lane::{Bell, Tx};
 use gps_outside::{ReadStep, Source};
+use line_cut::{Last, Limit, LineCutter, Next, text_of};
 use serve_pieces::{Ending, Piece};
 use std::alloc::Global;
 use std::sync::Wait;
-use text_lines::{Last, Limit, LineCutter, Next, text_of};
 
 /// How many bytes a line may have without its line end.
 const LONGEST: usize = 64;
@@ -115,33 +115,33 @@ fn cut_once<S: Source, R: Wait + Copy>(
     cutter: &mut LineCutter,
     own: &Bell,
     pump: &Bell,
-) -> Turn
+) -> ReaderStep
     requires limit { cutter.old.limit ≡ edge_limit }
     requires stands { (bytes : List ℕ) × StandsFor cutter.old bytes }
     ensures limit { cutter.new.limit ≡ cutter.old.limit }
     ensures turns { (bytes : List ℕ) → StandsFor cutter.old bytes
-        → LineTurns result bytes cutter.new pieces.old.put pieces.new.put (S.content source.old) (S.content source.new) }
+        → EdgeLineSteps result bytes cutter.new pieces.old.put pieces.new.put (S.content source.old) (S.content source.new) }
     ensures lane { pieces.new ≡ record pieces.old { put = pieces.new.put } }
     ensures faults_stay { S.faults source.old ≤ S.faults source.new }
     ensures quiets_stay { S.quiets source.old ≤ S.quiets source.new }
-    ensures failed { HasCause result (S.faults source.old) (S.faults source.new) }
+    ensures failed { StepHasCause result (S.faults source.old) (S.faults source.new) }
 {
     let mut buf = [0u8; READ];
     match source.read(&mut buf) {
         ReadStep::Got(n) => match put_lines(rt, alloc, pieces, cutter, &buf[..n], own, pump) {
-            Put::Done => Turn::On,
-            Put::NoMemory => Turn::Over(Ending::NoMemory),
-            Put::Closed => Turn::Closed,
+            Put::Done => ReaderStep::On,
+            Put::NoMemory => ReaderStep::Over(Ending::NoMemory),
+            Put::Closed => ReaderStep::Closed,
         },
         ReadStep::Quiet => {
             if pause(rt, own) {
-                Turn::On
+                ReaderStep::On
             } else {
-                Turn::Closed
+                ReaderStep::Closed
             }
         }
-        ReadStep::End => Turn::Over(Ending::End),
-        ReadStep::Failed => Turn::Over(Ending::Failed),
+        ReadStep::End => ReaderStep::Over(Ending::End),
+        ReadStep::Failed => ReaderStep::Over(Ending::Failed),
     }
 }
 
@@ -159,21 +159,21 @@ fn cut_on<S: Source, R: Wait + Copy>(
     requires limit { cutter.old.limit ≡ edge_limit }
     requires stands { StandsFor cutter.old [] }
     ensures limit { cutter.new.limit ≡ edge_limit }
-    ensures turns { LineTurns (over result) [] cutter.new pieces.old.put pieces.new.put (S.content source.old) (S.content source.new) }
+    ensures turns { EdgeLineSteps (over result) [] cutter.new pieces.old.put pieces.new.put (S.content source.old) (S.content source.new) }
     ensures lane { pieces.new ≡ record pieces.old { put = pieces.new.put } }
     ensures faults_stay { S.faults source.old ≤ S.faults source.new }
     ensures quiets_stay { S.quiets source.old ≤ S.quiets source.new }
-    ensures failed { HasCause (over result) (S.faults source.old) (S.faults source.new) }
+    ensures failed { StepHasCause (over result) (S.faults source.old) (S.faults source.new) }
 {
     'reads: for _ in rt.forever() {
         match cut_once(rt, alloc, source, pieces, cutter, own, pump) {
-            Turn::On => {
+            ReaderStep::On => {
                 if span == Span::Once {
                     return Some(Ending::NoMemory);
                 }
             }
-            Turn::Over(ending) => return Some(ending),
-            Turn::Closed => return None,
+            ReaderStep::Over(ending) => return Some(ending),
+            ReaderStep::Closed => return None,
         }
     }
     unreachable!()
@@ -193,7 +193,7 @@ fn cut_all<S: Source, R: Wait + Copy>(
     ensures lane { pieces.new ≡ record pieces.old { put = pieces.new.put } }
     ensures faults_stay { S.faults source.old ≤ S.faults source.new }
     ensures quiets_stay { S.quiets source.old ≤ S.quiets source.new }
-    ensures failed { HasCause (over result) (S.faults source.old) (S.faults source.new) }
+    ensures failed { StepHasCause (over result) (S.faults source.old) (S.faults source.new) }
 {
     let mut cutter = LineCutter::new(alloc, Limit::Text(LONGEST));
     match cut_on(rt, alloc, source, pieces, &mut cutter, own, pump, span) {

@@ -1,3 +1,5 @@
+//! Part of the daemon's workers, with `serve_pieces` and `serve_threads`.
+//!
 //! The loops that the threads of the running daemon run: readers that put pieces into lanes, a writer that takes a
 //! session's items, and a monitor. Each is a plain function over one end of a lane, a bell and one object of the outside.
 //! This project's own.
@@ -15,7 +17,7 @@ mod shared_clock;
 mod writer;
 
 pub use edges::read_edges;
-pub use monitor::watch;
+pub use monitor::run_monitor;
 pub use readers::{Span, read_device, read_session};
 pub use shared_clock::{Dials, SharedClock};
-pub use writer::{SessionEnd, write_items};
+pub use writer::{WriterEnd, write_items};

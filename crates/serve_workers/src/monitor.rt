@@ -15,7 +15,7 @@ use std::sync::Wait;
 ///
 /// After a reading that gave nothing new it sleeps for a millisecond, or until its bell is rung, as long as that is not
 /// closed.
-pub fn watch<R: Wait>(
+pub fn run_monitor<R: Wait>(
     rt: &R,
     segment: &Segment,
     monitor: &mut Monitor,

@@ -3,7 +3,7 @@ ghost use Rattle.gps_outside.specs.Counts.{Rose};
 ghost use Rattle.gps_outside.specs.Told.{Goes};
 ghost use Rattle.serve_pieces.specs.declared.piece.Ending.{Ending};
 ghost use Rattle.serve_pieces.specs.Carried.{device_part, input_part};
-ghost use Rattle.serve_workers.specs.Readings.{HandsOn, Turns, HasCause, over, WasRead, IsDevicePiece, IsInputPiece};
+ghost use Rattle.serve_workers.specs.Readings.{HandsOn, ReaderSteps, StepHasCause, over, WasRead, IsDevicePiece, IsInputPiece};
 
 use crate::maker::{Maker, Requests, Stamped};
 use crate::pauses::pause;
@@ -27,8 +27,8 @@ pub enum Span {
     Once,
 }
 
-/// What one turn of a reader comes to.
-pub(crate) enum Turn {
+/// What one step of a reader comes to.
+pub(crate) enum ReaderStep {
     On,
     /// The source ended, or memory was wanting.
     Over(Ending),
@@ -45,13 +45,13 @@ fn read_once<M: Maker, S: Source, R: Wait + Copy>(
     pieces: &mut Tx<Piece, R>,
     own: &Bell,
     pump: &Bell,
-) -> Turn
-    ensures turns { Turns M.part M.good result pieces.old.put pieces.new.put (S.content source.old) (S.content source.new) }
+) -> ReaderStep
+    ensures turns { ReaderSteps M.part M.good result pieces.old.put pieces.new.put (S.content source.old) (S.content source.new) }
     ensures lane { pieces.new ≡ record pieces.old { put = pieces.new.put } }
     ensures read { Goes (WasRead (S.faults source.new) (S.quiets source.new)) (S.content source.old) (S.content source.new) }
     ensures faults_stay { S.faults source.old ≤ S.faults source.new }
     ensures quiets_stay { S.quiets source.old ≤ S.quiets source.new }
-    ensures failed { HasCause result (S.faults source.old) (S.faults source.new) }
+    ensures failed { StepHasCause result (S.faults source.old) (S.faults source.new) }
 {
     let told = own.is_closed();
     let mut buf = [0u8; READ];
@@ -60,23 +60,23 @@ fn read_once<M: Maker, S: Source, R: Wait + Copy>(
             Ok(piece) => {
                 if put(rt, pieces, piece, own) {
                     pump.ring();
-                    Turn::On
+                    ReaderStep::On
                 } else {
-                    Turn::Closed
+                    ReaderStep::Closed
                 }
             }
-            Err(_) => Turn::Over(Ending::NoMemory),
+            Err(_) => ReaderStep::Over(Ending::NoMemory),
         },
         ReadStep::Quiet => {
             if told {
-                Turn::Closed
+                ReaderStep::Closed
             } else {
                 pause(rt, own);
-                Turn::On
+                ReaderStep::On
             }
         }
-        ReadStep::End => Turn::Over(Ending::End),
-        ReadStep::Failed => Turn::Over(Ending::Failed),
+        ReadStep::End => ReaderStep::Over(Ending::End),
+        ReadStep::Failed => ReaderStep::Over(Ending::Failed),
     }
 }
 
@@ -91,22 +91,22 @@ fn read_on<M: Maker, S: Source, R: Wait + Copy>(
     pump: &Bell,
     span: Span,
 ) -> Option<Ending>
-    ensures turns { Turns M.part M.good (over result) pieces.old.put pieces.new.put (S.content source.old) (S.content source.new) }
+    ensures turns { ReaderSteps M.part M.good (over result) pieces.old.put pieces.new.put (S.content source.old) (S.content source.new) }
     ensures lane { pieces.new ≡ record pieces.old { put = pieces.new.put } }
     ensures read { Goes (WasRead (S.faults source.new) (S.quiets source.new)) (S.content source.old) (S.content source.new) }
     ensures faults_stay { S.faults source.old ≤ S.faults source.new }
     ensures quiets_stay { S.quiets source.old ≤ S.quiets source.new }
-    ensures failed { HasCause (over result) (S.faults source.old) (S.faults source.new) }
+    ensures failed { StepHasCause (over result) (S.faults source.old) (S.faults source.new) }
 {
     'reads: for _ in rt.forever() {
         match read_once(rt, alloc, maker, source, pieces, own, pump) {
-            Turn::On => {
+            ReaderStep::On => {
                 if span == Span::Once {
                     return Some(Ending::NoMemory);
                 }
             }
-            Turn::Over(ending) => return Some(ending),
-            Turn::Closed => return None,
+            ReaderStep::Over(ending) => return Some(ending),
+            ReaderStep::Closed => return None,
         }
     }
     unreachable!()

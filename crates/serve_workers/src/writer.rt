@@ -1,6 +1,6 @@
 ghost use Rattle.std.specs.Prelude.{◌≡◌, ◌≤◌, [], ◌++◌};
 ghost use Rattle.gps_outside.specs.Counts.{Rose};
-ghost use Rattle.serve_workers.specs.declared.writer.SessionEnd.{SessionEnd};
+ghost use Rattle.serve_workers.specs.declared.writer.WriterEnd.{WriterEnd};
 ghost use Rattle.serve_workers.specs.Writing.{Gathers, Writes};
 
 use gps_lane::{Bell, Rx};
@@ -11,7 +11,7 @@ use std::sync::Wait;
 
 /// How the writing of a session ended.
 #[derive(Clone, Copy, Debug, PartialEq, Eq)]
-pub enum SessionEnd {
+pub enum WriterEnd {
     /// All items that were got were written.
     Drained,
     /// The sink failed.
@@ -49,32 +49,32 @@ fn write_on<K: Sink, R: Wait + Copy>(
     own: &Bell,
     sink: &mut K,
     room: Vec<u8>,
-) -> SessionEnd
+) -> WriterEnd
     requires { room.items ≡ [] }
     ensures writes { Writes result items.old.got items.new.got (K.written sink.old) (K.written sink.new) }
     ensures lane { items.new ≡ record items.old { got = items.new.got } }
     ensures faults_stay { K.faults sink.old ≤ K.faults sink.new }
-    ensures failed { result ≡ SessionEnd.WriteFault → Rose (K.faults sink.old) (K.faults sink.new) }
+    ensures failed { result ≡ WriterEnd.WriteFault → Rose (K.faults sink.old) (K.faults sink.new) }
 {
     let mut joined = room;
     'rounds: for _ in rt.forever() {
         let closed = own.is_closed();
         let over = gather(rt, items, &mut joined);
         if !write_all(sink, joined.as_slice()) {
-            return SessionEnd::WriteFault;
+            return WriterEnd::WriteFault;
         }
         let nothing = joined.is_empty();
         joined.clear();
         match over {
             Some(item) => {
                 if !write_all(sink, item.bytes()) {
-                    return SessionEnd::WriteFault;
+                    return WriterEnd::WriteFault;
                 }
             }
             None => {
                 if nothing {
                     if closed {
-                        return SessionEnd::Drained;
+                        return WriterEnd::Drained;
                     }
                     own.wait(rt);
                 }
@@ -94,11 +94,11 @@ pub fn write_items<K: Sink, R: Wait + Copy>(
     items: &mut Rx<Item, R>,
     own: &Bell,
     sink: &mut K,
-) -> SessionEnd
+) -> WriterEnd
     ensures writes { Writes result items.old.got items.new.got (K.written sink.old) (K.written sink.new) }
     ensures lane { items.new ≡ record items.old { got = items.new.got } }
     ensures faults_stay { K.faults sink.old ≤ K.faults sink.new }
-    ensures failed { result ≡ SessionEnd.WriteFault → Rose (K.faults sink.old) (K.faults sink.new) }
+    ensures failed { result ≡ WriterEnd.WriteFault → Rose (K.faults sink.old) (K.faults sink.new) }
 {
     let room = match Vec::with_capacity(alloc, ROOM) {
         Ok(room) => room,

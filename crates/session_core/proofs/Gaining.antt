@@ -10,9 +10,9 @@ use Rattle.session_core.specs.declared.outlet.Push.{Push}
 use Rattle.session_core.specs.declared.outlet.Push.TheVariants.{Done, Full}
 use Rattle.session_core.specs.Naming.{OutletName}
 use Rattle.session_core.specs.Pushing.{MatchPush}
-use Rattle.session_core.specs.Shown.{Shown, fresh, given, replied, closed_at, turned, turned_marks, turned_closing, last_place}
+use Rattle.session_core.specs.SessionView.{SessionView, fresh, given, replied, closed_at, turned, turned_marks, turned_closing, last_place}
 use Rattle.session_core.specs.Stretches.{Stretch, mark_of, selected, items_to, end_of, session_items, AreInOrder, last_watched, answer_stretch}
-use Rattle.session_core.specs.Holding.{Selection, IsSuffix, AreReplied, Agrees, Holding, Gains, stretches_left}
+use Rattle.session_core.specs.Holding.{Selection, IsSuffix, AreReplied, Agrees, Holding, SessionGains, stretches_left}
 use Rattle.session_core.proofs.Intervals.{placed_within, order_longer, order_marked, watched_marked, replied_marked}
 use Rattle.session_core.proofs.Growth.{items_stay, items_grow, items_marked}
 use Rattle.std.proofs.lemmas.List.{map-append}
@@ -44,9 +44,9 @@ module _ (lines : Selection) where
   ending closing history none = ap (λ c. end_of c history) none
 
   -- a line more, at the reports that select it
-  pub grown : (history more : List Report) (s : Shown) (n : ℕ) (gained : List (List ℕ)) (stretches : List Stretch) → s.closing ≡ None
+  pub grown : (history more : List Report) (s : SessionView) (n : ℕ) (gained : List (List ℕ)) (stretches : List Stretch) → s.closing ≡ None
       → gained ≡ selected lines s.policy more → Holding lines history s stretches
-      → Gains lines history (history ++ more) s (record s { kept = s.kept ++ gained; items = n }) stretches stretches gained
+      → SessionGains lines history (history ++ more) s (record s { kept = s.kept ++ gained; items = n }) stretches stretches gained
   grown history more s n gained [] is_open chosen holding =
       let none : length s.marks ≡ 0 = ap length (sym holding.agrees.marks) in
       absurd (omega (arith, none, holding.opened is_open))
@@ -81,15 +81,15 @@ module _ (lines : Selection) where
         };
       }
 
-  pub unselected : (history more : List Report) (s : Shown) (stretches : List Stretch) → s.closing ≡ None
-      → selected lines s.policy more ≡ [] → Holding lines history s stretches → Gains lines history (history ++ more) s s stretches stretches []
+  pub unselected : (history more : List Report) (s : SessionView) (stretches : List Stretch) → s.closing ≡ None
+      → selected lines s.policy more ≡ [] → Holding lines history s stretches → SessionGains lines history (history ++ more) s s stretches stretches []
   unselected history more s stretches is_open none holding =
-      let P : List (List ℕ) → Type 0 = λ kept. Gains lines history (history ++ more) s (record s { kept = kept; items = s.items }) stretches stretches [] in
+      let P : List (List ℕ) → Type 0 = λ kept. SessionGains lines history (history ++ more) s (record s { kept = kept; items = s.items }) stretches stretches [] in
       subst P (append-nil s.kept) (grown history more s s.items [] stretches is_open (sym none) holding)
 
   -- a closing at the end of the history; reports behind it add nothing
-  pub ended : (place : ℕ) (why : Close) (history more : List Report) (s : Shown) (stretches : List Stretch) → s.closing ≡ None → length history ≡ place
-      → Agrees lines history s stretches → Gains lines history (history ++ more) s (closed_at place why s) stretches stretches []
+  pub ended : (place : ℕ) (why : Close) (history more : List Report) (s : SessionView) (stretches : List Stretch) → s.closing ≡ None → length history ≡ place
+      → Agrees lines history s stretches → SessionGains lines history (history ++ more) s (closed_at place why s) stretches stretches []
   ended place why history more s stretches is_open at agrees =
       let here : end_of s.closing history ≡ place = ending s.closing history is_open ∙ at in
       let inside : place ≤ length history = omega (arith, at) in
@@ -116,8 +116,8 @@ module _ (lines : Selection) where
       }
 
   -- reports behind the closing place add nothing
-  pub over : (closing : ℕ × Close) (history more : List Report) (s : Shown) (stretches : List Stretch) → s.closing ≡ Some closing
-      → Agrees lines history s stretches → Gains lines history (history ++ more) s s stretches stretches []
+  pub over : (closing : ℕ × Close) (history more : List Report) (s : SessionView) (stretches : List Stretch) → s.closing ≡ Some closing
+      → Agrees lines history s stretches → SessionGains lines history (history ++ more) s s stretches stretches []
   over closing history more s stretches is_closed agrees =
       let end : (h : List Report) → end_of s.closing h ≡ closing.0 = λ h. ap (λ c. end_of c h) is_closed in
       let inside : closing.0 ≤ length history = let P : ℕ → Type 0 = λ n. n ≤ length history in subst P (end history) agrees.within in
@@ -147,9 +147,9 @@ module _ (lines : Selection) where
       }
 
   -- a mark at the end of the history, with its reply
-  pub answered : (place : ℕ) (policy : Policy) (item : List ℕ) (history : List Report) (s : Shown) (stretches : List Stretch) → s.closing ≡ None
+  pub answered : (place : ℕ) (policy : Policy) (item : List ℕ) (history : List Report) (s : SessionView) (stretches : List Stretch) → s.closing ≡ None
       → length history ≡ place → Agrees lines history s stretches
-      → Gains lines history history s (replied place policy item s) stretches (stretches ++ answer_stretch place policy item ∷ []) (item ∷ [])
+      → SessionGains lines history history s (replied place policy item s) stretches (stretches ++ answer_stretch place policy item ∷ []) (item ∷ [])
   answered place policy item history s stretches is_open at agrees =
       let last = answer_stretch place policy item in
       let here : place ≡ end_of s.closing history = sym (ending s.closing history is_open ∙ at) in
@@ -173,7 +173,7 @@ module _ (lines : Selection) where
         };
       }
 
-  left : (s : Shown) (closing : Option (ℕ × Close))
+  left : (s : SessionView) (closing : Option (ℕ × Close))
       → Holding lines [] (record s { marks = turned_marks closing s.policy; answered = false; closing = turned_closing closing }) (stretches_left closing s.policy)
   left s None = record {
     agrees = record { marks = refl; replies = (refl, refl); order = (le_refl 0, tt); within = le_refl 0; policy = refl; kept = inr (s.kept, sym (append-nil s.kept)) };
@@ -184,11 +184,11 @@ module _ (lines : Selection) where
     opened = λ none. cc;
   }
 
-  pub turned_holds : (s : Shown) → Holding lines [] (turned s) (stretches_left s.closing s.policy)
+  pub turned_holds : (s : SessionView) → Holding lines [] (turned s) (stretches_left s.closing s.policy)
   turned_holds s = left s s.closing
 
   -- the last mark stands within the history
-  pub marks_within : (history : List Report) (s : Shown) (stretches : List Stretch) → Agrees lines history s stretches
+  pub marks_within : (history : List Report) (s : SessionView) (stretches : List Stretch) → Agrees lines history s stretches
       → last_place 0 s.marks ≤ length history
   marks_within history s stretches agrees =
       let P : List Mark → Type 0 = λ marks. last_place 0 marks ≤ length history in
@@ -204,7 +204,7 @@ module _ (lines : Selection) where
     kept = inr (kept, sym (append-nil kept));
   }
 
-  pub taken : (history : List Report) (s : Shown) (stretches : List Stretch) → Holding lines history s stretches
+  pub taken : (history : List Report) (s : SessionView) (stretches : List Stretch) → Holding lines history s stretches
       → Holding lines history (record s { kept = drop 1 s.kept }) stretches
   taken history s stretches holding = let agrees = holding.agrees in record {
     agrees = record {
@@ -218,7 +218,7 @@ module _ (lines : Selection) where
     opened = holding.opened;
   }
 
-  pub roomier : (history : List Report) (s : Shown) (spare : ℕ) (stretches : List Stretch) → Holding lines history s stretches
+  pub roomier : (history : List Report) (s : SessionView) (spare : ℕ) (stretches : List Stretch) → Holding lines history s stretches
       → Holding lines history (record s { spare = spare }) stretches
   roomier history s spare stretches holding = let agrees = holding.agrees in record {
     agrees = record {
@@ -233,55 +233,55 @@ module _ (lines : Selection) where
   }
 
 -- by the answer of a push
-pub reply_gains : (place : ℕ) (policy : Policy) (item : List ℕ) (old new : Shown) (result : Push) → old.closing ≡ None
+pub reply_gains : (place : ℕ) (policy : Policy) (item : List ℕ) (old new : SessionView) (result : Push) → old.closing ≡ None
     → MatchPush result (new ≡ replied place policy item old) (new ≡ closed_at place Overrun old)
     → (lines : Selection) (history : List Report) (stretches : List Stretch) → length history ≡ place → Agrees lines history old stretches
-    → MatchPush result (Gains lines history history old new stretches (stretches ++ answer_stretch place policy item ∷ []) (item ∷ []))
-    (Gains lines history history old new stretches stretches [])
+    → MatchPush result (SessionGains lines history history old new stretches (stretches ++ answer_stretch place policy item ∷ []) (item ∷ []))
+    (SessionGains lines history history old new stretches stretches [])
 reply_gains place policy item old new Done is_open now lines history stretches at agrees =
-    let P : Shown → Type 0 = λ s. Gains lines history history old s stretches (stretches ++ answer_stretch place policy item ∷ []) (item ∷ []) in
+    let P : SessionView → Type 0 = λ s. SessionGains lines history history old s stretches (stretches ++ answer_stretch place policy item ∷ []) (item ∷ []) in
     subst P (sym now) (answered lines place policy item history old stretches is_open at agrees)
 reply_gains place policy item old new Full is_open now lines history stretches at agrees =
-    let P : List Report → Type 0 = λ h. Gains lines history h old (closed_at place Overrun old) stretches stretches [] in
-    let Q : Shown → Type 0 = λ s. Gains lines history history old s stretches stretches [] in
+    let P : List Report → Type 0 = λ h. SessionGains lines history h old (closed_at place Overrun old) stretches stretches [] in
+    let Q : SessionView → Type 0 = λ s. SessionGains lines history history old s stretches stretches [] in
     subst Q (sym now) (subst P (append-nil history) (ended lines place Overrun history [] old stretches is_open at agrees))
 
-pub report_gains : (place : ℕ) (item : List ℕ) (old new : Shown) (result : Push) → old.closing ≡ None
+pub report_gains : (place : ℕ) (item : List ℕ) (old new : SessionView) (result : Push) → old.closing ≡ None
     → MatchPush result (new ≡ given item old) (new ≡ closed_at place Overrun old)
     → (lines : Selection) (history : List Report) (report : Report) (stretches : List Stretch) → length history ≡ place
     → lines old.policy report ≡ item ∷ [] → Holding lines history old stretches
-    → MatchPush result (Gains lines history (history ++ report ∷ []) old new stretches stretches (item ∷ []))
-    (Gains lines history (history ++ report ∷ []) old new stretches stretches [])
+    → MatchPush result (SessionGains lines history (history ++ report ∷ []) old new stretches stretches (item ∷ []))
+    (SessionGains lines history (history ++ report ∷ []) old new stretches stretches [])
 report_gains place item old new Done is_open now lines history report stretches at chosen holding =
-    let P : Shown → Type 0 = λ s. Gains lines history (history ++ report ∷ []) old s stretches stretches (item ∷ []) in
+    let P : SessionView → Type 0 = λ s. SessionGains lines history (history ++ report ∷ []) old s stretches stretches (item ∷ []) in
     let more : item ∷ [] ≡ selected lines old.policy (report ∷ []) = sym (append-nil (lines old.policy report) ∙ chosen) in
     subst P (sym now) (grown lines history (report ∷ []) old (given item old).items (item ∷ []) stretches is_open more holding)
 report_gains place item old new Full is_open now lines history report stretches at chosen holding =
-    let Q : Shown → Type 0 = λ s. Gains lines history (history ++ report ∷ []) old s stretches stretches [] in
+    let Q : SessionView → Type 0 = λ s. SessionGains lines history (history ++ report ∷ []) old s stretches stretches [] in
     subst Q (sym now) (ended lines place Overrun history (report ∷ []) old stretches is_open at holding.agrees)
 
-pub close_gains : (place : ℕ) (why : Close) (old new : Shown) → old.closing ≡ None → new ≡ closed_at place why old
+pub close_gains : (place : ℕ) (why : Close) (old new : SessionView) → old.closing ≡ None → new ≡ closed_at place why old
     → (lines : Selection) (history : List Report) (stretches : List Stretch) → length history ≡ place → Agrees lines history old stretches
-    → Gains lines history history old new stretches stretches []
+    → SessionGains lines history history old new stretches stretches []
 close_gains place why old new is_open now lines history stretches at agrees =
-    let P : List Report → Type 0 = λ h. Gains lines history h old (closed_at place why old) stretches stretches [] in
-    let Q : Shown → Type 0 = λ s. Gains lines history history old s stretches stretches [] in
+    let P : List Report → Type 0 = λ h. SessionGains lines history h old (closed_at place why old) stretches stretches [] in
+    let Q : SessionView → Type 0 = λ s. SessionGains lines history history old s stretches stretches [] in
     subst Q (sym now) (subst P (append-nil history) (ended lines place why history [] old stretches is_open at agrees))
 
-pub turned_as : (lines : Selection) (old new : Shown) → new ≡ turned old → Holding lines [] new (stretches_left old.closing old.policy)
-turned_as lines old new now = let P : Shown → Type 0 = λ s. Holding lines [] s (stretches_left old.closing old.policy) in subst P (sym now) (turned_holds lines old)
+pub turned_as : (lines : Selection) (old new : SessionView) → new ≡ turned old → Holding lines [] new (stretches_left old.closing old.policy)
+turned_as lines old new now = let P : SessionView → Type 0 = λ s. Holding lines [] s (stretches_left old.closing old.policy) in subst P (sym now) (turned_holds lines old)
 
-pub fresh_as : (lines : Selection) (history : List Report) (name : OutletName) (cap : ℕ) (kept : List (List ℕ)) (new : Shown) → new ≡ fresh name cap kept → Agrees lines history new []
-fresh_as lines history name cap kept new now = let P : Shown → Type 0 = λ s. Agrees lines history s [] in subst P (sym now) (fresh_agrees lines history name cap kept)
+pub fresh_as : (lines : Selection) (history : List Report) (name : OutletName) (cap : ℕ) (kept : List (List ℕ)) (new : SessionView) → new ≡ fresh name cap kept → Agrees lines history new []
+fresh_as lines history name cap kept new now = let P : SessionView → Type 0 = λ s. Agrees lines history s [] in subst P (sym now) (fresh_agrees lines history name cap kept)
 
-pub taken_as : (lines : Selection) (history : List Report) (stretches : List Stretch) (old new : Shown) → new ≡ record old { kept = drop 1 old.kept }
+pub taken_as : (lines : Selection) (history : List Report) (stretches : List Stretch) (old new : SessionView) → new ≡ record old { kept = drop 1 old.kept }
     → Holding lines history old stretches → Holding lines history new stretches
-taken_as lines history stretches old new now holding = let P : Shown → Type 0 = λ s. Holding lines history s stretches in subst P (sym now) (taken lines history old stretches holding)
+taken_as lines history stretches old new now holding = let P : SessionView → Type 0 = λ s. Holding lines history s stretches in subst P (sym now) (taken lines history old stretches holding)
 
 -- one call after another
-pub gains_joined : (lines : Selection) (first second third : List Report) (old mid now : Shown) (before between after : List Stretch) (one two : List (List ℕ))
-    → Gains lines first second old mid before between one → Gains lines second third mid now between after two
-    → Gains lines first third old now before after (one ++ two)
+pub gains_joined : (lines : Selection) (first second third : List Report) (old mid now : SessionView) (before between after : List Stretch) (one two : List (List ℕ))
+    → SessionGains lines first second old mid before between one → SessionGains lines second third mid now between after two
+    → SessionGains lines first third old now before after (one ++ two)
 gains_joined lines first second third old mid now before between after one two early late = record {
   kept = late.kept ∙ ap (λ l. l ++ two) early.kept ∙ append_assoc old.kept one two;
   items =

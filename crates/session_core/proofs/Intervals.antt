@@ -6,7 +6,7 @@ use Rattle.std.proofs.lemmas.Bool.{cases_lt}
 use Rattle.std.specs.List.{list_all}
 use Rattle.gps_report.specs.declared.policy.Policy.{Policy}
 use Rattle.session_core.specs.Stretches.{Stretch, between, next_place, AreInOrder, last_watched, mark_of, stretches_at}
-use Rattle.session_core.specs.Shown.{last_place}
+use Rattle.session_core.specs.SessionView.{last_place}
 use Rattle.session_core.specs.Holding.{AreReplied}
 
 pub next_within : (end : ℕ) (stretches : List Stretch) → AreInOrder end stretches → next_place end stretches ≤ end

@@ -3,7 +3,7 @@ use Rattle.std.proofs.Common.{◌≡◌, ℕ, ◌-◌, suc, List, [], ◌∷◌,
 use Rattle.std.specs.Option.{option_to_list}
 use Rattle.gps_report.specs.declared.policy.Policy.{Policy}
 use Rattle.session_core.specs.declared.mark.Mark.{Mark}
-use Rattle.session_core.specs.Shown.{last_policy, last_place}
+use Rattle.session_core.specs.SessionView.{last_policy, last_place}
 
 pub last_policy_push : (policy : Policy) (marks : List Mark) (mark : Mark) → last_policy policy (marks ++ mark ∷ []) ≡ mark.policy
 last_policy_push policy [] mark = refl

@@ -1,4 +1,4 @@
--- A run in generations, each of which counts its places from 0. This project's own.
+-- A run in generations, each of which counts its places from 0.
 use Rattle.std.specs.Prelude.{ℕ, ◌+◌, List, [], ◌∷◌, ◌++◌, length, map}
 use Rattle.gps_report.specs.declared.report.Report.{Report}
 use Rattle.session_core.specs.Stretches.{Stretch, items_to, AreInOrder, left_of, placed_from}

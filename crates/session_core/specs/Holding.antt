@@ -1,10 +1,10 @@
--- What ties a session to a history of reports and to its stretches, and what a call gains. This project's own.
+-- What ties a session to a history of reports and to its stretches, and what a call gains.
 use Rattle.std.specs.Prelude.{◌≡◌, ◌≤◌, ◌<◌, ◌⊎◌, ℕ, Bool, true, List, [], ◌∷◌, ◌++◌, length, map, Option, Some, None, is_some}
 use Rattle.std.specs.List.{list_all}
 use Rattle.gps_report.specs.declared.policy.Policy.{Policy}
 use Rattle.gps_report.specs.declared.report.Report.{Report}
 use Rattle.session_core.specs.declared.mark.Close.{Close}
-use Rattle.session_core.specs.Shown.{Shown}
+use Rattle.session_core.specs.SessionView.{SessionView}
 use Rattle.session_core.specs.Stretches.{Stretch, mark_of, end_of, session_items, AreInOrder, last_watched, plain_stretch}
 
 -- the line that a policy selects of a report, or none
@@ -20,7 +20,7 @@ AreReplied first [] = Unit {0}
 AreReplied first (stretch ∷ more) = (is_some stretch.reply ≡ first) × (list_all (λ other. is_some other.reply) more ≡ true)
 
 -- the session has these stretches over this history
-pub record Agrees (lines : Selection) (history : List Report) (s : Shown) (stretches : List Stretch) : Type 0 where
+pub record Agrees (lines : Selection) (history : List Report) (s : SessionView) (stretches : List Stretch) : Type 0 where
   pub marks : map mark_of stretches ≡ s.marks
   pub replies : AreReplied s.answered stretches
   pub order : AreInOrder (end_of s.closing history) stretches
@@ -29,12 +29,12 @@ pub record Agrees (lines : Selection) (history : List Report) (s : Shown) (stret
   pub kept : IsSuffix s.kept (session_items lines s.closing stretches history) ⊎ IsSuffix (session_items lines s.closing stretches history) s.kept
 
 -- and an open one has a mark
-pub record Holding (lines : Selection) (history : List Report) (s : Shown) (stretches : List Stretch) : Type 0 where
+pub record Holding (lines : Selection) (history : List Report) (s : SessionView) (stretches : List Stretch) : Type 0 where
   pub agrees : Agrees lines history s stretches
   pub opened : s.closing ≡ None → 0 < length s.marks
 
 -- what the outlet keeps and the items of the session gained the same
-pub record Gains (lines : Selection) (history longer : List Report) (old now : Shown) (stretches later : List Stretch) (more : List (List ℕ)) : Type 0 where
+pub record SessionGains (lines : Selection) (history longer : List Report) (old now : SessionView) (stretches later : List Stretch) (more : List (List ℕ)) : Type 0 where
   pub kept : now.kept ≡ old.kept ++ more
   pub items : session_items lines now.closing later longer ≡ session_items lines old.closing stretches history ++ more
   pub holding : Holding lines longer now later

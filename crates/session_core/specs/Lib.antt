@@ -1,7 +1,7 @@
 pub mod Naming
 pub mod Pushing
 pub mod Queue
-pub mod Shown
+pub mod SessionView
 pub mod Stretches
 pub mod Holding
 pub mod Generations

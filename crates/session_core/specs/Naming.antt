@@ -1,4 +1,4 @@
--- Which outlet it is. An outlet and its far end belong together by their names alone. This project's own.
+-- Which outlet it is. An outlet and its far end belong together by their names alone.
 use Rattle.atomic_table.specs.Seated.{TableId}
 
 pub data OutletName : Type 0 where

@@ -4,9 +4,9 @@ ghost use Rattle.std.specs.Prelude.{◌≡◌, ◌≤◌, ◌+◌, ℕ, [], ◌�
 ghost use Rattle.std.specs.Option.{option_to_list};
 ghost use Rattle.gps_report.specs.declared.report.Report.{Report};
 ghost use Rattle.session_core.specs.declared.mark.Close.{Close};
-ghost use Rattle.session_core.specs.Shown.{Shown, last_place};
+ghost use Rattle.session_core.specs.SessionView.{SessionView, last_place};
 ghost use Rattle.session_core.specs.Stretches.{Stretch, AreInOrder, items_to, last_watched, left_of, placed_from, selected, stretches_at};
-ghost use Rattle.session_core.specs.Holding.{Selection, Agrees, Gains, Holding};
+ghost use Rattle.session_core.specs.Holding.{Selection, Agrees, SessionGains, Holding};
 ghost use Rattle.session_core.specs.Generations.{Generation, AreGenerations, run_items, run_reports, run_stretches};
 
 /// Up to the history's end, more reports add what the last policy selects of them.
@@ -49,21 +49,22 @@ pub fn generations_join()
 
 /// An open session gains nothing by reports that its policy does not select, and a closed one gains nothing by any.
 pub fn other_reports_add_nothing()
-    ensures unselected { (lines : Selection) (history more : List Report) (s : Shown) (stretches : List Stretch) → s.closing ≡ None
-        → selected lines s.policy more ≡ [] → Holding lines history s stretches → Gains lines history (history ++ more) s s stretches stretches [] }
-    ensures closed { (lines : Selection) (history more : List Report) (s : Shown) (stretches : List Stretch) (closing : ℕ × Close) → s.closing ≡ Some closing
-        → Agrees lines history s stretches → Gains lines history (history ++ more) s s stretches stretches [] }
+    ensures unselected { (lines : Selection) (history more : List Report) (s : SessionView) (stretches : List Stretch) → s.closing ≡ None
+        → selected lines s.policy more ≡ [] → Holding lines history s stretches → SessionGains lines history (history ++ more) s s stretches stretches [] }
+    ensures closed { (lines : Selection) (history more : List Report) (s : SessionView) (stretches : List Stretch) (closing : ℕ × Close)
+        → s.closing ≡ Some closing
+        → Agrees lines history s stretches → SessionGains lines history (history ++ more) s s stretches stretches [] }
 {}
 
 /// What two calls gain, one after the other.
 pub fn gains_add_up()
-    ensures { (lines : Selection) (first second third : List Report) (old mid now : Shown) (before between after : List Stretch) (one two : List (List ℕ))
-        → Gains lines first second old mid before between one → Gains lines second third mid now between after two
-        → Gains lines first third old now before after (one ++ two) }
+    ensures { (lines : Selection) (first second third : List Report) (old mid now : SessionView) (before between after : List Stretch) (one two : List (List ℕ))
+        → SessionGains lines first second old mid before between one → SessionGains lines second third mid now between after two
+        → SessionGains lines first third old now before after (one ++ two) }
 {}
 
 /// A reply, a report or a closing at the history's length comes at or after the last mark.
 pub fn marks_stand_within_the_history()
-    ensures { (lines : Selection) (history : List Report) (s : Shown) (stretches : List Stretch) → Agrees lines history s stretches
+    ensures { (lines : Selection) (history : List Report) (s : SessionView) (stretches : List Stretch) → Agrees lines history s stretches
         → last_place 0 s.marks ≤ length history }
 {}

@@ -1,6 +1,6 @@
 ghost use Rattle.std.specs.Prelude.{◌≡◌, ◌<◌, ◌+◌, ◌==◌, [], ◌∷◌, ◌++◌, length, vec_len, vec_capacity};
 ghost use Rattle.gps_report.specs.declared.policy.Policy.{Policy as PolicyRecord};
-ghost use Rattle.session_core.specs.Shown.{last_policy};
+ghost use Rattle.session_core.specs.SessionView.{last_policy};
 
 use crate::Mark;
 use gps_report::Policy;

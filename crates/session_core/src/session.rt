@@ -4,9 +4,9 @@ ghost use Rattle.session_core.specs.declared.outlet.Push.{Push};
 ghost use Rattle.session_core.specs.declared.mark.Close.{Close};
 ghost use Rattle.gps_report.specs.declared.report.Report.{Report};
 ghost use Rattle.session_core.specs.Stretches.{Stretch, answer_stretch};
-ghost use Rattle.session_core.specs.Holding.{Selection, Agrees, Holding, Gains, stretches_left};
+ghost use Rattle.session_core.specs.Holding.{Selection, Agrees, Holding, SessionGains, stretches_left};
 ghost use Rattle.session_core.specs.Pushing.{MatchPush};
-ghost use Rattle.session_core.specs.Shown.{fresh, given, marked, replied, closed_at, turned, last_place, one_more};
+ghost use Rattle.session_core.specs.SessionView.{fresh, given, marked, replied, closed_at, turned, last_place, one_more};
 
 use crate::marks::{add_mark, leave_last, leave_none};
 use crate::{Close, Item, Mark, Outlet, PlainOutlet, Push, TwoEnded};
@@ -32,9 +32,9 @@ pub struct Session<O: Outlet> {
 
 impl<O: Outlet> Model for Session<O> {
     ghost use Rattle.std.specs.Prelude.{◌≡◌, ◌≤◌, ◌+◌, None, vec_len, vec_capacity};
-    ghost use Rattle.session_core.specs.Shown.{Shown, last_policy};
+    ghost use Rattle.session_core.specs.SessionView.{SessionView, last_policy};
 
-    ghost Value = { Shown };
+    ghost Value = { SessionView };
 
     ghost view = { λ s. record {
       name = O.name s.outlet;
@@ -154,9 +154,10 @@ impl<O: Outlet> Session<O> {
         ensures full { result ≡ Push.Full → self.old.cap ≤ length self.old.kept }
         ensures exact { O.exact ≡ true → (result ≡ Push.Full) ↔ (self.old.cap ≤ length self.old.kept) }
         ensures placed { last_place 0 self.new.marks ≤ place }
-        ensures items { (lines : Selection) (history : List Report) (stretches : List Stretch) → length history ≡ place → Agrees lines history self.old stretches
-            → MatchPush result (Gains lines history history self.old self.new stretches (stretches ++ answer_stretch place policy item ∷ []) (item ∷ []))
-            (Gains lines history history self.old self.new stretches stretches []) }
+        ensures items { (lines : Selection) (history : List Report) (stretches : List Stretch) → length history ≡ place
+            → Agrees lines history self.old stretches
+            → MatchPush result (SessionGains lines history history self.old self.new stretches (stretches ++ answer_stretch place policy item ∷ []) (item ∷ []))
+            (SessionGains lines history history self.old self.new stretches stretches []) }
     {
         match self.put(item) {
             Push::Done => {
@@ -180,8 +181,8 @@ impl<O: Outlet> Session<O> {
         ensures placed { last_place 0 self.new.marks ≤ place }
         ensures items { (lines : Selection) (history : List Report) (last : Report) (stretches : List Stretch) → length history ≡ place
             → lines self.old.policy last ≡ item ∷ [] → Holding lines history self.old stretches
-            → MatchPush result (Gains lines history (history ++ last ∷ []) self.old self.new stretches stretches (item ∷ []))
-            (Gains lines history (history ++ last ∷ []) self.old self.new stretches stretches []) }
+            → MatchPush result (SessionGains lines history (history ++ last ∷ []) self.old self.new stretches stretches (item ∷ []))
+            (SessionGains lines history (history ++ last ∷ []) self.old self.new stretches stretches []) }
     {
         match self.put(item) {
             Push::Done => Push::Done,
@@ -198,8 +199,9 @@ impl<O: Outlet> Session<O> {
         requires open { self.old.closing ≡ None }
         requires after { last_place 0 self.old.marks ≤ place }
         ensures now { self.new ≡ closed_at place why self.old }
-        ensures items { (lines : Selection) (history : List Report) (stretches : List Stretch) → length history ≡ place → Agrees lines history self.old stretches
-            → Gains lines history history self.old self.new stretches stretches [] }
+        ensures items { (lines : Selection) (history : List Report) (stretches : List Stretch) → length history ≡ place
+            → Agrees lines history self.old stretches
+            → SessionGains lines history history self.old self.new stretches stretches [] }
     {
         self.closing = Some((place, why));
     }

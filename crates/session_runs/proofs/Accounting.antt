@@ -4,12 +4,12 @@ use Rattle.std.specs.List.{AllZip}
 use Rattle.std.proofs.lemmas.List.{length-map}
 use Rattle.session_core.specs.declared.mark.Close.{Close}
 use Rattle.session_core.specs.declared.mark.Close.TheVariants.{DaemonEnd}
-use Rattle.session_core.specs.Shown.{Shown}
+use Rattle.session_core.specs.SessionView.{SessionView}
 use Rattle.book_log.specs.Entries.{Entry}
 use Rattle.book_log.specs.History.{history, history_after}
-use Rattle.book_log.specs.Logged.{Logged}
+use Rattle.book_log.specs.DeviceLogView.{DeviceLogView}
 use Rattle.book_sessions.specs.Answering.{raised}
-use Rattle.book_sessions.specs.Attendance.{Attendance, with_kept}
+use Rattle.book_sessions.specs.MemberView.{MemberView, with_kept}
 use Rattle.book_replies.specs.declared.answering.Answer.{Answer}
 use Rattle.book_sessions.specs.Roster.{Shuts}
 use Rattle.report_book.specs.BookView.{BookView}
@@ -25,14 +25,14 @@ use Rattle.session_runs.proofs.Sending.{closings_unheard, entries_unheard, nothi
 use Rattle.session_runs.proofs.Zipping.{zip_both, zip_same, zip_weaker}
 
 -- what was given goes on as the run does
-given_on : (names : List (List ℕ)) (before log onward longer : List Entry) (old new : Shown) (more taken : List (List ℕ)) (r next : SessionRun)
+given_on : (names : List (List ℕ)) (before log onward longer : List Entry) (old new : SessionView) (more taken : List (List ℕ)) (r next : SessionRun)
     → Extends names before log onward longer old new more r next → taken ++ old.kept ≡ items_over names (before ++ log) r
     → taken ++ new.kept ≡ items_over names (onward ++ longer) next
 given_on names before log onward longer old new more taken r next extends given =
     ap (λ l. taken ++ l) extends.kept ∙ sym (append_assoc taken old.kept more) ∙ ap (λ l. l ++ more) given ∙ sym extends.items
 
 -- in the same log, where nothing is heard
-unheard : (names : List (List ℕ)) (log : List Entry) (old new : Attendance) (r : SessionRun) (bytes : List ℕ) → HearsNothing old new
+unheard : (names : List (List ℕ)) (log : List Entry) (old new : MemberView) (r : SessionRun) (bytes : List ℕ) → HearsNothing old new
     → HasSent names log old r.stretches bytes → HasSent names log new r.stretches bytes
 unheard names log old new r bytes nothing sent =
     let P : List Entry → Type 0 = λ l. HasSent names l new r.stretches bytes in
@@ -41,7 +41,7 @@ unheard names log old new r bytes nothing sent =
 -- ---- entries
 
 carries : (old new : BookView) (entries before onward : List Entry) → new.names ≡ old.names → onward ++ new.log.log ≡ (before ++ old.log.log) ++ entries
-    → (a b : Attendance) → Follows old.names before old.log.log onward new.log.log a.session b.session → HearsNothing a b × Counts a.session b.session
+    → (a b : MemberView) → Follows old.names before old.log.log onward new.log.log a.session b.session → HearsNothing a b × Counts a.session b.session
     → CarriesOn old before new onward a b
 carries old new entries before onward names whole a b follows (nothing, counts) r taken bytes account =
     let on = follows r account.run in
@@ -59,9 +59,9 @@ all_carry : (turns : Bool) (old new : BookView) (entries before : List Entry) �
     → AllCount old.sessions new.sessions → AllZip (CarriesOn old before new (forgotten_if turns before old.log.log)) old.sessions new.sessions
 all_carry turns old new entries before on nothing counts =
     let onward : List Entry = forgotten_if turns before old.log.log in
-    let F : Attendance → Attendance → Type 0 = λ a b. Follows old.names before old.log.log onward new.log.log a.session b.session in
-    let C : Attendance → Attendance → Type 0 = λ a b. Counts a.session b.session in
-    let N : Attendance → Attendance → Type 0 = λ a b. HearsNothing a b × Counts a.session b.session in
+    let F : MemberView → MemberView → Type 0 = λ a b. Follows old.names before old.log.log onward new.log.log a.session b.session in
+    let C : MemberView → MemberView → Type 0 = λ a b. Counts a.session b.session in
+    let N : MemberView → MemberView → Type 0 = λ a b. HearsNothing a b × Counts a.session b.session in
     zip_both F N (CarriesOn old before new onward) (carries old new entries before onward on.names on.whole) old.sessions new.sessions on.sessions
     (zip_both HearsNothing C N (λ a b unheard count. (unheard, count)) old.sessions new.sessions nothing counts)
 
@@ -72,9 +72,9 @@ entries_carry exact turns old new entries before held stands moves =
 
 pub quiet_carry : QuietEntriesCarryAccounts
 quiet_carry old new entries before stands quiet =
-    let Q : List Attendance → Type 0 = λ l. AllZip HearsNothing old.sessions l in
+    let Q : List MemberView → Type 0 = λ l. AllZip HearsNothing old.sessions l in
     all_carry false old new entries before (quiet_entries old new entries before stands quiet) (subst Q (sym quiet.sessions) (zip_same HearsNothing same_unheard old.sessions))
-    (subst (AllCount old.sessions) (sym quiet.sessions) (zip_same (λ (a b : Attendance). Counts a.session b.session) same_counts old.sessions))
+    (subst (AllCount old.sessions) (sym quiet.sessions) (zip_same (λ (a b : MemberView). Counts a.session b.session) same_counts old.sessions))
 
 -- ---- sessions
 
@@ -91,7 +91,7 @@ admitted_account name cap old new before held stands admits =
 pub others_keep : OthersKeepAccounts
 others_keep old new before a r taken bytes same account =
     let N : List (List ℕ) → Type 0 = λ n. Account n before new.log.log a r taken bytes in
-    let L : Logged → Type 0 = λ l. Account old.names before l.log a r taken bytes in
+    let L : DeviceLogView → Type 0 = λ l. Account old.names before l.log a r taken bytes in
     subst N (sym same.names) (subst L (sym same.log) account)
 
 pub inputs_extend : InputsExtendAccounts
@@ -129,16 +129,16 @@ closed_hears names before log a r taken bytes piece over account = record {
   sent = sent_in_vain names (before ++ log) a r.stretches bytes piece over account.sent;
 }
 
-shut_sent : (c : Option (ℕ × Close)) (names : List (List ℕ)) (log : List Entry) (why : Close) (a : Attendance) (r : SessionRun) (bytes : List ℕ)
+shut_sent : (c : Option (ℕ × Close)) (names : List (List ℕ)) (log : List Entry) (why : Close) (a : MemberView) (r : SessionRun) (bytes : List ℕ)
     → HasSent names log a r.stretches bytes → HasSent names log a (shut_run log why c r).stretches bytes
 shut_sent None names log why a r bytes sent = sent
 shut_sent (Some closing) names log why a r bytes sent = sent
 
 pub shut_accounts : ShutEndsAccounts
 shut_accounts old new before held stands shuts =
-    let R : Attendance → Attendance → Type 0 = λ a b. (r : SessionRun) (taken : List (List ℕ)) (bytes : List ℕ) → AccountIn old before a r taken bytes
+    let R : MemberView → MemberView → Type 0 = λ a b. (r : SessionRun) (taken : List (List ℕ)) (bytes : List ℕ) → AccountIn old before a r taken bytes
     → AccountIn new before b (shut_run (before ++ new.log.log) DaemonEnd a.session.closing r) taken bytes in
-    let L : Logged → Type 0 = λ l. length (history_after before l.log) ≡ old.log.length in
+    let L : DeviceLogView → Type 0 = λ l. length (history_after before l.log) ≡ old.log.length in
     let long : L new.log = subst L (sym shuts.same.log) (place_is old before held stands) in
     zip_weaker (Shuts old.log.length DaemonEnd) R
     (λ a b shut r taken bytes account.

@@ -6,14 +6,14 @@ use Rattle.std.proofs.lemmas.List.Sums.{fold-append}
 use Rattle.gps_command.specs.declared.request.RawCommand.{RawCommand}
 use Rattle.gps_command.specs.Policies.{policy_with}
 use Rattle.gps_report.specs.declared.policy.Policy.{Policy}
-use Rattle.session_core.specs.Shown.{opening_policy}
+use Rattle.session_core.specs.SessionView.{opening_policy}
 use Rattle.session_core.specs.Stretches.{Stretch}
 use Rattle.book_log.specs.Entries.{Entry}
 use Rattle.book_log.specs.History.{history}
 use Rattle.book_replies.specs.Replies.{answered, reply}
 use Rattle.book_sessions.specs.Answering.{stretch_at}
 use Rattle.report_book.specs.Knowing.{known_in}
-use Rattle.session_runs.specs.Asking.{Answers, Asked, BeginsAt, IsAnswer, policy_of}
+use Rattle.session_runs.specs.Asking.{AnswersFirst, Asked, BeginsAt, IsAnswer, policy_of}
 use Rattle.session_runs.specs.AskingLaws.{StretchesHaveTheirPolicies}
 
 -- ---- policies
@@ -41,7 +41,7 @@ answer_longer names log more moment done request stretch within answer = record 
 }
 
 answers_longer : (names : List (List ℕ)) (log more : List Entry) (done : List RawCommand) (from : ℕ) (stretches : List Stretch) (asked : List RawCommand)
-    → Answers names log done from stretches asked → Answers names (log ++ more) done from stretches asked
+    → AnswersFirst names log done from stretches asked → AnswersFirst names (log ++ more) done from stretches asked
 answers_longer names log more done from [] asked answers = tt
 answers_longer names log more done from (stretch ∷ stretches) [] answers = answers
 answers_longer names log more done from (stretch ∷ stretches) (request ∷ asked) answers =
@@ -61,7 +61,7 @@ asked_longer names log more (opening ∷ stretches) asked is =
 -- ---- with further requests
 
 answers_waiting : (names : List (List ℕ)) (log : List Entry) (done : List RawCommand) (from : ℕ) (stretches : List Stretch) (asked more : List RawCommand)
-    → Answers names log done from stretches asked → Answers names log done from stretches (asked ++ more)
+    → AnswersFirst names log done from stretches asked → AnswersFirst names log done from stretches (asked ++ more)
 answers_waiting names log done from [] asked more answers = tt
 answers_waiting names log done from (stretch ∷ stretches) [] more answers = absurd answers
 answers_waiting names log done from (stretch ∷ stretches) (request ∷ asked) more answers =
@@ -75,11 +75,11 @@ asked_waiting names log (opening ∷ stretches) asked more is = (is.0, is.1, is.
 
 -- of which some are answered next
 answers_joined : (names : List (List ℕ)) (log : List Entry) (done : List RawCommand) (from : ℕ) (stretches added : List Stretch) (asked more : List RawCommand)
-    → from ≤ length log → length stretches ≡ length asked → Answers names log done from stretches asked
-    → ((last : ℕ) → last ≤ length log → Answers names log (done ++ asked) last added more)
-    → Answers names log done from (stretches ++ added) (asked ++ more)
+    → from ≤ length log → length stretches ≡ length asked → AnswersFirst names log done from stretches asked
+    → ((last : ℕ) → last ≤ length log → AnswersFirst names log (done ++ asked) last added more)
+    → AnswersFirst names log done from (stretches ++ added) (asked ++ more)
 answers_joined names log done from [] added [] more before long answers next =
-    let P : List RawCommand → Type 0 = λ l. Answers names log l from added more in subst P (append-nil done) (next from before)
+    let P : List RawCommand → Type 0 = λ l. AnswersFirst names log l from added more in subst P (append-nil done) (next from before)
 answers_joined names log done from [] added (request ∷ asked) more before long answers next = absurd (omega (arith, long))
 answers_joined names log done from (stretch ∷ stretches) added [] more before long answers next = absurd answers
 answers_joined names log done from (stretch ∷ stretches) added (request ∷ asked) more before long answers next = (
@@ -88,13 +88,13 @@ answers_joined names log done from (stretch ∷ stretches) added (request ∷ as
   answers.2,
   answers_joined names log (done ++ request ∷ []) answers.0 stretches added asked more answers.1.within (omega (arith, long)) answers.3
       (λ last within.
-      let P : List RawCommand → Type 0 = λ l. Answers names log l last added more in
+      let P : List RawCommand → Type 0 = λ l. AnswersFirst names log l last added more in
       subst P (sym (append_assoc done (request ∷ []) asked)) (next last within)),
 )
 
 pub asked_joined : (names : List (List ℕ)) (log : List Entry) (stretches added : List Stretch) (asked more : List RawCommand)
     → length stretches ≡ 1 + length asked → Asked names log stretches asked
-    → ((last : ℕ) → last ≤ length log → Answers names log asked last added more)
+    → ((last : ℕ) → last ≤ length log → AnswersFirst names log asked last added more)
     → Asked names log (stretches ++ added) (asked ++ more)
 asked_joined names log [] added asked more long is next = absurd is
 asked_joined names log (opening ∷ stretches) added asked more long is next =
@@ -103,7 +103,7 @@ asked_joined names log (opening ∷ stretches) added asked more long is next =
 -- answered at the end of the log
 pub answers_now : (names : List (List ℕ)) (log : List Entry) (done asked : List RawCommand) (from place count : ℕ) (policy : Policy)
     → from ≤ length log → place ≡ length (history log) → policy ≡ policy_of done
-    → Answers names log done from (map (stretch_at place) (take count (answered (known_in (length names) log) names policy asked))) asked
+    → AnswersFirst names log done from (map (stretch_at place) (take count (answered (known_in (length names) log) names policy asked))) asked
 unfolding answered
 answers_now names log done [] from place zero policy before at is = tt
 answers_now names log done [] from place (suc count) policy before at is = tt
@@ -125,7 +125,7 @@ answers_now names log done (request ∷ asked) from place (suc count) policy bef
 -- ---- the policy of each
 
 policy_there : (names : List (List ℕ)) (log : List Entry) (done : List RawCommand) (from : ℕ) (stretches : List Stretch) (asked : List RawCommand) (k : ℕ) (other : Stretch)
-    → Answers names log done from stretches asked → k < length stretches → (get_or stretches k other).policy ≡ policy_of (done ++ take (suc k) asked)
+    → AnswersFirst names log done from stretches asked → k < length stretches → (get_or stretches k other).policy ≡ policy_of (done ++ take (suc k) asked)
 policy_there names log done from [] asked k other answers there = absurd (omega (arith, there))
 policy_there names log done from (stretch ∷ stretches) [] k other answers there = absurd answers
 policy_there names log done from (stretch ∷ stretches) (request ∷ asked) zero other answers there = answers.2.policy

@@ -4,21 +4,21 @@ use Rattle.std.specs.List.{AllZip}
 use Rattle.gps_report.specs.declared.report.Report.{Report}
 use Rattle.session_core.specs.declared.mark.Close.{Close}
 use Rattle.session_core.specs.declared.mark.Close.TheVariants.{DaemonEnd}
-use Rattle.session_core.specs.Shown.{Shown, opening_policy, turned, turned_closing}
+use Rattle.session_core.specs.SessionView.{SessionView, opening_policy, turned, turned_closing}
 use Rattle.session_core.specs.Stretches.{Stretch, answer_stretch}
 use Rattle.session_core.proofs.Growth.{items_marked}
 use Rattle.book_batch.specs.Lines.{line_for}
 use Rattle.book_log.specs.Entries.{Entry}
 use Rattle.book_log.specs.History.{history, history_after}
-use Rattle.book_log.specs.Logged.{Logged}
-use Rattle.book_log.specs.Standing.{StandsFor, Summary}
+use Rattle.book_log.specs.DeviceLogView.{DeviceLogView}
+use Rattle.book_log.specs.Standing.{StandsFor, DeviceStatesView}
 use Rattle.book_replies.specs.Replies.{opening_reply}
-use Rattle.book_sessions.specs.Attendance.{Attendance, opened, renewed}
+use Rattle.book_sessions.specs.MemberView.{MemberView, opened, renewed}
 use Rattle.book_sessions.specs.Roster.{Shuts}
 use Rattle.book_sessions.specs.Spreading.{Reports, Spreads}
 use Rattle.report_book.specs.BookView.{BookView, turned_if}
-use Rattle.report_book.specs.Moves.{Adds}
-use Rattle.report_book.specs.Standing.{Holds}
+use Rattle.report_book.specs.Moves.{BookAdds}
+use Rattle.report_book.specs.Standing.{BookHolds}
 use Rattle.session_runs.specs.Runs.{SessionRun, IsHere, IsRunOf, RunsOf, items_over}
 use Rattle.session_runs.specs.Following.{Extends, Follows, GoesOn, closing_after, opened_run, run_after, shut_run}
 use Rattle.session_runs.specs.Laws.{AdmittedRunBegins, GivenMore, GivenTaken, MovesExtendRuns, OneRunChanges, ShutAllRuns}
@@ -27,15 +27,15 @@ use Rattle.session_runs.proofs.Whole.{whole_length}
 use Rattle.session_runs.proofs.Zipping.{zip_carry, zip_push, zip_set, zip_unmapped, zip_weaker}
 
 -- the place at the end of this generation
-pub place_is : (b : BookView) (before : List Entry) → Holds b → StandsFor b.log.opening before → length (history_after before b.log.log) ≡ b.log.length
+pub place_is : (b : BookView) (before : List Entry) → BookHolds b → StandsFor b.log.opening before → length (history_after before b.log.log) ≡ b.log.length
 place_is b before held stands = sym (held.log.over before stands).places
 
 -- the same sessions, over equal names and an equal log
-renamed : (names named : List (List ℕ)) (before log logged : List Entry) (sessions : List Attendance) (runs : List SessionRun) → named ≡ names → logged ≡ log
-    → AllZip (λ (a : Attendance) r. IsRunOf names before log a.session r) sessions runs → AllZip (λ (a : Attendance) r. IsRunOf named before logged a.session r) sessions runs
+renamed : (names named : List (List ℕ)) (before log logged : List Entry) (sessions : List MemberView) (runs : List SessionRun) → named ≡ names → logged ≡ log
+    → AllZip (λ (a : MemberView) r. IsRunOf names before log a.session r) sessions runs → AllZip (λ (a : MemberView) r. IsRunOf named before logged a.session r) sessions runs
 renamed names named before log logged sessions runs same_names same_log zip =
-    let P : List (List ℕ) → Type 0 = λ n. AllZip (λ (a : Attendance) r. IsRunOf n before logged a.session r) sessions runs in
-    let Q : List Entry → Type 0 = λ l. AllZip (λ (a : Attendance) r. IsRunOf names before l a.session r) sessions runs in
+    let P : List (List ℕ) → Type 0 = λ n. AllZip (λ (a : MemberView) r. IsRunOf n before logged a.session r) sessions runs in
+    let Q : List Entry → Type 0 = λ l. AllZip (λ (a : MemberView) r. IsRunOf names before l a.session r) sessions runs in
     subst P (sym same_names) (subst Q (sym same_log) zip)
 
 -- ---- a new session
@@ -43,7 +43,7 @@ renamed names named before log logged sessions runs same_names same_log zip =
 pub admitted_begins : AdmittedRunBegins
 admitted_begins name cap old new before held stands admits =
     let G : List Entry = before ++ old.log.log in
-    let a : Attendance = opened name cap old.log.length in
+    let a : MemberView = opened name cap old.log.length in
     let at : length (history G) ≡ length (history before) + old.log.length = omega (arith, whole_length before old.log.log, place_is old before held stands) in
     let here : IsHere old.names before old.log.log a.session (opened_run G) = record {
       earlier = [];
@@ -53,7 +53,7 @@ admitted_begins name cap old new before held stands admits =
       holding = admits.holding before stands;
       closing = refl;
     } in
-    let same_log : new.log.log ≡ old.log.log = ap (λ (l : Logged). l.log) admits.same.log in
+    let same_log : new.log.log ≡ old.log.log = ap (λ (l : DeviceLogView). l.log) admits.same.log in
     let N : List (List ℕ) → Type 0 = λ n. IsRunOf n before new.log.log a.session (opened_run (before ++ new.log.log)) in
     let L : List Entry → Type 0 = λ l. IsRunOf old.names before l a.session (opened_run (before ++ l)) in
     let run : N new.names = subst N (sym admits.same.names) (subst L (sym same_log) (inl here)) in
@@ -63,8 +63,8 @@ admitted_begins name cap old new before held stands admits =
       items = items_marked (line_for new.names) (length (history (before ++ new.log.log))) [] last (history (before ++ new.log.log)) refl;
       kept = refl;
       runs = λ runs zip.
-          let P : Attendance → SessionRun → Type 0 = λ a r. IsRunOf new.names before new.log.log a.session r in
-          let Q : List Attendance → Type 0 = λ l. AllZip P l (runs ++ opened_run (before ++ new.log.log) ∷ []) in
+          let P : MemberView → SessionRun → Type 0 = λ a r. IsRunOf new.names before new.log.log a.session r in
+          let Q : List MemberView → Type 0 = λ l. AllZip P l (runs ++ opened_run (before ++ new.log.log) ∷ []) in
           subst Q (sym admits.sessions)
           (zip_push P old.sessions runs a (opened_run (before ++ new.log.log)) run (renamed old.names new.names before old.log.log new.log.log old.sessions runs admits.same.names same_log zip));
     }
@@ -80,7 +80,7 @@ turned_closed None some = some
 turned_closed (Some closing) some = refl
 
 -- behind a turn
-follows_turned : (names : List (List ℕ)) (before log longer : List Entry) (old new : Shown)
+follows_turned : (names : List (List ℕ)) (before log longer : List Entry) (old new : SessionView)
     → Follows names (before ++ log) [] (before ++ log) longer (turned old) new → Follows names before log (before ++ log) longer old new
 follows_turned names before log longer old new follows r run =
     let turn = turns_keep names before log old r run in
@@ -97,7 +97,7 @@ follows_turned names before log longer old new follows r run =
 -- in this generation
 follows_added : (exact : Bool) (names : List (List ℕ)) (before log longer entries : List Entry) (reports : List Report) (first : ℕ)
     → longer ≡ log ++ entries → first ≡ length (history_after before log) → history_after (before ++ log) entries ≡ reports
-    → (old new : Attendance) → Spreads exact (line_for names) first reports old new → Follows names before log before longer old.session new.session
+    → (old new : MemberView) → Spreads exact (line_for names) first reports old new → Follows names before log before longer old.session new.session
 follows_added exact names before log longer entries reports first longer_is first_is added old new spreads =
     let P : List Entry → Type 0 = λ l. Follows names before log before l old.session new.session in
     let F : ℕ → Type 0 = λ n. Reports exact (line_for names) n reports old.session new.session in
@@ -105,13 +105,13 @@ follows_added exact names before log longer entries reports first longer_is firs
 
 -- the runs of all, where each one follows
 pub runs_on : (old new : BookView) (before onward : List Entry) → new.names ≡ old.names
-    → AllZip (λ (a b : Attendance). Follows old.names before old.log.log onward new.log.log a.session b.session) old.sessions new.sessions
+    → AllZip (λ (a b : MemberView). Follows old.names before old.log.log onward new.log.log a.session b.session) old.sessions new.sessions
     → (runs : List SessionRun) → RunsOf old before runs
     → (nexts : List SessionRun) × RunsOf new onward nexts × AllZip (λ (r next : SessionRun). next.stretches ≡ r.stretches) runs nexts
 runs_on old new before onward names follows runs zip =
-    let P : Attendance → SessionRun → Type 0 = λ a r. IsRunOf old.names before old.log.log a.session r in
-    let R : Attendance → Attendance → Type 0 = λ a b. Follows old.names before old.log.log onward new.log.log a.session b.session in
-    let Q : Attendance → SessionRun → Type 0 = λ a r. IsRunOf new.names onward new.log.log a.session r in
+    let P : MemberView → SessionRun → Type 0 = λ a r. IsRunOf old.names before old.log.log a.session r in
+    let R : MemberView → MemberView → Type 0 = λ a b. Follows old.names before old.log.log onward new.log.log a.session b.session in
+    let Q : MemberView → SessionRun → Type 0 = λ a r. IsRunOf new.names onward new.log.log a.session r in
     let S : SessionRun → SessionRun → Type 0 = λ r next. next.stretches ≡ r.stretches in
     zip_carry P R Q S
     (λ a b r follow run.
@@ -122,19 +122,19 @@ runs_on old new before onward names follows runs zip =
     old.sessions new.sessions runs follows zip
 
 -- entries and their reports were added, behind a turn or none
-moved : (exact turns : Bool) (old new : BookView) (entries before : List Entry) (reports : List Report) → Holds old → StandsFor old.log.opening before
-    → Adds exact (turned_if turns old) new entries reports → GoesOn turns old new entries before
+moved : (exact turns : Bool) (old new : BookView) (entries before : List Entry) (reports : List Report) → BookHolds old → StandsFor old.log.opening before
+    → BookAdds exact (turned_if turns old) new entries reports → GoesOn turns old new entries before
 moved true_or turns old new entries before reports held stands adds = by turns adds
   where
-    by : (turns : Bool) → Adds true_or (turned_if turns old) new entries reports → GoesOn turns old new entries before
+    by : (turns : Bool) → BookAdds true_or (turned_if turns old) new entries reports → GoesOn turns old new entries before
     by true adds =
         let onward : List Entry = before ++ old.log.log in
         let present : StandsFor old.log.present onward = (held.log.over before stands).present in
-        let O : Summary → Type 0 = λ s. StandsFor s onward in
+        let O : DeviceStatesView → Type 0 = λ s. StandsFor s onward in
         let reports_are : history_after (onward ++ []) entries ≡ reports = adds.log.reports_are onward present in
-        let R : Attendance → Attendance → Type 0 = λ a b. Follows old.names before old.log.log onward new.log.log a.session b.session in
+        let R : MemberView → MemberView → Type 0 = λ a b. Follows old.names before old.log.log onward new.log.log a.session b.session in
         let sessions : AllZip R old.sessions new.sessions =
-        zip_weaker (λ (a b : Attendance). Spreads true_or (line_for old.names) 0 reports (renewed a) b) R
+        zip_weaker (λ (a b : MemberView). Spreads true_or (line_for old.names) 0 reports (renewed a) b) R
         (λ a b spreads. follows_turned old.names before old.log.log new.log.log a.session b.session
         (follows_added true_or old.names onward [] new.log.log entries reports 0 adds.log.log (sym (ap length (Rattle.session_runs.proofs.Whole.nothing_after onward))) reports_are (renewed a) b spreads))
         old.sessions new.sessions (zip_unmapped (Spreads true_or (line_for old.names) 0 reports) renewed old.sessions new.sessions adds.sessions) in
@@ -146,8 +146,8 @@ moved true_or turns old new entries before reports held stands adds = by turns a
           runs = runs_on old new before onward adds.names sessions;
         }
     by false adds =
-        let O : Summary → Type 0 = λ s. StandsFor s before in
-        let R : Attendance → Attendance → Type 0 = λ a b. Follows old.names before old.log.log before new.log.log a.session b.session in
+        let O : DeviceStatesView → Type 0 = λ s. StandsFor s before in
+        let R : MemberView → MemberView → Type 0 = λ a b. Follows old.names before old.log.log before new.log.log a.session b.session in
         let sessions : AllZip R old.sessions new.sessions =
         zip_weaker (Spreads true_or (line_for old.names) old.log.length reports) R
         (follows_added true_or old.names before old.log.log new.log.log entries reports old.log.length adds.log.log (sym (place_is old before held stands)) (adds.log.reports_are before stands))
@@ -179,9 +179,9 @@ given_taken names log taken (item ∷ kept) put r given = record { items = given
 
 pub one_changes : OneRunChanges
 one_changes s old new before runs next run same changed is_run zip =
-    let P : Attendance → SessionRun → Type 0 = λ a r. IsRunOf new.names before new.log.log a.session r in
-    let Q : List Attendance → Type 0 = λ l. AllZip P l (set runs s run) in
-    let same_log : new.log.log ≡ old.log.log = ap (λ (l : Logged). l.log) same.log in
+    let P : MemberView → SessionRun → Type 0 = λ a r. IsRunOf new.names before new.log.log a.session r in
+    let Q : List MemberView → Type 0 = λ l. AllZip P l (set runs s run) in
+    let same_log : new.log.log ≡ old.log.log = ap (λ (l : DeviceLogView). l.log) same.log in
     subst Q (sym changed) (zip_set P old.sessions runs s next run is_run
     (renamed old.names new.names before old.log.log new.log.log old.sessions runs same.names same_log zip))
 
@@ -191,9 +191,9 @@ shut_stretches log why (Some closing) r = refl
 
 pub shut_all : ShutAllRuns
 shut_all old new before runs held stands shuts zip =
-    let P : Attendance → SessionRun → Type 0 = λ a r. IsRunOf new.names before new.log.log a.session r in
+    let P : MemberView → SessionRun → Type 0 = λ a r. IsRunOf new.names before new.log.log a.session r in
     let S : SessionRun → SessionRun → Type 0 = λ r next. next.stretches ≡ r.stretches in
-    let same_log : new.log.log ≡ old.log.log = ap (λ (l : Logged). l.log) shuts.same.log in
+    let same_log : new.log.log ≡ old.log.log = ap (λ (l : DeviceLogView). l.log) shuts.same.log in
     let L : List Entry → Type 0 = λ l. length (history_after before l) ≡ old.log.length in
     let long : L new.log.log = subst L (sym same_log) (place_is old before held stands) in
     zip_carry P (Shuts old.log.length DaemonEnd) P S

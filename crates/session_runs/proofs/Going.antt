@@ -3,8 +3,8 @@ use Rattle.std.proofs.Common.{◌≡◌, ◌≤◌, inl, inr, ℕ, ◌+◌, Bool
 use Rattle.std.proofs.lemmas.List.{map-append}
 use Rattle.gps_report.specs.declared.report.Report.{Report}
 use Rattle.session_core.specs.declared.mark.Close.{Close}
-use Rattle.session_core.specs.Holding.{Gains, Holding, Selection, stretches_left}
-use Rattle.session_core.specs.Shown.{Shown, turned, turned_closing, turned_marks}
+use Rattle.session_core.specs.Holding.{SessionGains, Holding, Selection, stretches_left}
+use Rattle.session_core.specs.SessionView.{SessionView, turned, turned_closing, turned_marks}
 use Rattle.session_core.specs.Stretches.{Stretch, AreInOrder, end_of, left_of, placed_from, plain_stretch}
 use Rattle.session_core.proofs.Gaining.{over, taken, turned_holds}
 use Rattle.book_batch.specs.Lines.{line_for}
@@ -13,7 +13,7 @@ use Rattle.book_log.specs.History.{history, history_after}
 use Rattle.book_log.proofs.Histories.{history-append}
 use Rattle.book_replies.specs.declared.answering.Answer.{Answer}
 use Rattle.book_sessions.specs.Answering.{Stops, stretch_at}
-use Rattle.book_sessions.specs.Attendance.{Attendance}
+use Rattle.book_sessions.specs.MemberView.{MemberView}
 use Rattle.book_sessions.specs.Roster.{ShutsBy}
 use Rattle.book_sessions.specs.Spreading.{ReportsBy}
 use Rattle.session_runs.specs.Runs.{SessionRun, IsHere, IsOver, IsRunOf, closed_from, items_over}
@@ -30,10 +30,10 @@ none_is_some : false ≡ true → ⊥
 none_is_some some = absurd (cc)
 
 -- it was closed before, and is now as it was
-rests : (names : List (List ℕ)) (before log longer : List Entry) (old new : Shown) (r : SessionRun) → IsOver before old r → new ≡ old
+rests : (names : List (List ℕ)) (before log longer : List Entry) (old new : SessionView) (r : SessionRun) → IsOver before old r → new ≡ old
     → Extends names before log before longer old new [] r r
 rests names before log longer old new r x same =
-    let P : Shown → Type 0 = λ s. Extends names before log before longer old s [] r r in
+    let P : SessionView → Type 0 = λ s. Extends names before log before longer old s [] r r in
     subst P (sym same) (record {
       run = inr x;
       kept = sym (append-nil old.kept);
@@ -43,7 +43,7 @@ rests names before log longer old new r x same =
           ∙ sym (append-nil (items_over names (before ++ log) r));
     })
 
-reports_by : (c : Option (ℕ × Close)) (exact : Bool) (names : List (List ℕ)) (before log entries : List Entry) (reports : List Report) (old new : Shown) (r : SessionRun)
+reports_by : (c : Option (ℕ × Close)) (exact : Bool) (names : List (List ℕ)) (before log entries : List Entry) (reports : List Report) (old new : SessionView) (r : SessionRun)
     → history_after before (log ++ entries) ≡ history_after before log ++ reports → old.closing ≡ c
     → ReportsBy c exact (line_for names) (length (history_after before log)) reports old new → IsRunOf names before log old r
     → (more : List (List ℕ)) × Extends names before log before (log ++ entries) old new more r
@@ -51,7 +51,7 @@ reports_by : (c : Option (ℕ × Close)) (exact : Bool) (names : List (List ℕ)
 reports_by None exact names before log entries reports old new r longer is reported (inl x) =
     let lines : Selection = line_for names in
     let here : List Stretch = left_of x.earlier ++ x.later in
-    let P : List Report → Type 0 = λ h. Gains lines (history_after before log) h old new here here reported.more in (
+    let P : List Report → Type 0 = λ h. SessionGains lines (history_after before log) h old new here here reported.more in (
       reported.more,
       stays_here names before log (log ++ entries) old new reported.more r x
           (subst P (sym longer) (reported.gets.gains (history_after before log) here refl x.holding)),
@@ -62,9 +62,9 @@ reports_by None exact names before log entries reports old new r longer is repor
 reports_by (Some closing) exact names before log entries reports old new r longer is unreported (inl x) =
     let lines : Selection = line_for names in
     let here : List Stretch = left_of x.earlier ++ x.later in
-    let P : List Report → Type 0 = λ h. Gains lines (history_after before log) h old old here here [] in
+    let P : List Report → Type 0 = λ h. SessionGains lines (history_after before log) h old old here here [] in
     let Q : Option (ℕ × Close) → Type 0 = λ c. Extends names before log before (log ++ entries) old old [] r (record { stretches = r.stretches; closing = c }) in
-    let S : Shown → Type 0 = λ s. Extends names before log before (log ++ entries) old s [] r r in (
+    let S : SessionView → Type 0 = λ s. Extends names before log before (log ++ entries) old s [] r r in (
       [],
       subst S (sym unreported.same) (subst Q (sym x.closing) (stays_here names before log (log ++ entries) old old [] r x
           (subst P (sym longer) (over lines closing (history_after before log) reports old here is x.holding.agrees)))),
@@ -80,7 +80,7 @@ reports_extend exact names before log entries reports old new added reported r r
 
 -- ---- a turn
 
-turn_here : (c : Option (ℕ × Close)) (names : List (List ℕ)) (before log : List Entry) (s : Shown) (r : SessionRun) → s.closing ≡ c → IsHere names before log s r
+turn_here : (c : Option (ℕ × Close)) (names : List (List ℕ)) (before log : List Entry) (s : SessionView) (r : SessionRun) → s.closing ≡ c → IsHere names before log s r
     → IsRunOf names (before ++ log) [] (turned s) r
 turn_here None names before log s r is x =
     let lines : Selection = line_for names in
@@ -127,7 +127,7 @@ turn_here (Some closing) names before log s r is x =
       marks = ap (λ c. turned_marks c s.policy) is;
     })
 
-turn_run : (names : List (List ℕ)) (before log : List Entry) (s : Shown) (r : SessionRun) → IsRunOf names before log s r → IsRunOf names (before ++ log) [] (turned s) r
+turn_run : (names : List (List ℕ)) (before log : List Entry) (s : SessionView) (r : SessionRun) → IsRunOf names before log s r → IsRunOf names (before ++ log) [] (turned s) r
 turn_run names before log s r (inl x) = turn_here s.closing names before log s r refl x
 turn_run names before log s r (inr x) = inr (record {
   place = x.place;
@@ -148,7 +148,7 @@ turns_keep names before log s r run = record {
 
 -- ---- answers
 
-pub here_of : (names : List (List ℕ)) (before log : List Entry) (s : Shown) (r : SessionRun) → s.closing ≡ None → IsRunOf names before log s r → IsHere names before log s r
+pub here_of : (names : List (List ℕ)) (before log : List Entry) (s : SessionView) (r : SessionRun) → s.closing ≡ None → IsRunOf names before log s r → IsHere names before log s r
 here_of names before log s r is (inl x) = x
 here_of names before log s r is (inr x) = absurd (not_both s.closing (0, x.why) is x.now)
 
@@ -158,7 +158,7 @@ stretches_placed base place whole (answer ∷ answers) at =
     ap (λ n. stretch_at n answer ∷ map (placed_from base) (map (stretch_at place) answers)) at
     ∙ ap (λ l. stretch_at whole answer ∷ l) (stretches_placed base place whole answers at)
 
-closing_placed : (base place whole left : ℕ) (s : Shown) (now : Option (ℕ × Close)) → base + place ≡ whole → Stops place left s now → closed_from base now ≡ closing_at whole now
+closing_placed : (base place whole left : ℕ) (s : SessionView) (now : Option (ℕ × Close)) → base + place ≡ whole → Stops place left s now → closed_from base now ≡ closing_at whole now
 closing_placed base place whole left s None at stops = refl
 closing_placed base place whole left s (Some closing) at stops = ap (λ n. Some (n, closing.1)) (ap (λ n. base + n) stops.1 ∙ at)
 
@@ -172,7 +172,7 @@ answers_extend names before log place left old new answers r long is puts stops 
     let here : List Stretch = left_of x.earlier ++ x.later in
     let replies : List (List ℕ) = map (λ answer. answer.reply) answers in
     let at : base + place ≡ whole = omega (arith, whole_length before log, long) in
-    let P : List Stretch → Type 0 = λ l. Gains lines (history_after before log) (history_after before log) old.session new.session here l replies in
+    let P : List Stretch → Type 0 = λ l. SessionGains lines (history_after before log) (history_after before log) old.session new.session here l replies in
     let gains : P (left_of x.earlier ++ (x.later ++ put)) =
     subst P (append_assoc (left_of x.earlier) x.later put) (puts.gains lines (history_after before log) here long x.holding) in
     let Q : List Stretch → Type 0 = λ l. Extends names before log before log old.session new.session replies r (record { stretches = l; closing = closed_from base new.session.closing }) in
@@ -196,18 +196,18 @@ closings_end names before log place why old new r long is closes run =
     let at : base + place ≡ whole = omega (arith, whole_length before log, long) in
     let R : Option (ℕ × Close) → Type 0 = λ c. Extends names before log before log old.session new.session [] r (record { stretches = r.stretches; closing = c }) in
     let closing_is : closed_from base new.session.closing ≡ Some (whole, why) =
-    ap (λ (a : Attendance). closed_from base a.session.closing) closes.becomes ∙ ap (λ n. Some (n, why)) at in
+    ap (λ (a : MemberView). closed_from base a.session.closing) closes.becomes ∙ ap (λ n. Some (n, why)) at in
     subst R closing_is (stays_here names before log log old.session new.session [] r x (closes.gains lines (history_after before log) (left_of x.earlier ++ x.later) long x.holding))
 
-same_run : (names : List (List ℕ)) (before log : List Entry) (s : Shown) (r : SessionRun) → IsRunOf names before log s r → Extends names before log before log s s [] r r
+same_run : (names : List (List ℕ)) (before log : List Entry) (s : SessionView) (r : SessionRun) → IsRunOf names before log s r → Extends names before log before log s s [] r r
 same_run names before log s r run = record { run = run; kept = sym (append-nil s.kept); items = sym (append-nil (items_over names (before ++ log) r)) }
 
-shut_by : (c : Option (ℕ × Close)) (names : List (List ℕ)) (before log : List Entry) (place : ℕ) (why : Close) (old new : Attendance) (r : SessionRun)
+shut_by : (c : Option (ℕ × Close)) (names : List (List ℕ)) (before log : List Entry) (place : ℕ) (why : Close) (old new : MemberView) (r : SessionRun)
     → old.session.closing ≡ c → length (history_after before log) ≡ place → ShutsBy c place why old new → IsRunOf names before log old.session r
     → Extends names before log before log old.session new.session [] r (shut_run (before ++ log) why c r)
 shut_by None names before log place why old new r is long shuts run = closings_end names before log place why old new r long is shuts run
 shut_by (Some closing) names before log place why old new r is long shuts run =
-    let P : Attendance → Type 0 = λ a. Extends names before log before log old.session a.session [] r r in
+    let P : MemberView → Type 0 = λ a. Extends names before log before log old.session a.session [] r r in
     subst P (sym shuts) (same_run names before log old.session r run)
 
 pub shuts_end : ShutsEndRuns
@@ -217,7 +217,7 @@ shuts_end names before log place why old new r long shuts run = shut_by old.sess
 
 pub taking_keeps : TakingKeepsRuns
 taking_keeps names before log a kept r is (inl x) =
-    let s : Shown = a.session in
+    let s : SessionView = a.session in
     let lines : Selection = line_for names in
     let P : List (List ℕ) → Type 0 = λ l. Holding lines (history_after before log) (record s { kept = l }) (left_of x.earlier ++ x.later) in
     inl (record {

@@ -8,9 +8,9 @@ use Rattle.session_core.specs.declared.outlet.Push.{Push}
 use Rattle.session_core.specs.declared.outlet.Push.TheVariants.{Done, Full}
 use Rattle.session_core.specs.Holding.{Selection}
 use Rattle.session_core.specs.Pushing.{MatchPush}
-use Rattle.session_core.specs.Shown.{Shown, closed_at, given}
+use Rattle.session_core.specs.SessionView.{SessionView, closed_at, given}
 use Rattle.book_batch.specs.Lines.{line_for}
-use Rattle.book_sessions.specs.Spreading.{Due, ReportsBy, Takes, due, due_at}
+use Rattle.book_sessions.specs.Spreading.{Due, ReportsBy, TakesDue, due, due_at}
 use Rattle.session_runs.specs.Laws.{ReportsOverrun}
 
 abbrev Within : ℕ → ℕ → List Due → Type 0
@@ -35,21 +35,21 @@ abbrev IsOverrunAt : ℕ → ℕ → Option (ℕ × Close) → Type 0
 IsOverrunAt low high None = Unit {0}
 IsOverrunAt low high (Some closing) = IsOverrun low high closing.0 closing.1
 
-takes_within : (exact : Bool) (low high : ℕ) (dues : List Due) (old new : Shown) → Within low high dues → old.closing ≡ None → Takes exact dues old new → IsOverrunAt low high new.closing
+takes_within : (exact : Bool) (low high : ℕ) (dues : List Due) (old new : SessionView) → Within low high dues → old.closing ≡ None → TakesDue exact dues old new → IsOverrunAt low high new.closing
 takes_within exact low high [] old new inside is takes =
     let P : Option (ℕ × Close) → Type 0 = λ c. IsOverrunAt low high c in
-    subst P (sym (ap (λ (s : Shown). s.closing) takes ∙ is)) tt
+    subst P (sym (ap (λ (s : SessionView). s.closing) takes ∙ is)) tt
 takes_within exact low high (d ∷ dues) old new inside is takes =
     by takes.0 (takes_within exact low high dues (given d.line old) new inside.2 is) takes.2
   where
-    by : (push : Push) → (Takes exact dues (given d.line old) new → IsOverrunAt low high new.closing)
-        → MatchPush push (Takes exact dues (given d.line old) new) (new ≡ closed_at d.place Overrun old) → IsOverrunAt low high new.closing
+    by : (push : Push) → (TakesDue exact dues (given d.line old) new → IsOverrunAt low high new.closing)
+        → MatchPush push (TakesDue exact dues (given d.line old) new) (new ≡ closed_at d.place Overrun old) → IsOverrunAt low high new.closing
     by Done then rest = then rest
     by Full then now =
         let P : Option (ℕ × Close) → Type 0 = λ c. IsOverrunAt low high c in
-        subst P (sym (ap (λ (s : Shown). s.closing) now)) (refl, inside.0, inside.1)
+        subst P (sym (ap (λ (s : SessionView). s.closing) now)) (refl, inside.0, inside.1)
 
-overrun_by : (c : Option (ℕ × Close)) (exact : Bool) (names : List (List ℕ)) (first : ℕ) (reports : List Report) (old new : Shown) → c ≡ None → old.closing ≡ None
+overrun_by : (c : Option (ℕ × Close)) (exact : Bool) (names : List (List ℕ)) (first : ℕ) (reports : List Report) (old new : SessionView) → c ≡ None → old.closing ≡ None
     → ReportsBy c exact (line_for names) first reports old new → IsOverrunAt first (first + length reports) new.closing
 overrun_by None exact names first reports old new none is reported =
     takes_within exact first (first + length reports) (due (line_for names) old.policy first reports) old new

@@ -4,14 +4,14 @@ use Rattle.std.specs.List.{AllZip}
 use Rattle.gps_report.specs.declared.report.Report.{Report}
 use Rattle.session_core.specs.declared.mark.Close.{Close}
 use Rattle.session_core.specs.Holding.{Holding}
-use Rattle.session_core.specs.Shown.{Shown}
+use Rattle.session_core.specs.SessionView.{SessionView}
 use Rattle.session_core.specs.Stretches.{left_of, session_items}
 use Rattle.book_batch.specs.Lines.{line_for}
 use Rattle.book_log.specs.Entries.{Entry}
 use Rattle.book_log.specs.History.{history, history_after}
-use Rattle.book_log.specs.Standing.{StandsFor, Summary}
+use Rattle.book_log.specs.Standing.{StandsFor, DeviceStatesView}
 use Rattle.book_log.proofs.Histories.{history-append}
-use Rattle.book_sessions.specs.Attendance.{Attendance}
+use Rattle.book_sessions.specs.MemberView.{MemberView}
 use Rattle.session_runs.specs.Runs.{SessionRun, IsRunOf, items_over}
 use Rattle.session_runs.specs.Following.{Extends, Follows, closing_after}
 use Rattle.session_runs.specs.Laws.{QuietEntriesKeepRuns}
@@ -20,19 +20,19 @@ use Rattle.session_runs.proofs.Going.{here_of}
 use Rattle.session_runs.proofs.Whole.{whole_history}
 use Rattle.session_runs.proofs.Zipping.{zip_same}
 
-run_longer : (names : List (List ℕ)) (before log longer : List Entry) (s : Shown) (r : SessionRun) → history_after before longer ≡ history_after before log
+run_longer : (names : List (List ℕ)) (before log longer : List Entry) (s : SessionView) (r : SessionRun) → history_after before longer ≡ history_after before log
     → IsRunOf names before log s r → IsRunOf names before longer s r
 run_longer names before log longer s r same (inl x) =
     let P : List Report → Type 0 = λ h. Holding (line_for names) h s (left_of x.earlier ++ x.later) in
     inl (record { earlier = x.earlier; later = x.later; joined = x.joined; order = x.order; holding = subst P (sym same) x.holding; closing = x.closing })
 run_longer names before log longer s r same (inr x) = inr x
 
-closing_same : (c : Option (ℕ × Close)) (names : List (List ℕ)) (before log : List Entry) (s : Shown) (r : SessionRun) → s.closing ≡ c → IsRunOf names before log s r
+closing_same : (c : Option (ℕ × Close)) (names : List (List ℕ)) (before log : List Entry) (s : SessionView) (r : SessionRun) → s.closing ≡ c → IsRunOf names before log s r
     → r.closing ≡ closing_after (length (history before)) c s.closing r.closing
 closing_same None names before log s r is run = (here_of names before log s r is run).closing
 closing_same (Some closing) names before log s r is run = refl
 
-quiet_follows : (names : List (List ℕ)) (before log longer : List Entry) (s : Shown) → history_after before longer ≡ history_after before log
+quiet_follows : (names : List (List ℕ)) (before log longer : List Entry) (s : SessionView) → history_after before longer ≡ history_after before log
     → Follows names before log before longer s s
 quiet_follows names before log longer s same r run =
     let base : ℕ = length (history before) in
@@ -48,14 +48,14 @@ quiet_follows names before log longer s same r run =
 
 pub quiet_entries : QuietEntriesKeepRuns
 quiet_entries old new entries before stands quiet =
-    let O : Summary → Type 0 = λ s. StandsFor s before in
+    let O : DeviceStatesView → Type 0 = λ s. StandsFor s before in
     let same : history_after before new.log.log ≡ history_after before old.log.log =
     ap (history_after before) quiet.log.log
     ∙ history-append before old.log.log entries
     ∙ ap (λ h. history_after before old.log.log ++ h) (quiet.log.reports_are before stands)
     ∙ append-nil (history_after before old.log.log) in
-    let R : Attendance → Attendance → Type 0 = λ a b. Follows old.names before old.log.log before new.log.log a.session b.session in
-    let Q : List Attendance → Type 0 = λ l. AllZip R old.sessions l in
+    let R : MemberView → MemberView → Type 0 = λ a b. Follows old.names before old.log.log before new.log.log a.session b.session in
+    let Q : List MemberView → Type 0 = λ l. AllZip R old.sessions l in
     let sessions : AllZip R old.sessions new.sessions =
     subst Q (sym quiet.sessions) (zip_same R (λ a. quiet_follows old.names before old.log.log new.log.log a.session same) old.sessions) in
     record {

@@ -13,21 +13,21 @@ use Rattle.gps_command.proofs.Growths.{grown}
 use Rattle.gps_command.proofs.Pieces.{stands_for_none}
 use Rattle.gps_report.specs.declared.policy.Policy.{Policy}
 use Rattle.session_core.specs.declared.mark.Close.{Close}
-use Rattle.session_core.specs.Shown.{Shown, last_policy}
+use Rattle.session_core.specs.SessionView.{SessionView, last_policy}
 use Rattle.book_batch.specs.Lines.{line_for}
 use Rattle.book_log.specs.Entries.{Entry}
 use Rattle.book_log.specs.History.{history}
 use Rattle.book_replies.specs.declared.answering.Answer.{Answer}
-use Rattle.book_replies.specs.Knowledge.{Knowledge}
+use Rattle.book_replies.specs.ReplyDataView.{ReplyDataView}
 use Rattle.book_replies.specs.Replies.{answered}
 use Rattle.book_replies.proofs.Joined.{one_for_each}
 use Rattle.book_sessions.specs.Answering.{Stops, enables, mark_at, most_requests, stretch_at}
-use Rattle.book_sessions.specs.Attendance.{Attendance, closed, cutter_left, renewed}
+use Rattle.book_sessions.specs.MemberView.{MemberView, closed, cutter_left, renewed}
 use Rattle.book_sessions.specs.Roster.{ShutsBy}
 use Rattle.book_sessions.specs.Spreading.{ReportsBy, Spreads, cutter_by}
 use Rattle.report_book.specs.BookView.{BookView, turned_if}
 use Rattle.report_book.specs.Knowing.{known_in}
-use Rattle.report_book.specs.Moves.{Adds}
+use Rattle.report_book.specs.Moves.{BookAdds}
 use Rattle.session_runs.specs.Asking.{Asked, HearsNothing, is_enabled, policy_of}
 use Rattle.session_runs.specs.AskingLaws.{ClosingsAreNotHeard, EntriesAreNotHeard, NothingSent, SentInVain, SentMore, SentOnward, ShutsAreNotHeard, TakingIsNotHeard}
 use Rattle.session_runs.proofs.Answering.{answers_now, asked_joined, asked_longer, asked_waiting, policy_of_more}
@@ -96,13 +96,13 @@ enabled_of : (place : ℕ) (answers : List Answer) → list_any is_enabled (map 
 enabled_of place [] = refl
 enabled_of place (answer ∷ answers) = ap (λ b. answer.policy.enable || b) (enabled_of place answers)
 
-policy_marked : (known : Knowledge) (names : List (List ℕ)) (place : ℕ) (policy : Policy) (asked : List RawCommand)
+policy_marked : (known : ReplyDataView) (names : List (List ℕ)) (place : ℕ) (policy : Policy) (asked : List RawCommand)
     → last_policy policy (map (mark_at place) (answered known names policy asked)) ≡ fold policy_with policy asked
 unfolding answered
 policy_marked known names place policy [] = refl
 policy_marked known names place policy (request ∷ asked) = policy_marked known names place (policy_with policy request) asked
 
-none_left : (place left : ℕ) (s : Shown) (c : Option (ℕ × Close)) → c ≡ None → Stops place left s c → left ≡ 0
+none_left : (place left : ℕ) (s : SessionView) (c : Option (ℕ × Close)) → c ≡ None → Stops place left s c → left ≡ 0
 none_left place left s None none stops = stops
 none_left place left s (Some closing) none stops = absurd (cc)
 
@@ -113,7 +113,7 @@ few_more (suc n) all old new room is low = room (omega arith)
 
 pub sent_more : SentMore
 sent_more exact names log place piece old new stretches bytes heard is sent =
-    let known : Knowledge = known_in (length names) log in
+    let known : ReplyDataView = known_in (length names) log in
     let more : List RawCommand = heard.requests in
     let all : List Answer = answered known names old.session.policy more in
     let put : List Answer = take heard.count all in
@@ -159,7 +159,7 @@ sent_more exact names log place piece old new stretches bytes heard is sent =
 
 -- ---- what is not heard
 
-spread_by : (c : Option (ℕ × Close)) (exact : Bool) (names : List (List ℕ)) (first : ℕ) (old new : Attendance) (reports : List Rattle.gps_report.specs.declared.report.Report.Report)
+spread_by : (c : Option (ℕ × Close)) (exact : Bool) (names : List (List ℕ)) (first : ℕ) (old new : MemberView) (reports : List Rattle.gps_report.specs.declared.report.Report.Report)
     → old.session.closing ≡ c → ReportsBy c exact (line_for names) first reports old.session new.session → new.cutter ≡ cutter_by c new.session.closing old.cutter
     → new.watched ≡ old.watched → HearsNothing old new
 spread_by None exact names first old new reports is reported cutter watched = record {
@@ -169,22 +169,22 @@ spread_by None exact names first old new reports is reported cutter watched = re
   still = λ none. (is, cutter ∙ ap (λ c. cutter_left c old.cutter) none);
 }
 spread_by (Some closing) exact names first old new reports is same cutter watched = record {
-  policy = ap (λ (s : Shown). s.policy) same.same;
-  requests = ap (λ (s : Shown). s.requests) same.same;
+  policy = ap (λ (s : SessionView). s.policy) same.same;
+  requests = ap (λ (s : SessionView). s.requests) same.same;
   watched = watched;
-  still = λ none. (sym (ap (λ (s : Shown). s.closing) same.same) ∙ none, cutter);
+  still = λ none. (sym (ap (λ (s : SessionView). s.closing) same.same) ∙ none, cutter);
 }
 
-spread_unheard : (exact : Bool) (names : List (List ℕ)) (first : ℕ) (reports : List Rattle.gps_report.specs.declared.report.Report.Report) (old new : Attendance)
+spread_unheard : (exact : Bool) (names : List (List ℕ)) (first : ℕ) (reports : List Rattle.gps_report.specs.declared.report.Report.Report) (old new : MemberView)
     → Spreads exact (line_for names) first reports old new → HearsNothing old new
 spread_unheard exact names first reports old new spreads =
     spread_by old.session.closing exact names first old new reports refl spreads.session spreads.cutter spreads.watched
 
-open_before : (c : Option (ℕ × Close)) → Rattle.session_core.specs.Shown.turned_closing c ≡ None → c ≡ None
+open_before : (c : Option (ℕ × Close)) → Rattle.session_core.specs.SessionView.turned_closing c ≡ None → c ≡ None
 open_before None none = refl
 open_before (Some closing) none = absurd (cc)
 
-renewed_unheard : (old new : Attendance) → HearsNothing (renewed old) new → HearsNothing old new
+renewed_unheard : (old new : MemberView) → HearsNothing (renewed old) new → HearsNothing old new
 renewed_unheard old new nothing = record {
   policy = nothing.policy;
   requests = nothing.requests;
@@ -193,9 +193,9 @@ renewed_unheard old new nothing = record {
 }
 
 added_unheard : (turns exact : Bool) (old new : BookView) (entries : List Entry) (reports : List Rattle.gps_report.specs.declared.report.Report.Report)
-    → Adds exact (turned_if turns old) new entries reports → AllZip HearsNothing old.sessions new.sessions
+    → BookAdds exact (turned_if turns old) new entries reports → AllZip HearsNothing old.sessions new.sessions
 added_unheard true exact old new entries reports adds =
-    zip_weaker (λ (a b : Attendance). Spreads exact (line_for old.names) 0 reports (renewed a) b) HearsNothing
+    zip_weaker (λ (a b : MemberView). Spreads exact (line_for old.names) 0 reports (renewed a) b) HearsNothing
     (λ a b spreads. renewed_unheard a b (spread_unheard exact old.names 0 reports (renewed a) b spreads))
     old.sessions new.sessions (zip_unmapped (Spreads exact (line_for old.names) 0 reports) renewed old.sessions new.sessions adds.sessions)
 added_unheard false exact old new entries reports adds =
@@ -206,20 +206,20 @@ entries_unheard exact turns old new entries moves = added_unheard turns exact ol
 
 pub closings_unheard : ClosingsAreNotHeard
 closings_unheard place why old new closes =
-    let P : Attendance → Type 0 = λ a. HearsNothing old a in
+    let P : MemberView → Type 0 = λ a. HearsNothing old a in
     let none_of : (closed place why old).session.closing ≡ None → ⊥ = λ none. absurd (cc) in
     subst P (sym closes.becomes) (record { policy = refl; requests = refl; watched = refl; still = λ none. absurd (none_of none) })
 
 pub taking_unheard : TakingIsNotHeard
 taking_unheard kept a = record { policy = refl; requests = refl; watched = refl; still = λ none. (none, refl) }
 
-pub same_unheard : (a : Attendance) → HearsNothing a a
+pub same_unheard : (a : MemberView) → HearsNothing a a
 same_unheard a = record { policy = refl; requests = refl; watched = refl; still = λ none. (none, refl) }
 
-shut_by_unheard : (c : Option (ℕ × Close)) (place : ℕ) (why : Close) (old new : Attendance) → ShutsBy c place why old new → HearsNothing old new
+shut_by_unheard : (c : Option (ℕ × Close)) (place : ℕ) (why : Close) (old new : MemberView) → ShutsBy c place why old new → HearsNothing old new
 shut_by_unheard None place why old new shuts = closings_unheard place why old new shuts
 shut_by_unheard (Some closing) place why old new shuts =
-    let P : Attendance → Type 0 = λ a. HearsNothing old a in
+    let P : MemberView → Type 0 = λ a. HearsNothing old a in
     subst P (sym shuts) (record { policy = refl; requests = refl; watched = refl; still = λ none. (none, refl) })
 
 pub shuts_unheard : ShutsAreNotHeard

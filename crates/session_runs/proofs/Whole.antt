@@ -3,8 +3,8 @@ use Rattle.std.proofs.Common.{◌≡◌, ◌≤◌, ℕ, ◌+◌, List, [], ◌�
 use Rattle.std.proofs.lemmas.List.{length-append}
 use Rattle.gps_report.specs.declared.report.Report.{Report}
 use Rattle.session_core.specs.declared.mark.Close.{Close}
-use Rattle.session_core.specs.Holding.{Gains, Selection}
-use Rattle.session_core.specs.Shown.{Shown}
+use Rattle.session_core.specs.Holding.{SessionGains, Selection}
+use Rattle.session_core.specs.SessionView.{SessionView}
 use Rattle.session_core.specs.Stretches.{Stretch, AreInOrder, end_of, items_to, left_of, placed_from, session_items}
 use Rattle.session_core.proofs.Growth.{items_stay}
 use Rattle.session_core.proofs.Joining.{generations}
@@ -44,7 +44,7 @@ items_here names before log closing earlier later order =
     ∙ ap (λ n. items_to lines n run (first ++ rest)) (end_placed closing first rest)
     ∙ generations lines (end_of closing rest) earlier later first rest order
 
-pub items_so_far : (names : List (List ℕ)) (before log : List Entry) (s : Shown) (r : SessionRun) (x : IsHere names before log s r)
+pub items_so_far : (names : List (List ℕ)) (before log : List Entry) (s : SessionView) (r : SessionRun) (x : IsHere names before log s r)
     → items_over names (before ++ log) r
     ≡ items_to (line_for names) (length (history before)) x.earlier (history before)
     ++ session_items (line_for names) s.closing (left_of x.earlier ++ x.later) (history_after before log)
@@ -55,7 +55,7 @@ items_so_far names before log s r x =
     ∙ items_here names before log s.closing x.earlier x.later x.order
 
 -- one that was closed before has no further ones
-pub items_over_then : (names : List (List ℕ)) (before log : List Entry) (s : Shown) (r : SessionRun) (x : IsOver before s r)
+pub items_over_then : (names : List (List ℕ)) (before log : List Entry) (s : SessionView) (r : SessionRun) (x : IsOver before s r)
     → items_over names (before ++ log) r ≡ items_to (line_for names) x.place r.stretches (history before)
 items_over_then names before log s r x =
     ap (λ c. session_items (line_for names) c r.stretches (history (before ++ log))) x.closing
@@ -63,8 +63,8 @@ items_over_then names before log s r x =
     ∙ items_stay (line_for names) x.place r.stretches (history before) (history_after before log) x.within x.order
 
 -- what a session gains in its generation its run gains
-pub goes_on_here : (names : List (List ℕ)) (before log longer : List Entry) (old new : Shown) (later : List Stretch) (more : List (List ℕ)) (r : SessionRun) (x : IsHere names before log old r)
-    → Gains (line_for names) (history_after before log) (history_after before longer) old new (left_of x.earlier ++ x.later) (left_of x.earlier ++ later) more
+pub goes_on_here : (names : List (List ℕ)) (before log longer : List Entry) (old new : SessionView) (later : List Stretch) (more : List (List ℕ)) (r : SessionRun) (x : IsHere names before log old r)
+    → SessionGains (line_for names) (history_after before log) (history_after before longer) old new (left_of x.earlier ++ x.later) (left_of x.earlier ++ later) more
     → Extends names before log before longer old new more r
     (record { stretches = x.earlier ++ map (placed_from (length (history before))) later; closing = closed_from (length (history before)) new.closing })
 goes_on_here names before log longer old new later more r x gains =
@@ -80,8 +80,8 @@ goes_on_here names before log longer old new later more r x gains =
     }
 
 -- with no further stretch
-pub stays_here : (names : List (List ℕ)) (before log longer : List Entry) (old new : Shown) (more : List (List ℕ)) (r : SessionRun) (x : IsHere names before log old r)
-    → Gains (line_for names) (history_after before log) (history_after before longer) old new (left_of x.earlier ++ x.later) (left_of x.earlier ++ x.later) more
+pub stays_here : (names : List (List ℕ)) (before log longer : List Entry) (old new : SessionView) (more : List (List ℕ)) (r : SessionRun) (x : IsHere names before log old r)
+    → SessionGains (line_for names) (history_after before log) (history_after before longer) old new (left_of x.earlier ++ x.later) (left_of x.earlier ++ x.later) more
     → Extends names before log before longer old new more r (record { stretches = r.stretches; closing = closed_from (length (history before)) new.closing })
 stays_here names before log longer old new more r x gains =
     let P : List Stretch → Type 0 = λ l. Extends names before log before longer old new more r (record { stretches = l; closing = closed_from (length (history before)) new.closing }) in

@@ -1,4 +1,4 @@
--- What the client of a session sent, and how it was answered: behind the opening, stretch k of the run answers request k. This project's own.
+-- What the client of a session sent, and how it was answered: behind the opening, stretch k of the run answers request k.
 use Rattle.std.specs.Prelude.{◌≡◌, ◌≤◌, ◌+◌, ℕ, Bool, List, [], ◌∷◌, ◌++◌, length, take, Some, None}
 use Rattle.std.specs.List.{list_any}
 use Rattle.gps_command.specs.declared.request.RawCommand.{RawCommand}
@@ -6,13 +6,13 @@ use Rattle.gps_command.specs.Kept as input
 use Rattle.gps_command.specs.Policies.{policy_at}
 use Rattle.gps_command.specs.Requests.{requests}
 use Rattle.gps_report.specs.declared.policy.Policy.{Policy}
-use Rattle.session_core.specs.Shown.{opening_policy}
+use Rattle.session_core.specs.SessionView.{opening_policy}
 use Rattle.session_core.specs.Stretches.{Stretch}
 use Rattle.book_log.specs.Entries.{Entry}
 use Rattle.book_log.specs.History.{history}
 use Rattle.book_replies.specs.Replies.{opening_reply, reply}
 use Rattle.book_sessions.specs.Answering.{most_requests}
-use Rattle.book_sessions.specs.Attendance.{Attendance}
+use Rattle.book_sessions.specs.MemberView.{MemberView}
 use Rattle.report_book.specs.Knowing.{known_in}
 
 -- after all of these requests
@@ -31,11 +31,11 @@ pub record IsAnswer (names : List (List ℕ)) (log : List Entry) (moment : ℕ) 
   pub reply : stretch.reply ≡ Some (reply (known_in (length names) (take moment log)) names stretch.policy request)
 
 -- behind those done, these stretches answer the first of these requests, in order; the others have no answer
-abbrev pub Answers : List (List ℕ) → List Entry → List RawCommand → ℕ → List Stretch → List RawCommand → Type 0
-Answers names log done from [] asked = Unit {0}
-Answers names log done from (stretch ∷ stretches) [] = ⊥
-Answers names log done from (stretch ∷ stretches) (request ∷ asked) =
-    (moment : ℕ) × BeginsAt log from moment stretch × IsAnswer names log moment done request stretch × Answers names log (done ++ request ∷ []) moment stretches asked
+abbrev pub AnswersFirst : List (List ℕ) → List Entry → List RawCommand → ℕ → List Stretch → List RawCommand → Type 0
+AnswersFirst names log done from [] asked = Unit {0}
+AnswersFirst names log done from (stretch ∷ stretches) [] = ⊥
+AnswersFirst names log done from (stretch ∷ stretches) (request ∷ asked) =
+    (moment : ℕ) × BeginsAt log from moment stretch × IsAnswer names log moment done request stretch × AnswersFirst names log (done ++ request ∷ []) moment stretches asked
 
 abbrev pub IsOpening : Stretch → Type 0
 IsOpening stretch = (stretch.policy ≡ opening_policy) × (stretch.reply ≡ Some opening_reply)
@@ -43,14 +43,14 @@ IsOpening stretch = (stretch.policy ≡ opening_policy) × (stretch.reply ≡ So
 -- the first stretch is the opening
 abbrev pub Asked : List (List ℕ) → List Entry → List Stretch → List RawCommand → Type 0
 Asked names log [] asked = ⊥
-Asked names log (opening ∷ stretches) asked = (moment : ℕ) × BeginsAt log 0 moment opening × IsOpening opening × Answers names log [] moment stretches asked
+Asked names log (opening ∷ stretches) asked = (moment : ℕ) × BeginsAt log 0 moment opening × IsOpening opening × AnswersFirst names log [] moment stretches asked
 
 abbrev pub is_enabled : Stretch → Bool
 is_enabled stretch = stretch.policy.enable
 
 -- Its client has sent these bytes. It counts its answered requests, one for each stretch behind the opening, and they are no more than may be
 -- answered. While it is open each request of the bytes is answered, and it waits for what goes on behind them.
-pub record HasSent (names : List (List ℕ)) (log : List Entry) (a : Attendance) (stretches : List Stretch) (bytes : List ℕ) : Type 0 where
+pub record HasSent (names : List (List ℕ)) (log : List Entry) (a : MemberView) (stretches : List Stretch) (bytes : List ℕ) : Type 0 where
   pub asked : Asked names log stretches (requests bytes)
   pub count : length stretches ≡ 1 + a.session.requests
   pub few : a.session.requests ≤ most_requests
@@ -60,7 +60,7 @@ pub record HasSent (names : List (List ℕ)) (log : List Entry) (a : Attendance)
   pub watched : a.watched ≡ list_any is_enabled stretches
 
 -- It heard nothing: while it is open, it waits as it did.
-pub record HearsNothing (old new : Attendance) : Type 0 where
+pub record HearsNothing (old new : MemberView) : Type 0 where
   pub policy : new.session.policy ≡ old.session.policy
   pub requests : new.session.requests ≡ old.session.requests
   pub watched : new.watched ≡ old.watched

@@ -1,4 +1,4 @@
--- How what a client sent goes on to be answered. This project's own.
+-- How what a client sent goes on to be answered.
 use Rattle.std.specs.Prelude.{◌≡◌, ◌<◌, ℕ, Bool, List, [], ◌++◌, length, map, take, get_or, None, is_some, true}
 use Rattle.std.specs.List.{AllZip}
 use Rattle.gps_command.specs.declared.request.RawCommand.{RawCommand}
@@ -10,7 +10,7 @@ use Rattle.book_log.specs.Entries.{Entry}
 use Rattle.book_log.specs.History.{history}
 use Rattle.book_replies.specs.Replies.{answered}
 use Rattle.book_sessions.specs.Answering.{Inputs, stretch_at}
-use Rattle.book_sessions.specs.Attendance.{Attendance, opened, with_kept}
+use Rattle.book_sessions.specs.MemberView.{MemberView, opened, with_kept}
 use Rattle.book_sessions.specs.Roster.{Closes, Shuts}
 use Rattle.report_book.specs.BookView.{BookView}
 use Rattle.report_book.specs.Knowing.{known_in}
@@ -25,12 +25,12 @@ NothingSent = (names : List (List ℕ)) (log : List Entry) (name : OutletName) (
 
 -- the log goes on, and the session hears nothing
 abbrev pub SentOnward : Type 0
-SentOnward = (names : List (List ℕ)) (log entries : List Entry) (old new : Attendance) (stretches : List Stretch) (bytes : List ℕ)
+SentOnward = (names : List (List ℕ)) (log entries : List Entry) (old new : MemberView) (stretches : List Stretch) (bytes : List ℕ)
     → HearsNothing old new → HasSent names log old stretches bytes → HasSent names (log ++ entries) new stretches bytes
 
 -- a piece is heard after this whole log
 abbrev pub SentMore : Type 0
-SentMore = (exact : Bool) (names : List (List ℕ)) (log : List Entry) (place : ℕ) (piece : List ℕ) (old new : Attendance) (stretches : List Stretch) (bytes : List ℕ)
+SentMore = (exact : Bool) (names : List (List ℕ)) (log : List Entry) (place : ℕ) (piece : List ℕ) (old new : MemberView) (stretches : List Stretch) (bytes : List ℕ)
     → (heard : Inputs exact (known_in (length names) log) names place piece old new) → old.session.closing ≡ None → HasSent names log old stretches bytes
     → HasSent names log new
     (stretches ++ map (stretch_at (length (history log))) (take heard.count (answered (known_in (length names) log) names old.session.policy heard.requests)))
@@ -38,7 +38,7 @@ SentMore = (exact : Bool) (names : List (List ℕ)) (log : List Entry) (place : 
 
 -- what is sent to a closed session, or is refused with its closing, has no answer
 abbrev pub SentInVain : Type 0
-SentInVain = (names : List (List ℕ)) (log : List Entry) (a : Attendance) (stretches : List Stretch) (bytes piece : List ℕ)
+SentInVain = (names : List (List ℕ)) (log : List Entry) (a : MemberView) (stretches : List Stretch) (bytes piece : List ℕ)
     → is_some a.session.closing ≡ true → HasSent names log a stretches bytes → HasSent names log a stretches (bytes ++ piece)
 
 -- entries, closings and turns are not heard
@@ -46,13 +46,13 @@ abbrev pub EntriesAreNotHeard : Type 0
 EntriesAreNotHeard = (exact turns : Bool) (old new : BookView) (entries : List Entry) → Moves exact turns old new entries → AllZip HearsNothing old.sessions new.sessions
 
 abbrev pub ClosingsAreNotHeard : Type 0
-ClosingsAreNotHeard = (place : ℕ) (why : Close) (old new : Attendance) → Closes place why old new → HearsNothing old new
+ClosingsAreNotHeard = (place : ℕ) (why : Close) (old new : MemberView) → Closes place why old new → HearsNothing old new
 
 abbrev pub TakingIsNotHeard : Type 0
-TakingIsNotHeard = (kept : List (List ℕ)) (a : Attendance) → HearsNothing a (with_kept kept a)
+TakingIsNotHeard = (kept : List (List ℕ)) (a : MemberView) → HearsNothing a (with_kept kept a)
 
 abbrev pub ShutsAreNotHeard : Type 0
-ShutsAreNotHeard = (place : ℕ) (why : Close) (old new : Attendance) → Shuts place why old new → HearsNothing old new
+ShutsAreNotHeard = (place : ℕ) (why : Close) (old new : MemberView) → Shuts place why old new → HearsNothing old new
 
 -- the policy of stretch k is that after k requests
 abbrev pub StretchesHaveTheirPolicies : Type 0

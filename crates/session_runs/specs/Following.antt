@@ -1,8 +1,8 @@
--- How the run of a session goes on. This project's own.
+-- How the run of a session goes on.
 use Rattle.std.specs.Prelude.{◌≡◌, ℕ, Bool, true, List, [], ◌∷◌, ◌++◌, length, map, cond, Option, Some, None, is_some}
 use Rattle.std.specs.List.{AllZip}
 use Rattle.session_core.specs.declared.mark.Close.{Close}
-use Rattle.session_core.specs.Shown.{Shown, opening_policy}
+use Rattle.session_core.specs.SessionView.{SessionView, opening_policy}
 use Rattle.session_core.specs.Stretches.{answer_stretch}
 use Rattle.book_log.specs.Entries.{Entry}
 use Rattle.book_log.specs.History.{history}
@@ -10,7 +10,7 @@ use Rattle.book_log.specs.Standing.{StandsFor}
 use Rattle.book_replies.specs.declared.answering.Answer.{Answer}
 use Rattle.book_replies.specs.Replies.{opening_reply}
 use Rattle.book_sessions.specs.Answering.{stretch_at}
-use Rattle.book_sessions.specs.Attendance.{Attendance}
+use Rattle.book_sessions.specs.MemberView.{MemberView}
 use Rattle.report_book.specs.BookView.{BookView}
 use Rattle.session_runs.specs.Runs.{SessionRun, IsRunOf, RunsOf, closed_from, items_over}
 
@@ -20,21 +20,21 @@ closing_after base None now was = closed_from base now
 closing_after base (Some closing) now was = was
 
 -- with no further stretch, in a generation that begins at this place
-abbrev pub run_after : ℕ → Shown → Shown → SessionRun → SessionRun
+abbrev pub run_after : ℕ → SessionView → SessionView → SessionRun → SessionRun
 run_after base old new r = record { stretches = r.stretches; closing = closing_after base old.closing new.closing r.closing }
 
 -- From one log to another: what its outlet keeps and its items of the whole run gained the same.
-pub record Extends (names : List (List ℕ)) (before log onward longer : List Entry) (old new : Shown) (more : List (List ℕ)) (r next : SessionRun) : Type 0 where
+pub record Extends (names : List (List ℕ)) (before log onward longer : List Entry) (old new : SessionView) (more : List (List ℕ)) (r next : SessionRun) : Type 0 where
   pub run : IsRunOf names onward longer new next
   pub kept : new.kept ≡ old.kept ++ more
   pub items : items_over names (onward ++ longer) next ≡ items_over names (before ++ log) r ++ more
 
 -- where it was closed
-abbrev pub GainsNothing : Shown → List (List ℕ) → Type 0
+abbrev pub GainsNothing : SessionView → List (List ℕ) → Type 0
 GainsNothing old more = is_some old.closing ≡ true → more ≡ []
 
 -- whatever its run was, it goes on with no further stretch; one that was closed gains nothing
-abbrev pub Follows : List (List ℕ) → List Entry → List Entry → List Entry → List Entry → Shown → Shown → Type 0
+abbrev pub Follows : List (List ℕ) → List Entry → List Entry → List Entry → List Entry → SessionView → SessionView → Type 0
 Follows names before log onward longer old new =
     (r : SessionRun) → IsRunOf names before log old r
     → (more : List (List ℕ)) × Extends names before log onward longer old new more r (run_after (length (history onward)) old new r) × GainsNothing old more
@@ -48,7 +48,7 @@ pub record GoesOn (turns : Bool) (old new : BookView) (entries before : List Ent
   pub stands : StandsFor new.log.opening (forgotten_if turns before old.log.log)
   pub whole : forgotten_if turns before old.log.log ++ new.log.log ≡ (before ++ old.log.log) ++ entries
   pub names : new.names ≡ old.names
-  pub sessions : AllZip (λ (a b : Attendance). Follows old.names before old.log.log (forgotten_if turns before old.log.log) new.log.log a.session b.session) old.sessions new.sessions
+  pub sessions : AllZip (λ (a b : MemberView). Follows old.names before old.log.log (forgotten_if turns before old.log.log) new.log.log a.session b.session) old.sessions new.sessions
   pub runs : (runs : List SessionRun) → RunsOf old before runs
       → (nexts : List SessionRun) × RunsOf new (forgotten_if turns before old.log.log) nexts × AllZip (λ (r next : SessionRun). next.stretches ≡ r.stretches) runs nexts
 

@@ -5,16 +5,16 @@ use mathlib.Core.Option.{some, some-injective, some-ne-none}
 use lib.ListN.{get_elem?}
 use Rattle.atomic_table.proofs.Lists.{at_set}
 use Rattle.shm_segment.specs.declared.sample.Sample.{Sample}
-use Rattle.shm_segment.specs.declared.view.Known.{Known}
+use Rattle.shm_segment.specs.declared.view.KnownSamples.{KnownSamples}
 use Rattle.shm_segment.specs.declared.view.Numbered.{Numbered}
 use Rattle.shm_segment.specs.Words.{count_after, body_after}
 use Rattle.shm_segment.specs.Rule.{IsSound, IsTold, IsPublished}
 use Rattle.shm_segment.proofs.Samples.{slice_get_front}
 use Rattle.shm_segment.proofs.Words.{count_in, turn_is, published_is}
-use Rattle.shm_segment.proofs.Running.{Effect, published_rises, count_rises}
+use Rattle.shm_segment.proofs.Running.{StoreEffect, published_rises, count_rises}
 use Rattle.shm_consumer.specs.declared.view.Role.{Role}
 use Rattle.shm_consumer.specs.declared.view.View.{View}
-use Rattle.shm_consumer.specs.Rule.{may_give, may_take, HasRole, words_with, IsValid, IsBehind, IsStill, IsRunning, IsRead, Fits, Holds}
+use Rattle.shm_consumer.specs.Rule.{may_give, may_take, HasRole, words_with, IsValid, IsBehind, IsStill, IsRunning, IsRead, Fits, HandOffHolds}
 use Rattle.shm_consumer.specs.Views.{giver}
 
 -- each view fits
@@ -52,13 +52,13 @@ pub record HoldsAt (first : ℕ) (words : List ℕ) (views : List View) (gives :
 
 -- the seat with the giver's view is the giver
 pub at_giver : (first first' : ℕ) (words : List ℕ) (views : List View) (seat : ℕ) (samples : List Sample) (stores : ℕ)
-    → Holds first words views → get_elem? views seat ≡ some (giver first' samples stores) → HoldsAt first words views seat samples stores
+    → HandOffHolds first words views → get_elem? views seat ≡ some (giver first' samples stores) → HoldsAt first words views seat samples stores
 at_giver first first' words views seat samples stores h at =
     let mine = (h.fits seat (giver first' samples stores) at).gives refl in
     subst (λ (x : ℕ × List Sample × ℕ). HoldsAt first words views x.0 x.1 x.2) (λ i. (sym mine.0 i, sym mine.1 i, sym mine.2 i))
     (record { takes = h.taker; last = h.last; valid = h.valid; giver_is = h.gives; taker_is = h.takes; words_are = h.words_are; valid_is = h.valid_is; sound = h.sound; behind = h.behind; fits = h.fits })
 
-told_on : (samples more next : List Sample) (stores : ℕ) (k : Known) → samples ++ more ≡ next → IsTold samples stores k → IsTold next (stores + 1) k
+told_on : (samples more next : List Sample) (stores : ℕ) (k : KnownSamples) → samples ++ more ≡ next → IsTold samples stores k → IsTold next (stores + 1) k
 told_on samples more next stores k e told =
     record {
       earlier = let earlier = told.earlier in omega arith;
@@ -96,7 +96,7 @@ turn_on first stores low same = by_turn (stores % 13) refl low
     by_turn (suc (suc r)) t h = absurd (omega arith)
 
 module _ (first : ℕ) (samples next : List Sample) (stores : ℕ) where
-  still_on : (last count : ℕ) (body : List ℕ) → count ≤ count_after first stores → (count_after first stores ≡ count → IsStill samples stores last count body) → Effect first samples next stores
+  still_on : (last count : ℕ) (body : List ℕ) → count ≤ count_after first stores → (count_after first stores ≡ count → IsStill samples stores last count body) → StoreEffect first samples next stores
       → count_after first (stores + 1) ≡ count → IsStill next (stores + 1) last count body
   still_on last count body below still effect now =
       ⊎_elim (λ (x : count_after first stores < count_after first (stores + 1)). absurd (omega arith))
@@ -117,7 +117,7 @@ module _ (first : ℕ) (samples next : List Sample) (stores : ℕ) where
       }) x) effect
 
   -- a running reading stays one while the giver stores
-  running_on : (last : ℕ) (reading : List ℕ) → Effect first samples next stores → IsRunning first samples stores last reading → IsRunning first next (stores + 1) last reading
+  running_on : (last : ℕ) (reading : List ℕ) → StoreEffect first samples next stores → IsRunning first samples stores last reading → IsRunning first next (stores + 1) last reading
   running_on last [] effect running = tt
   running_on last (count ∷ []) effect running = let rises = count_rises first samples next stores effect in let below : count ≤ count_after first stores = running in omega arith
   running_on last (count ∷ valid ∷ body) effect running =
@@ -131,7 +131,7 @@ read_on first samples more next stores last (Some pair) e is =
     (published_on first samples more next stores pair e is.0, is.1, behind_on first stores pair.number is.2)
 
 -- another seat's view after a store
-pub fits_on : (gives takes first : ℕ) (samples more next : List Sample) (stores last seat : ℕ) (v : View) → samples ++ more ≡ next → Effect first samples next stores → seat ≢ gives
+pub fits_on : (gives takes first : ℕ) (samples more next : List Sample) (stores last seat : ℕ) (v : View) → samples ++ more ≡ next → StoreEffect first samples next stores → seat ≢ gives
     → Fits gives takes first samples stores last seat v → Fits gives takes first next (stores + 1) last seat v
 fits_on gives takes first samples more next stores last seat v e effect other fits =
     record {

@@ -15,7 +15,7 @@ use Rattle.shm_consumer.specs.declared.view.Role.{Role}
 use Rattle.shm_consumer.specs.declared.view.Role.TheVariants.{Opens, Gives, Takes, Notices}
 use Rattle.shm_consumer.specs.declared.view.View.{View}
 use Rattle.shm_consumer.specs.Views.{opener, giver, giver_of, newcomer_of, notice_of, with_notice, spent}
-use Rattle.shm_consumer.specs.Rule.{Fits, HasRole, Holds, HoldsOf, may_give, may_take}
+use Rattle.shm_consumer.specs.Rule.{Fits, HasRole, HandOffHolds, HoldsOf, may_give, may_take}
 use Rattle.shm_consumer.proofs.Keeps.{role_on, fits_set}
 use Rattle.shm_consumer.proofs.Storing.{idle_fits, valid_zero}
 
@@ -157,7 +157,7 @@ takes_notice first seat v role other w kind s h at apart there =
     }
 
 -- a new segment keeps the rule
-pub new_holds : (first : ℕ) → first ≤ 1_073_741_823 → Holds first (1 ∷ 2 * first ∷ 0 ∷ 0 ∷ 0 ∷ 0 ∷ 0 ∷ 0 ∷ 0 ∷ 0 ∷ 0 ∷ 0 ∷ []) (opener first ∷ [])
+pub new_holds : (first : ℕ) → first ≤ 1_073_741_823 → HandOffHolds first (1 ∷ 2 * first ∷ 0 ∷ 0 ∷ 0 ∷ 0 ∷ 0 ∷ 0 ∷ 0 ∷ 0 ∷ 0 ∷ 0 ∷ []) (opener first ∷ [])
 new_holds first low =
     record {
       giver = 0;

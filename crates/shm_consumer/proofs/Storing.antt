@@ -6,13 +6,13 @@ use Rattle.std.proofs.lemmas.List.Elements.{All-append, All-cons, All-nil}
 use Rattle.atomic_table.specs.Table.{Me, Allows}
 use Rattle.atomic_table.specs.Table.{keeps as no_slot}
 use Rattle.shm_segment.specs.declared.sample.Sample.{Sample}
-use Rattle.shm_segment.specs.declared.view.Known.{Known}
+use Rattle.shm_segment.specs.declared.view.KnownSamples.{KnownSamples}
 use Rattle.shm_segment.specs.Samples.{IsSample}
 use Rattle.shm_segment.specs.Words.{count_after, body_at, body_after, words_of, body_places}
 use Rattle.shm_segment.specs.Rule.{IsSound, IsTold, IsPublished}
 use Rattle.shm_segment.proofs.Samples.{body_more}
 use Rattle.shm_segment.proofs.Words.{count_in, odd_count, body_in, turn_is, published_is, published_last, stores_invalid, stores_odd, stores_body, stores_even, stores_valid}
-use Rattle.shm_segment.proofs.Running.{Effect}
+use Rattle.shm_segment.proofs.Running.{StoreEffect}
 use Rattle.shm_consumer.specs.declared.view.Role.{Role}
 use Rattle.shm_consumer.specs.declared.view.Role.TheVariants.{Gives}
 use Rattle.shm_consumer.specs.declared.view.View.{View}
@@ -21,7 +21,7 @@ use Rattle.shm_consumer.specs.Rule.{words_with, IsValid, IsBehind, Fits, HoldsOf
 use Rattle.shm_consumer.proofs.Keeps.{role_on, fits_set, fits_on, at_giver, behind_on}
 
 -- the view of a seat that has consumed nothing and reads nothing
-pub idle_fits : (gives takes first : ℕ) (samples : List Sample) (stores last seat : ℕ) (role : Role) (k : Known)
+pub idle_fits : (gives takes first : ℕ) (samples : List Sample) (stores last seat : ℕ) (role : Role) (k : KnownSamples)
     → (may_give role ≡ true → (seat ≡ gives) × (k.samples ≡ samples) × (k.stores ≡ stores)) → (may_take role ≡ true → (seat ≡ takes) × (0 ≡ last)) → IsTold samples stores k
     → Fits gives takes first samples stores last seat (idle role first k)
 idle_fits gives takes first samples stores last seat role k give take told =
@@ -47,7 +47,7 @@ pub record Leads (first : ℕ) (samples next : List Sample) (stores word value l
   pub sound : IsSound first next (stores + 1)
   pub words : set (words_with first samples stores valid) word value ≡ words_with first next (stores + 1) valid'
   pub is : IsValid first (stores + 1) last valid'
-  pub effect : Effect first samples next stores
+  pub effect : StoreEffect first samples next stores
 
 -- a store of the giver adds these samples
 module _ (first : ℕ) (samples more next : List Sample) (stores : ℕ) where
@@ -117,7 +117,7 @@ module _ (first slots seat : ℕ) (samples : List Sample) (stores : ℕ) (me : M
   at_seat word value = subst (λ (u : Me (Unit {0}) View). Allows {S = Unit {0}} (HoldsOf first) slots seat u word (λ _. value) (λ _ (after : Me (Unit {0}) View). after ≡ (stored u.0, []))) (sym is)
 
   -- a word but valid
-  further : (word value : ℕ) → 0 < stores % 13 → word ≢ 9 → set (words_of first samples stores) word value ≡ words_of first samples (stores + 1) → Effect first samples samples stores → Keeps word value
+  further : (word value : ℕ) → 0 < stores % 13 → word ≢ 9 → set (words_of first samples stores) word value ≡ words_of first samples (stores + 1) → StoreEffect first samples samples stores → Keeps word value
   further word value turn other law effect =
       at_seat word value
       (store_keeps first samples [] samples stores slots seat word value (append-nil samples)

@@ -1,4 +1,4 @@
--- What contracts see of a giver: the same as of a publisher. This project's own.
+-- What contracts see of a giver: the same as of a publisher.
 use Rattle.std.specs.Prelude.{◌≡◌, ℕ, ◌%◌, []}
 use Rattle.atomic_table.specs.Seated.{TableId}
 use Rattle.atomic_table.specs.Table.{Me}

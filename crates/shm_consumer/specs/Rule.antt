@@ -6,7 +6,7 @@ use mathlib.Core.Option.{some}
 use lib.ListN.{get_elem?}
 use Rattle.atomic_table.specs.Table.{State}
 use Rattle.shm_segment.specs.declared.sample.Sample.{Sample}
-use Rattle.shm_segment.specs.declared.view.Known.{Known}
+use Rattle.shm_segment.specs.declared.view.KnownSamples.{KnownSamples}
 use Rattle.shm_segment.specs.declared.view.Numbered.{Numbered}
 use Rattle.shm_segment.specs.Rule.{IsSound, IsTold, IsPublished, last_from}
 use Rattle.shm_segment.specs.Samples.{IsBody}
@@ -89,7 +89,7 @@ abbrev pub HasRole : (Role → Bool) → List View → ℕ → Type 0
 HasRole may views seat = (v : View) × (get_elem? views seat ≡ some v) × (may v.role ≡ true)
 
 -- the words but valid are those of the one giver's view, valid and the one taker's last number go with them, and each seat's view fits
-pub record Holds (first : ℕ) (words : List ℕ) (views : List View) : Type 0 where
+pub record HandOffHolds (first : ℕ) (words : List ℕ) (views : List View) : Type 0 where
   pub giver : ℕ
   pub taker : ℕ
   pub samples : List Sample
@@ -105,7 +105,7 @@ pub record Holds (first : ℕ) (words : List ℕ) (views : List View) : Type 0 w
   pub fits : (seat : ℕ) (v : View) → get_elem? views seat ≡ some v → Fits giver taker first samples stores last seat v
 
 abbrev pub HoldsOf : ℕ → State (Unit {0}) View → Type 0
-HoldsOf first state = Holds first state.words state.views
+HoldsOf first state = HandOffHolds first state.words state.views
 
 -- what the second count of a reading tells: where both counts are equal, the body is that of a sample
 abbrev pub IsRecounted : View → ℕ → Type 0
@@ -114,6 +114,6 @@ IsRecounted v again =
     × ((count valid : ℕ) (body : List ℕ) → v.reading ≡ count ∷ valid ∷ body → length body ≡ 9 → again ≡ count → IsBody body)
 
 -- each pair whose number these stores reach is the published sample of its number in this list
-abbrev pub Agrees : ℕ → Known → List Numbered → Type 0
+abbrev pub Agrees : ℕ → KnownSamples → List Numbered → Type 0
 Agrees first k pairs =
     All (λ (pair : Numbered). pair.number ≤ first + published_after k.stores → IsPublished first k.samples k.stores pair) pairs

@@ -1,4 +1,4 @@
--- What contracts see of a taker, and what its calls do. This project's own.
+-- What contracts see of a taker, and what its calls do.
 use Rattle.std.specs.Prelude.{◌≡◌, ℕ, ◌+◌, ◌<◌, ◌≤◌, List, [], ◌∷◌, ◌++◌, length, take, slice_index, Some}
 use Rattle.atomic_table.specs.Seated.{TableId}
 use Rattle.atomic_table.specs.Table.{Me}
@@ -61,7 +61,7 @@ after_step t access consumed reading =
     record { segment = t.segment; consumed = consumed; made = t.made ++ access ∷ []; reading = reading }
 
 -- the value does not end a reading of these values
-pub record GoesOn (reading : List ℕ) (value : ℕ) : Type 0 where
+pub record ReadingGoesOn (reading : List ℕ) (value : ℕ) : Type 0 where
   pub more : length reading < 12
   pub ready : length reading ≡ 1 → 0 < value
   pub same : length reading ≡ 11 → value ≡ slice_index reading 0
@@ -69,7 +69,7 @@ pub record GoesOn (reading : List ℕ) (value : ℕ) : Type 0 where
 -- the one next load of a reading, which goes on or ends with it; after twelve values the store of valid 0, with which the pair read is consumed
 abbrev pub TakesAs : Taking → TakeStep → Taking → Type 0
 TakesAs old (Loaded word value) new =
-    (word ≡ slice_index reading_words (length old.reading)) × GoesOn old.reading value
+    (word ≡ slice_index reading_words (length old.reading)) × ReadingGoesOn old.reading value
     × (new ≡ after_step old (Load word value) old.consumed (old.reading ++ value ∷ []))
 TakesAs old (Cleared number sample) new =
     EndsAs (Consumed number sample) old.reading

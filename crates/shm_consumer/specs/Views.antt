@@ -1,7 +1,7 @@
--- What each kind of seat of a hand-off segment knows, and how each step changes the view of its seat. This project's own.
+-- What each kind of seat of a hand-off segment knows, and how each step changes the view of its seat.
 use Rattle.std.specs.Prelude.{ℕ, ◌+◌, ◌/◌, List, [], ◌∷◌, ◌++◌, Option, Some, None, ◌==◌, if◌then◌else◌}
 use Rattle.shm_segment.specs.declared.sample.Sample.{Sample}
-use Rattle.shm_segment.specs.declared.view.Known.{Known}
+use Rattle.shm_segment.specs.declared.view.KnownSamples.{KnownSamples}
 use Rattle.shm_segment.specs.declared.view.Numbered.{Numbered}
 use Rattle.shm_segment.specs.Samples.{sample_of}
 use Rattle.shm_segment.specs.Views.{known, nothing}
@@ -12,7 +12,7 @@ use Rattle.shm_consumer.specs.declared.view.Role.TheVariants.{Opens, Gives, Take
 use Rattle.shm_consumer.specs.declared.view.View.{View}
 
 -- a seat that has consumed nothing and reads nothing
-abbrev pub idle : Role → ℕ → Known → View
+abbrev pub idle : Role → ℕ → KnownSamples → View
 idle role first k =
     record { role = role; first = first; known = k; consumed = []; made = []; reading = []; read = None }
 

@@ -5,7 +5,7 @@ ghost use Rattle.shm_consumer.specs.Taking.{untaken};
 
 use crate::giver::Giver;
 use crate::plays::Parts;
-use crate::rule::Kept;
+use crate::rule::HandOffRule;
 use crate::taker::Taker;
 use crate::view::View;
 use atomic_table::{Seat, Table};
@@ -14,7 +14,7 @@ use std::alloc::Global;
 use std::marker::Model;
 
 /// The table of a hand-off segment: its words, under its rule.
-pub type HandTable = Table<(), View, u32, Kept, Global>;
+pub type HandTable = Table<(), View, u32, HandOffRule, Global>;
 
 /// A seat of the table.
 pub type HandSeat = Seat<(), View>;

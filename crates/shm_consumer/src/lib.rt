@@ -26,7 +26,7 @@ pub use consumption::{Consumption, TakeStep};
 pub use giver::Giver;
 pub use hand_off::{HandOff, HandSeat, HandTable};
 pub use notice::HandNotice;
-pub use rule::Kept;
+pub use rule::HandOffRule;
 pub use shm_segment::{Begin, Phase, PubStep, Sample};
 pub use taker::Taker;
 pub use view::{Access, Role, View};

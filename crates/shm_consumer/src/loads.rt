@@ -6,7 +6,7 @@ ghost use Rattle.shm_consumer.specs.Taking.{IsTaking};
 ghost use Rattle.shm_consumer.specs.Views.{counted, validated, fetched, recounted, cleared};
 
 use crate::hand_off::{HandOff, HandSeat};
-use crate::plays::{Body, Clears, FirstCount, LastCount, Valid};
+use crate::plays::{BodyWord, Clears, FirstCount, LastCount, Valid};
 use shm_segment::{BODY, COUNT, VALID};
 
 /// The first count, which begins a reading.
@@ -40,7 +40,7 @@ pub(crate) fn load_body(hand: &HandOff, seat: &mut HandSeat, place: u8) -> (u8, 
     let word = BODY[usize::from(place)];
     (
         word,
-        hand.table.shared.load::<Body>(seat, usize::from(word)),
+        hand.table.shared.load::<BodyWord>(seat, usize::from(word)),
     )
 }
 

@@ -89,9 +89,9 @@ impl Play<(), View> for Valid {
 }
 
 /// Its load of a word of the body.
-pub struct Body;
+pub struct BodyWord;
 
-impl Play<(), View> for Body {
+impl Play<(), View> for BodyWord {
     ghost use Rattle.std.specs.Prelude.{◌≡◌, []};
     ghost use Rattle.shm_consumer.specs.Views.{fetched};
 

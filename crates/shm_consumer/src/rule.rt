@@ -2,9 +2,9 @@ use crate::view::View;
 use atomic_table::TableRule;
 
 /// The rule that every step on a hand-off segment keeps.
-pub struct Kept;
+pub struct HandOffRule;
 
-impl TableRule<(), View, u32> for Kept {
+impl TableRule<(), View, u32> for HandOffRule {
     ghost use Rattle.shm_consumer.specs.Rule.{HoldsOf};
     ghost use Rattle.shm_consumer.specs.Views.{opener};
 

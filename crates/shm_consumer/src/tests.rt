@@ -50,16 +50,16 @@ fn steps(hand: &HandOff, taker: &mut Taker, most: u32) -> Option<TakeStep>
 
 // A sample to begin, stores, and steps of the taker of which the last ended a reading so.
 #[derive(Clone, Copy)]
-struct Turn {
+struct Round {
     begins: Option<u32>,
     stores: u32,
     steps: u32,
     ended: Option<TakeStep>,
 }
 
-impl Turn {
-    fn of(begins: Option<u32>, stores: u32, steps: u32, ended: Option<TakeStep>) -> Turn {
-        Turn {
+impl Round {
+    fn of(begins: Option<u32>, stores: u32, steps: u32, ended: Option<TakeStep>) -> Round {
+        Round {
             begins,
             stores,
             steps,
@@ -80,7 +80,7 @@ fn in_order(
     hand: &HandOff,
     giver: &mut Giver,
     taker: &mut Taker,
-    turns: &[Turn],
+    turns: &[Round],
     consumptions: &[Consumption],
 ) -> bool
     requires giver { giver.old.segment ≡ hand.now }
@@ -103,7 +103,7 @@ fn in_order(
 #[test]
 fn a_sample_is_consumed_once(rt: HostRuntime) -> Result<(), Fail> {
     let (hand, mut giver, mut taker) = HandOff::new(rt.alloc(), 0)?;
-    let turns = [Turn::of(Some(1), 13, 0, None)];
+    let turns = [Round::of(Some(1), 13, 0, None)];
     let consumptions = [consumed(1), Consumption::NotReady { count: 2, valid: 0 }];
     assert!(rt; in_order(&hand, &mut giver, &mut taker, &turns, &consumptions));
     Ok(())
@@ -117,9 +117,9 @@ fn a_clash_leaves_valid_alone(rt: HostRuntime) -> Result<(), Fail> {
         after: 3,
     });
     let turns = [
-        Turn::of(Some(1), 13, 6, None),
-        Turn::of(Some(2), 2, 6, Some(clash)),
-        Turn::of(None, 11, 0, None),
+        Round::of(Some(1), 13, 6, None),
+        Round::of(Some(2), 2, 6, Some(clash)),
+        Round::of(None, 11, 0, None),
     ];
     assert!(rt; in_order(&hand, &mut giver, &mut taker, &turns, &[consumed(2)]));
     Ok(())
@@ -133,8 +133,8 @@ fn a_clear_may_wipe_a_newer_sample(rt: HostRuntime) -> Result<(), Fail> {
         sample: numbered(1),
     };
     let turns = [
-        Turn::of(Some(1), 13, 12, None),
-        Turn::of(Some(2), 13, 1, Some(cleared)),
+        Round::of(Some(1), 13, 12, None),
+        Round::of(Some(2), 13, 1, Some(cleared)),
     ];
     let consumptions = [Consumption::NotReady { count: 4, valid: 0 }];
     assert!(rt; in_order(&hand, &mut giver, &mut taker, &turns, &consumptions));

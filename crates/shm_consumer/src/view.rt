@@ -1,4 +1,4 @@
-use shm_segment::{Known, Numbered};
+use shm_segment::{KnownSamples, Numbered};
 use std::collections::LinkedList;
 
 /// What a seat is.
@@ -24,7 +24,7 @@ pub struct View {
     /// The segment's first number.
     pub first: u32,
     /// The giver's list and number of stores; of another seat what it was told of them.
-    pub known: Known,
+    pub known: KnownSamples,
     /// The pairs that the taker consumed.
     pub consumed: LinkedList<Numbered>,
     /// The loads and stores that the taker made.

@@ -16,7 +16,7 @@ use Rattle.shm_monitor.specs.declared.reading.MonStep.TheVariants.{Loaded, Done}
 use Rattle.shm_monitor.specs.declared.reading.Reading.TheVariants.{Taken, Clash}
 use Rattle.shm_monitor.specs.Loads.{read, recounted, taken_after, IsLastCount, IsRecounted, loaded}
 use Rattle.shm_monitor.specs.Readings.{reading_words}
-use Rattle.shm_monitor.specs.Watching.{Watching, watching, IsMonitor, LoadsAs, after_load}
+use Rattle.shm_monitor.specs.MonitorView.{MonitorView, watching, IsMonitor, LoadsAs, after_load}
 use Rattle.shm_monitor.proofs.Keeping.{last_snoc, rises_snoc}
 
 -- the reading is as long as the number of its values
@@ -68,28 +68,28 @@ body_here table me at count valid last value body is low high =
       ),
     )
 
-pub body_seen : (table table' : TableId) (me me' : Me (Unit {0}) View) (at count valid last value : ℕ) (body : List ℕ) (old : Watching) (index word : ℕ)
+pub body_seen : (table table' : TableId) (me me' : Me (Unit {0}) View) (at count valid last value : ℕ) (body : List ℕ) (old : MonitorView) (index word : ℕ)
     → IsMonitor me at count valid body last → watching table me.0 (take at (count ∷ valid ∷ body)) ≡ old → 2 ≤ length old.reading → length old.reading < 11
     → index ≡ at - 2 → word ≡ slice_index body_places (at - 2) → table' ≡ table → me' ≡ (read me.0 (slice_index body_places (at - 2)) value, [])
     → IsMonitor me' (at + 1) count valid (set body index value) last
     × LoadsAs old (Loaded word value) (watching table' me'.0 (take (at + 1) (count ∷ valid ∷ set body index value)))
 body_seen table table' me me' at count valid last value body old index word is view from to i w t m =
-    let long : length old.reading ≡ at = ap (λ (x : Watching). length x.reading) (sym view) ∙ length_reading at count valid body is.places is.nine in
+    let long : length old.reading ≡ at = ap (λ (x : MonitorView). length x.reading) (sym view) ∙ length_reading at count valid body is.places is.nine in
     let low : 2 ≤ at = omega arith in
     let high : at < 11 = omega arith in
     subst
-    (λ (x : Watching × ℕ × ℕ × TableId × Me (Unit {0}) View). IsMonitor x.4 (at + 1) count valid (set body x.1 value) last × LoadsAs x.0 (Loaded x.2 value) (watching x.3 x.4.0 (take (at + 1) (count ∷ valid ∷ set body x.1 value))))
+    (λ (x : MonitorView × ℕ × ℕ × TableId × Me (Unit {0}) View). IsMonitor x.4 (at + 1) count valid (set body x.1 value) last × LoadsAs x.0 (Loaded x.2 value) (watching x.3 x.4.0 (take (at + 1) (count ∷ valid ∷ set body x.1 value))))
     (λ j. (view j, sym i j, sym w j, sym t j, sym m j))
     (body_here table me at count valid last value body is low high)
 
 -- the second count
-module _ (table table' : TableId) (me me' : Me (Unit {0}) View) (at count valid last again : ℕ) (body : List ℕ) (old : Watching) (is : IsMonitor me at count valid body last)
+module _ (table table' : TableId) (me me' : Me (Unit {0}) View) (at count valid last again : ℕ) (body : List ℕ) (old : MonitorView) (is : IsMonitor me at count valid body last)
     (view : watching table me.0 (take at (count ∷ valid ∷ body)) ≡ old) (full : length old.reading ≡ 11) (t : table' ≡ table) (m : me' ≡ (recounted me.0 again, [])) (tells : IsRecounted me.0 again) where
   whole_body : take 9 body ≡ body
   whole_body = ap (λ (n : ℕ). take n body) (sym is.nine) ∙ take-length body
 
   at_end : at ≡ 11
-  at_end = sym (length_reading at count valid body is.places is.nine) ∙ ap (λ (x : Watching). length x.reading) view ∙ full
+  at_end = sym (length_reading at count valid body is.places is.nine) ∙ ap (λ (x : MonitorView). length x.reading) view ∙ full
 
   values : take at (count ∷ valid ∷ body) ≡ count ∷ valid ∷ body
   values = ap (λ (n : ℕ). take n (count ∷ valid ∷ body)) at_end ∙ ap (λ (l : List ℕ). count ∷ valid ∷ l) whole_body
@@ -104,7 +104,7 @@ module _ (table table' : TableId) (me me' : Me (Unit {0}) View) (at count valid 
   after : (taken : List Numbered) → taken_after me.0.taken (count ∷ valid ∷ body) again ≡ taken → me' ≡ (loaded me.0 1 again taken [], [])
   after taken e = m ∙ (λ i. (loaded me.0 1 again ((ap (λ (l : List ℕ). taken_after me.0.taken l again) reading ∙ e) i) [], []))
 
-  abbrev new : List Numbered → Watching
+  abbrev new : List Numbered → MonitorView
   new taken = watching table (loaded me.0 1 again taken []) []
 
   leaves : (taken : List Numbered) → me' ≡ (loaded me.0 1 again taken [], []) → watching table' me'.0 [] ≡ after_load old again taken []
@@ -112,10 +112,10 @@ module _ (table table' : TableId) (me me' : Me (Unit {0}) View) (at count valid 
       let word : 1 ≡ slice_index reading_words (length old.reading) = ap (λ (n : ℕ). slice_index reading_words n) (sym full) in
       (λ i. watching (t i) (e i).0 [])
       ∙ (λ i. watching table (loaded me.0 (word i) again taken []) [])
-      ∙ ap (λ (w : Watching). record { segment = w.segment; known = w.known; taken = taken; kept = w.kept ++ record { told = w.known.stores; word = slice_index reading_words (length old.reading); value = again } ∷ []; reading = [] }) view
+      ∙ ap (λ (w : MonitorView). record { segment = w.segment; known = w.known; taken = taken; kept = w.kept ++ record { told = w.known.stores; word = slice_index reading_words (length old.reading); value = again } ∷ []; reading = [] }) view
 
   read_all : old.reading ++ again ∷ [] ≡ count ∷ valid ∷ (body ++ again ∷ [])
-  read_all = ap (λ (l : List ℕ). l ++ again ∷ []) (ap (λ (w : Watching). w.reading) (sym view) ∙ values)
+  read_all = ap (λ (l : List ℕ). l ++ again ∷ []) (ap (λ (w : MonitorView). w.reading) (sym view) ∙ values)
 
   pub clashes : count ≢ again → LoadsAs old (Done (Clash count again)) (watching table' me'.0 [])
   clashes differ =
@@ -124,7 +124,7 @@ module _ (table table' : TableId) (me me' : Me (Unit {0}) View) (at count valid 
       let e = after me.0.taken (ap (λ (b : Bool). if b then me.0.taken ++ pair ∷ [] else me.0.taken) test) in (
         again,
         (body, (valid, told.ready, is.nine, read_all), differ),
-        leaves me.0.taken e ∙ ap (λ (w : Watching). after_load old again w.taken []) view,
+        leaves me.0.taken e ∙ ap (λ (w : MonitorView). after_load old again w.taken []) view,
       )
 
   pub takes : count ≡ again → (sample : Sample) → sample ≡ sample_of body

@@ -10,15 +10,15 @@ use Rattle.shm_monitor.specs.declared.reading.Reading.{Reading}
 use Rattle.shm_monitor.specs.declared.reading.Reading.TheVariants.{Taken, NotReady, Clash}
 use Rattle.shm_monitor.specs.Loads.{load}
 use Rattle.shm_monitor.specs.Readings.{reading_words, loads_of, EndsAs, taken_with}
-use Rattle.shm_monitor.specs.Watching.{Watching, LoadsAs, HasRead, IsNotOld, HasLoaded, reading_after}
+use Rattle.shm_monitor.specs.MonitorView.{MonitorView, LoadsAs, HasRead, IsNotOld, HasLoaded, reading_after}
 
-pub load_segment : (old : Watching) (step : MonStep) (new : Watching) → LoadsAs old step new → new.segment ≡ old.segment
-load_segment old (Loaded word value) new loads = ap (λ (w : Watching). w.segment) loads.2
-load_segment old (Done reading) new loads = ap (λ (w : Watching). w.segment) loads.2
+pub load_segment : (old : MonitorView) (step : MonStep) (new : MonitorView) → LoadsAs old step new → new.segment ≡ old.segment
+load_segment old (Loaded word value) new loads = ap (λ (w : MonitorView). w.segment) loads.2
+load_segment old (Done reading) new loads = ap (λ (w : MonitorView). w.segment) loads.2
 
-pub load_one : (old : Watching) (step : MonStep) (new : Watching) → LoadsAs old step new → length new.kept ≡ length old.kept + 1
-load_one old (Loaded word value) new loads = ap (λ (w : Watching). length w.kept) loads.2 ∙ length-append old.kept (load old.known.stores (slice_index reading_words (length old.reading)) value ∷ [])
-load_one old (Done reading) new loads = ap (λ (w : Watching). length w.kept) loads.2 ∙ length-append old.kept (load old.known.stores (slice_index reading_words (length old.reading)) loads.0 ∷ [])
+pub load_one : (old : MonitorView) (step : MonStep) (new : MonitorView) → LoadsAs old step new → length new.kept ≡ length old.kept + 1
+load_one old (Loaded word value) new loads = ap (λ (w : MonitorView). length w.kept) loads.2 ∙ length-append old.kept (load old.known.stores (slice_index reading_words (length old.reading)) value ∷ [])
+load_one old (Done reading) new loads = ap (λ (w : MonitorView). length w.kept) loads.2 ∙ length-append old.kept (load old.known.stores (slice_index reading_words (length old.reading)) loads.0 ∷ [])
 
 -- one load more
 pub loads_snoc : (told : ℕ) (words values : List ℕ) (value : ℕ) → length values < length words
@@ -41,7 +41,7 @@ ends_long (NotReady count valid) values e = let l = ap length e.1 in (omega arit
 ends_long (Clash before after) values e = let t = e.1 in let l = twelve_long values before after t.0 e.0 t.2 t.3 in (omega arith, omega arith)
 
 -- before the first load
-pub starts : (view old : Watching) → view ≡ old → HasLoaded old (record { segment = view.segment; known = view.known; taken = view.taken; kept = view.kept; reading = [] }) 0
+pub starts : (view old : MonitorView) → view ≡ old → HasLoaded old (record { segment = view.segment; known = view.known; taken = view.taken; kept = view.kept; reading = [] }) 0
 starts view old is =
     record {
       same = (λ i. record { segment = (is i).segment; known = (is i).known; taken = (is i).taken; kept = (is i).kept; reading = [] }) ∙ (λ i. record { segment = old.segment; known = old.known; taken = old.taken; kept = sym (append-nil old.kept) i; reading = [] });
@@ -59,18 +59,18 @@ heads last told n [] value long begin some = begin refl
 heads last told n (x ∷ r) value long begin some = some (omega arith)
 
 -- a load that goes on
-pub goes : (old now : Watching) (n word value : ℕ) (new : Watching) → HasLoaded old now n → LoadsAs now (Loaded word value) new → HasLoaded old new (n + 1)
+pub goes : (old now : MonitorView) (n word value : ℕ) (new : MonitorView) → HasLoaded old now n → LoadsAs now (Loaded word value) new → HasLoaded old new (n + 1)
 goes old now n word value new has loads =
     let r : List ℕ = now.reading in
     let told : ℕ = old.known.stores in
-    let on = subst (λ (w : Watching). LoadsAs w (Loaded word value) new) has.same loads in
+    let on = subst (λ (w : MonitorView). LoadsAs w (Loaded word value) new) has.same loads in
     let more = on.1.more in
     let long = has.long in
     let snoc = loads_snoc told reading_words r value (omega arith) in
     let kept = append_assoc old.kept (loads_of told reading_words r) (load told (slice_index reading_words (length r)) value ∷ []) ∙ ap (λ (l : List Load). old.kept ++ l) (sym snoc) in
     let next = r ++ value ∷ [] in
     let is : new ≡ reading_after old next = on.2 ∙ (λ i. record { segment = old.segment; known = old.known; taken = old.taken; kept = kept i; reading = next }) in
-    subst (λ (w : Watching). HasLoaded old w (n + 1)) (sym is)
+    subst (λ (w : MonitorView). HasLoaded old w (n + 1)) (sym is)
     (record {
       same = refl;
       long = omega (arith, length-append r (value ∷ []));
@@ -83,7 +83,7 @@ head_is : (r : List ℕ) (value count : ℕ) (rest : List ℕ) → 2 ≤ length 
 head_is [] value count rest long e = let l = ap length e in absurd (omega arith)
 head_is (x ∷ r) value count rest long e = (omega arith, ap (λ (l : List ℕ). slice_index l 0) e)
 
-not_old : (old : Watching) (r : List ℕ) (value : ℕ) (reading : Reading) → (1 ≤ length r → Low (last_from 0 old.taken) (old.segment.first + published_after old.known.stores) (slice_index r 0))
+not_old : (old : MonitorView) (r : List ℕ) (value : ℕ) (reading : Reading) → (1 ≤ length r → Low (last_from 0 old.taken) (old.segment.first + published_after old.known.stores) (slice_index r 0))
     → EndsAs reading (r ++ value ∷ []) → IsNotOld old reading
 not_old old r value (Taken pair) low ends =
     let t = ends.2 in
@@ -96,12 +96,12 @@ not_old old r value (NotReady count valid) low ends = tt
 not_old old r value (Clash before after) low ends = tt
 
 -- the load that ends the reading
-pub ends : (old now : Watching) (n : ℕ) (reading : Reading) (new : Watching) → HasLoaded old now n → LoadsAs now (Done reading) new
+pub ends : (old now : MonitorView) (n : ℕ) (reading : Reading) (new : MonitorView) → HasLoaded old now n → LoadsAs now (Done reading) new
     → HasRead old reading new × IsNotOld old reading × ((length old.kept + 2 ≤ length new.kept) × (length new.kept ≤ length old.kept + 12)) × (new.segment ≡ old.segment)
 ends old now n reading new has loads =
     let r : List ℕ = now.reading in
     let told : ℕ = old.known.stores in
-    let on = subst (λ (w : Watching). LoadsAs w (Done reading) new) has.same loads in
+    let on = subst (λ (w : MonitorView). LoadsAs w (Done reading) new) has.same loads in
     let value : ℕ = on.0 in
     let values : List ℕ = r ++ value ∷ [] in
     let long = has.long in
@@ -112,15 +112,15 @@ ends old now n reading new has loads =
     on.2 ∙ (λ i. record { segment = old.segment; known = old.known; taken = taken_with reading old.taken; kept = kept i; reading = [] }) in
     let size = ends_long reading values on.1 in
     let count = length_loads told reading_words values size.1 in
-    let all : length new.kept ≡ length old.kept + length values = ap (λ (w : Watching). length w.kept) is ∙ (let e : length (old.kept ++ loads_of told reading_words values) ≡ length old.kept + length values = omega (arith, length-append old.kept (loads_of told reading_words values)) in e) in (
+    let all : length new.kept ≡ length old.kept + length values = ap (λ (w : MonitorView). length w.kept) is ∙ (let e : length (old.kept ++ loads_of told reading_words values) ≡ length old.kept + length values = omega (arith, length-append old.kept (loads_of told reading_words values)) in e) in (
       (values, on.1, is),
       not_old old r value reading (λ some. has.first (omega arith)) on.1,
       (omega arith, omega arith),
-      ap (λ (w : Watching). w.segment) is,
+      ap (λ (w : MonitorView). w.segment) is,
     )
 
 -- a load that cannot end the reading, by the number of its values
-pub goes_by : (old now : Watching) (n : ℕ) (step : MonStep) (new : Watching) → HasLoaded old now n → n < 11 → n ≢ 1 → LoadsAs now step new → HasLoaded old new (n + 1)
+pub goes_by : (old now : MonitorView) (n : ℕ) (step : MonStep) (new : MonitorView) → HasLoaded old now n → n < 11 → n ≢ 1 → LoadsAs now step new → HasLoaded old new (n + 1)
 goes_by old now n (Loaded word value) new has low other loads = goes old now n word value new has loads
 goes_by old now n (Done reading) new has low other loads = absurd (ends_not reading loads.1)
   where

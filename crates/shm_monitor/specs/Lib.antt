@@ -1,3 +1,3 @@
 pub mod Loads
 pub mod Readings
-pub mod Watching
+pub mod MonitorView

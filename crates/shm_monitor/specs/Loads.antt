@@ -1,7 +1,7 @@
--- How a monitor's view changes by each of its loads, and what the load tells. This project's own.
+-- How a monitor's view changes by each of its loads, and what the load tells.
 use Rattle.std.specs.Prelude.{◌≡◌, ℕ, ◌+◌, ◌*◌, ◌/◌, ◌^◌, ◌<◌, ◌≤◌, List, [], ◌∷◌, ◌++◌, length, ◌==◌, nat_le, if◌then◌else◌}
 use Rattle.std.specs.List.{All}
-use Rattle.shm_segment.specs.declared.view.Known.{Known}
+use Rattle.shm_segment.specs.declared.view.KnownSamples.{KnownSamples}
 use Rattle.shm_segment.specs.declared.view.Load.{Load}
 use Rattle.shm_segment.specs.declared.view.Numbered.{Numbered}
 use Rattle.shm_segment.specs.declared.view.View.{View}
@@ -59,7 +59,7 @@ pub record IsLastCount (last count valid : ℕ) (body : List ℕ) (again : ℕ) 
   pub whole : again ≡ count → IsBody body × (last ≤ again / 2)
 
 -- of two, that after more stores
-abbrev pub later_of : Known → Known → Known
+abbrev pub later_of : KnownSamples → KnownSamples → KnownSamples
 later_of k l = if nat_le k.stores l.stores then l else k
 
 -- a load at which the pairs and the notice that is met agree
@@ -68,7 +68,7 @@ agreed v =
     record { role = v.role; first = v.first; known = later_of v.known v.met; met = nothing; taken = v.taken; kept = v.kept; reading = v.reading }
 
 -- each pair whose number these stores reach is the sample of its number in this list
-abbrev pub Agrees : ℕ → Known → List Numbered → Type 0
+abbrev pub Agrees : ℕ → KnownSamples → List Numbered → Type 0
 Agrees first k taken =
     All (λ (pair : Numbered). pair.number ≤ first + published_after k.stores → IsPublished first k.samples k.stores pair) taken
 

@@ -2,9 +2,9 @@
 ghost use Rattle.std.specs.Prelude.{◌≡◌, ◌+◌, ◌<◌, [], length, slice_index};
 ghost use Rattle.shm_segment.specs.Words.{body_places};
 ghost use Rattle.shm_monitor.specs.Loads.{counted, validated, read, recounted, IsFirstCount, IsRecounted};
-ghost use Rattle.shm_monitor.specs.Watching.{IsMonitoring};
+ghost use Rattle.shm_monitor.specs.MonitorView.{IsMonitoring};
 
-use crate::plays::{Body, FirstCount, LastCount, Valid};
+use crate::plays::{BodyWord, FirstCount, LastCount, Valid};
 use shm_segment::{BODY, COUNT, Segment, TableSeat, VALID};
 
 /// The first count, which begins a reading.
@@ -39,7 +39,10 @@ pub(crate) fn load_body(segment: &Segment, seat: &mut TableSeat, place: u8) -> (
     let word = BODY[usize::from(place)];
     (
         word,
-        segment.table.shared.load::<Body>(seat, usize::from(word)),
+        segment
+            .table
+            .shared
+            .load::<BodyWord>(seat, usize::from(word)),
     )
 }
 

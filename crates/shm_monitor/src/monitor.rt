@@ -1,7 +1,7 @@
 ghost use Rattle.std.specs.Prelude.{◌≡◌, ◌+◌, ◌<◌, ◌≤◌, length};
 ghost use Rattle.shm_segment.specs.Rule.{Rises, last_from};
 ghost use Rattle.shm_monitor.specs.Loads.{Agrees};
-ghost use Rattle.shm_monitor.specs.Watching.{opening, LoadsAs, HasRead, IsNotOld, informed, accounted};
+ghost use Rattle.shm_monitor.specs.MonitorView.{opening, LoadsAs, HasRead, IsNotOld, informed, accounted};
 
 use crate::loads::{load_body, load_count, load_count_again, load_valid};
 use crate::plays::Meets;
@@ -25,9 +25,9 @@ pub struct Monitor {
 
 impl Model for Monitor {
     ghost use Rattle.std.specs.Prelude.{◌∷◌, take};
-    ghost use Rattle.shm_monitor.specs.Watching.{Watching, watching, IsMonitor};
+    ghost use Rattle.shm_monitor.specs.MonitorView.{MonitorView, watching, IsMonitor};
 
-    ghost Value = { Watching };
+    ghost Value = { MonitorView };
 
     ghost view = { λ m. watching m.seat.table_id m.seat.me.0 (take m.at (m.count ∷ m.valid ∷ m.body)) };
 

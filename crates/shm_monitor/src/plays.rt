@@ -22,9 +22,9 @@ impl Play<(), View> for Valid {
 }
 
 /// The load of a word of the body.
-pub struct Body;
+pub struct BodyWord;
 
-impl Play<(), View> for Body {
+impl Play<(), View> for BodyWord {
     ghost use Rattle.std.specs.Prelude.{◌≡◌, []};
     ghost use Rattle.shm_monitor.specs.Loads.{read};
 

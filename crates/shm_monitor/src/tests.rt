@@ -70,7 +70,7 @@ fn loads(segment: &Segment, monitor: &mut Monitor, most: u32) -> Option<Reading>
 
 // A sample to begin, stores, and loads of which the last ended a reading so.
 #[derive(Clone, Copy)]
-struct Turn {
+struct Round {
     begins: Option<(u32, u32)>,
     stores: u32,
     loads: u32,
@@ -82,7 +82,7 @@ fn in_order(
     segment: &Segment,
     publisher: &mut Publisher,
     monitor: &mut Monitor,
-    turns: &[Turn],
+    turns: &[Round],
 ) -> bool
     requires publisher { publisher.old.segment ≡ segment.now }
     requires monitor { monitor.old.segment ≡ segment.now }
@@ -109,13 +109,13 @@ fn a_store_between_the_loads_is_a_clash(rt: HostRuntime) -> Result<(), Fail> {
     let (segment, mut publisher) = Segment::new(rt.alloc(), 0)?;
     let mut monitor = Monitor::of(publisher.monitor_seat(&segment));
     let turns = [
-        Turn {
+        Round {
             begins: Some((764_426_119, 1)),
             stores: 13,
             loads: 6,
             ended: None,
         },
-        Turn {
+        Round {
             begins: Some((1_735_689_599, 2)),
             stores: 2,
             loads: 6,
@@ -124,13 +124,13 @@ fn a_store_between_the_loads_is_a_clash(rt: HostRuntime) -> Result<(), Fail> {
                 after: 3,
             }),
         },
-        Turn {
+        Round {
             begins: None,
             stores: 0,
             loads: 2,
             ended: Some(Reading::NotReady { count: 3, valid: 0 }),
         },
-        Turn {
+        Round {
             begins: None,
             stores: 11,
             loads: 12,
@@ -147,13 +147,13 @@ fn the_greatest_number_is_taken(rt: HostRuntime) -> Result<(), Fail> {
     let (segment, mut publisher) = Segment::new(rt.alloc(), 1_073_741_822)?;
     let mut monitor = Monitor::of(publisher.monitor_seat(&segment));
     let turns = [
-        Turn {
+        Round {
             begins: Some((764_426_119, 1)),
             stores: 13,
             loads: 0,
             ended: None,
         },
-        Turn {
+        Round {
             begins: Some((1_735_689_599, 2)),
             stores: 0,
             loads: 12,

@@ -6,16 +6,16 @@ use lib.ListN.{get_elem?}
 use Rattle.std.proofs.lemmas.List.{set-get_or}
 use Rattle.atomic_table.proofs.Lists.{at_set}
 use Rattle.shm_segment.specs.declared.sample.Sample.{Sample}
-use Rattle.shm_segment.specs.declared.view.Known.{Known}
+use Rattle.shm_segment.specs.declared.view.KnownSamples.{KnownSamples}
 use Rattle.shm_segment.specs.declared.view.Load.{Load}
 use Rattle.shm_segment.specs.declared.view.Numbered.{Numbered}
 use Rattle.shm_segment.specs.declared.view.Role.TheVariants.{Publishes}
 use Rattle.shm_segment.specs.declared.view.View.{View}
 use Rattle.shm_segment.specs.Words.{words_of}
 use Rattle.shm_segment.specs.Views.{publisher}
-use Rattle.shm_segment.specs.Rule.{IsSound, IsTold, IsPublished, WasShown, Fits, HasPublisher, Holds}
+use Rattle.shm_segment.specs.Rule.{IsSound, IsTold, IsPublished, WasShown, Fits, HasPublisher, SegmentHolds}
 use Rattle.shm_segment.proofs.Samples.{slice_get_front}
-use Rattle.shm_segment.proofs.Running.{Effect, published_rises, count_rises, running_on, words_more}
+use Rattle.shm_segment.proofs.Running.{StoreEffect, published_rises, count_rises, running_on, words_more}
 
 -- each view fits
 abbrev pub AllFit : ℕ → ℕ → List Sample → ℕ → List View → Type 0
@@ -50,12 +50,12 @@ HoldsAt first words views writer samples stores =
 
 -- the seat with the publisher's view is the writer
 pub at_writer : (first first' : ℕ) (words : List ℕ) (views : List View) (seat : ℕ) (samples : List Sample) (stores : ℕ)
-    → Holds first words views → get_elem? views seat ≡ some (publisher first' samples stores) → HoldsAt first words views seat samples stores
+    → SegmentHolds first words views → get_elem? views seat ≡ some (publisher first' samples stores) → HoldsAt first words views seat samples stores
 at_writer first first' words views seat samples stores h at =
     let mine = (h.fits seat (publisher first' samples stores) at).publishes refl in
     subst (λ (x : ℕ × List Sample × ℕ). HoldsAt first words views x.0 x.1 x.2) (λ i. (sym mine.0 i, sym mine.1 i, sym mine.2 i)) (h.words_are, h.sound, h.fits)
 
-told_on : (samples more next : List Sample) (stores : ℕ) (k : Known) → samples ++ more ≡ next → IsTold samples stores k → IsTold next (stores + 1) k
+told_on : (samples more next : List Sample) (stores : ℕ) (k : KnownSamples) → samples ++ more ≡ next → IsTold samples stores k → IsTold next (stores + 1) k
 told_on samples more next stores k e told =
     record {
       earlier = let earlier = told.earlier in omega arith;
@@ -82,7 +82,7 @@ shown_on first samples more next stores load e reach shown =
     )
 
 -- another seat's view after a store
-pub fits_on : (writer first : ℕ) (samples more next : List Sample) (stores seat : ℕ) (v : View) → samples ++ more ≡ next → stores ≤ 13 * length samples → Effect first samples next stores → seat ≢ writer
+pub fits_on : (writer first : ℕ) (samples more next : List Sample) (stores seat : ℕ) (v : View) → samples ++ more ≡ next → stores ≤ 13 * length samples → StoreEffect first samples next stores → seat ≢ writer
     → Fits writer first samples stores seat v → Fits writer first next (stores + 1) seat v
 fits_on writer first samples more next stores seat v e reach effect other fits =
     record {

@@ -9,8 +9,8 @@ use Rattle.shm_segment.specs.Rule.{IsWhole, IsRunning}
 use Rattle.shm_segment.proofs.Samples.{body_more}
 
 -- what a store does to count and body: count rises, or stays odd, or count, body and published samples stay
-abbrev pub Effect : ℕ → List Sample → List Sample → ℕ → Type 0
-Effect first samples next stores =
+abbrev pub StoreEffect : ℕ → List Sample → List Sample → ℕ → Type 0
+StoreEffect first samples next stores =
     (count_after first stores < count_after first (stores + 1))
     ⊎ ((count_after first stores ≡ count_after first (stores + 1)) × (count_after first stores % 2 ≡ 1))
     ⊎ ((count_after first stores ≡ count_after first (stores + 1)) × (body_after samples stores ≡ body_after next (stores + 1)))
@@ -19,10 +19,10 @@ pub published_rises : (stores : ℕ) → published_after stores ≤ published_af
 published_rises stores = omega arith
 
 module _ (first : ℕ) (samples next : List Sample) (stores : ℕ) where
-  pub count_rises : Effect first samples next stores → count_after first stores ≤ count_after first (stores + 1)
+  pub count_rises : StoreEffect first samples next stores → count_after first stores ≤ count_after first (stores + 1)
   count_rises effect = ⊎_elim (λ (x : count_after first stores < count_after first (stores + 1)). omega arith) (λ x. ⊎_elim (λ (y : (count_after first stores ≡ count_after first (stores + 1)) × (count_after first stores % 2 ≡ 1)). omega arith) (λ (y : (count_after first stores ≡ count_after first (stores + 1)) × (body_after samples stores ≡ body_after next (stores + 1))). omega arith) x) effect
 
-  whole_on : (count : ℕ) (body : List ℕ) → count ≤ count_after first stores → (count_after first stores ≡ count → IsWhole samples stores count body) → Effect first samples next stores
+  whole_on : (count : ℕ) (body : List ℕ) → count ≤ count_after first stores → (count_after first stores ≡ count → IsWhole samples stores count body) → StoreEffect first samples next stores
       → count_after first (stores + 1) ≡ count → IsWhole next (stores + 1) count body
   whole_on count body below whole effect now =
       ⊎_elim (λ (x : count_after first stores < count_after first (stores + 1)). absurd (omega arith))
@@ -41,7 +41,7 @@ module _ (first : ℕ) (samples next : List Sample) (stores : ℕ) where
       }) x) effect
 
   -- a running reading stays one while the publisher stores
-  pub running_on : (last : ℕ) (reading : List ℕ) → Effect first samples next stores → IsRunning first samples stores last reading → IsRunning first next (stores + 1) last reading
+  pub running_on : (last : ℕ) (reading : List ℕ) → StoreEffect first samples next stores → IsRunning first samples stores last reading → IsRunning first next (stores + 1) last reading
   running_on last [] effect running = tt
   running_on last (count ∷ []) effect running =
       record { below = let rises = count_rises effect in let below = running.below in omega arith; last_below = running.last_below }

@@ -11,10 +11,10 @@ use Rattle.shm_segment.specs.declared.view.View.{View}
 use Rattle.shm_segment.specs.Samples.{IsSample}
 use Rattle.shm_segment.specs.Words.{count_after, body_at, body_after, words_of, body_places}
 use Rattle.shm_segment.specs.Views.{publisher, begun, stored}
-use Rattle.shm_segment.specs.Rule.{IsSound, IsPublished, WasShown, Fits, Holds, HoldsOf}
+use Rattle.shm_segment.specs.Rule.{IsSound, IsPublished, WasShown, Fits, SegmentHolds, HoldsOf}
 use Rattle.shm_segment.proofs.Samples.{body_more}
 use Rattle.shm_segment.proofs.Words.{count_in, odd_count, body_in, turn_is, published_is, published_last, stores_invalid, stores_odd, stores_body, stores_even, stores_valid}
-use Rattle.shm_segment.proofs.Running.{Effect}
+use Rattle.shm_segment.proofs.Running.{StoreEffect}
 use Rattle.shm_segment.proofs.Keeps.{fits_set, fits_on, at_writer, publishes_on}
 
 -- the publisher's own view fits
@@ -35,7 +35,7 @@ publisher_fits seat first samples stores reach =
 -- a store of the publisher, of this word and value, adds these samples
 module _ (first : ℕ) (samples more next : List Sample) (stores : ℕ) where
   pub store_keeps : (slots seat word value : ℕ) → samples ++ more ≡ next
-      → (IsSound first samples stores → IsSound first next (stores + 1) × (set (words_of first samples stores) word value ≡ words_of first next (stores + 1)) × Effect first samples next stores)
+      → (IsSound first samples stores → IsSound first next (stores + 1) × (set (words_of first samples stores) word value ≡ words_of first next (stores + 1)) × StoreEffect first samples next stores)
       → Allows {S = Unit {0}} (HoldsOf first) slots seat (publisher first samples stores, []) word (λ _. value) (λ _ (after : Me (Unit {0}) View). after ≡ (publisher first next (stores + 1), []))
   store_keeps slots seat word value e law s h homes at small =
       let here = at_writer first first s.words s.views seat samples stores h at in
@@ -69,7 +69,7 @@ module _ (first slots seat : ℕ) (samples : List Sample) (stores : ℕ) (me : M
   abbrev Keeps : ℕ → ℕ → Type 0
   Keeps word value = Allows {S = Unit {0}} (HoldsOf first) slots seat me word (λ _. value) (λ _ (after : Me (Unit {0}) View). after ≡ (stored me.0, []))
 
-  further : (word value : ℕ) → 0 < stores % 13 → set (words_of first samples stores) word value ≡ words_of first samples (stores + 1) → Effect first samples samples stores → Keeps word value
+  further : (word value : ℕ) → 0 < stores % 13 → set (words_of first samples stores) word value ≡ words_of first samples (stores + 1) → StoreEffect first samples samples stores → Keeps word value
   further word value turn law effect =
       subst (λ (u : Me (Unit {0}) View). Allows {S = Unit {0}} (HoldsOf first) slots seat u word (λ _. value) (λ _ (after : Me (Unit {0}) View). after ≡ (stored u.0, []))) (sym is)
       (store_keeps first samples [] samples stores slots seat word value (append-nil samples) (λ sound. (sound_on first samples stores turn sound, law, effect)))
@@ -170,7 +170,7 @@ unfolding words_of
 new_words first = let e : 2 * (first + 0) + 0 ≡ 2 * first = omega arith in ap (λ (n : ℕ). 1 ∷ n ∷ 0 ∷ 0 ∷ 0 ∷ 0 ∷ 0 ∷ 0 ∷ 0 ∷ 0 ∷ 0 ∷ 0 ∷ []) e
 
 -- a new segment keeps the rule
-pub new_holds : (first : ℕ) → first ≤ 1_073_741_823 → Holds first (1 ∷ 2 * first ∷ 0 ∷ 0 ∷ 0 ∷ 0 ∷ 0 ∷ 0 ∷ 0 ∷ 0 ∷ 0 ∷ 0 ∷ []) (publisher first [] 0 ∷ [])
+pub new_holds : (first : ℕ) → first ≤ 1_073_741_823 → SegmentHolds first (1 ∷ 2 * first ∷ 0 ∷ 0 ∷ 0 ∷ 0 ∷ 0 ∷ 0 ∷ 0 ∷ 0 ∷ 0 ∷ 0 ∷ []) (publisher first [] 0 ∷ [])
 new_holds first low =
     record {
       writer = 0;

@@ -5,7 +5,7 @@ use mathlib.Core.Option.{some}
 use lib.ListN.{get_elem?}
 use Rattle.atomic_table.specs.Table.{State}
 use Rattle.shm_segment.specs.declared.sample.Sample.{Sample}
-use Rattle.shm_segment.specs.declared.view.Known.{Known}
+use Rattle.shm_segment.specs.declared.view.KnownSamples.{KnownSamples}
 use Rattle.shm_segment.specs.declared.view.Load.{Load}
 use Rattle.shm_segment.specs.declared.view.Numbered.{Numbered}
 use Rattle.shm_segment.specs.declared.view.Role.TheVariants.{Publishes, Spent}
@@ -20,7 +20,7 @@ pub record IsSound (first : ℕ) (samples : List Sample) (stores : ℕ) : Type 0
   pub numbers : first + length samples ≤ 1_073_741_823
 
 -- a number of stores not above the publisher's, and a beginning of its samples that reaches every sample whose first store is among these
-pub record IsTold (samples : List Sample) (stores : ℕ) (k : Known) : Type 0 where
+pub record IsTold (samples : List Sample) (stores : ℕ) (k : KnownSamples) : Type 0 where
   pub earlier : k.stores ≤ stores
   pub reaches : k.stores ≤ 13 * length k.samples
   pub begins : (later : List Sample) × (k.samples ++ later ≡ samples)
@@ -81,7 +81,7 @@ abbrev pub HasPublisher : List View → ℕ → Type 0
 HasPublisher views seat = (v : View) × (get_elem? views seat ≡ some v) × (v.role ≡ Publishes)
 
 -- the words are those of the one publisher's view, and each seat's view fits
-pub record Holds (first : ℕ) (words : List ℕ) (views : List View) : Type 0 where
+pub record SegmentHolds (first : ℕ) (words : List ℕ) (views : List View) : Type 0 where
   pub writer : ℕ
   pub samples : List Sample
   pub stores : ℕ
@@ -91,10 +91,10 @@ pub record Holds (first : ℕ) (words : List ℕ) (views : List View) : Type 0 w
   pub fits : (seat : ℕ) (v : View) → get_elem? views seat ≡ some v → Fits writer first samples stores seat v
 
 abbrev pub HoldsOf : ℕ → State (Unit {0}) View → Type 0
-HoldsOf first state = Holds first state.words state.views
+HoldsOf first state = SegmentHolds first state.words state.views
 
 -- a monitor's pairs are published samples of this list, none excepted, and each of its loads is its word after a number of stores between those that it had been told of and these
-pub record IsBorneOut (first : ℕ) (k : Known) (taken : List Numbered) (loads : List Load) : Type 0 where
+pub record IsBorneOut (first : ℕ) (k : KnownSamples) (taken : List Numbered) (loads : List Load) : Type 0 where
   pub pairs : All (IsPublished first k.samples k.stores) taken
   pub rises : Rises 0 taken
   pub shown : All (WasShown first k.samples k.stores) loads

@@ -1,7 +1,7 @@
--- What contracts see of a segment, of a notice and of an account. This project's own.
+-- What contracts see of a segment, of a notice and of an account.
 use Rattle.std.specs.Prelude.{ℕ, List}
 use Rattle.atomic_table.specs.Seated.{TableId}
-use Rattle.shm_segment.specs.declared.view.Known.{Known}
+use Rattle.shm_segment.specs.declared.view.KnownSamples.{KnownSamples}
 use Rattle.shm_segment.specs.declared.view.Load.{Load}
 use Rattle.shm_segment.specs.declared.view.Numbered.{Numbered}
 
@@ -13,7 +13,7 @@ pub record SegmentId : Type 0 where
 -- a notice: the samples and the number of stores that the publisher had
 pub record Noticed : Type 0 where
   pub segment : SegmentId
-  pub known : Known
+  pub known : KnownSamples
 
 -- an account: the pairs that a monitor had taken, and its loads
 pub record Accounted : Type 0 where

@@ -1,16 +1,16 @@
--- What each kind of seat knows, and how the publisher's seat changes. This project's own.
+-- What each kind of seat knows, and how the publisher's seat changes.
 use Rattle.std.specs.Prelude.{ℕ, ◌+◌, List, [], ◌∷◌, ◌++◌}
 use Rattle.shm_segment.specs.declared.sample.Sample.{Sample}
-use Rattle.shm_segment.specs.declared.view.Known.{Known}
+use Rattle.shm_segment.specs.declared.view.KnownSamples.{KnownSamples}
 use Rattle.shm_segment.specs.declared.view.Load.{Load}
 use Rattle.shm_segment.specs.declared.view.Numbered.{Numbered}
 use Rattle.shm_segment.specs.declared.view.Role.TheVariants.{Publishes, Notices, Monitors, Accounts, Spent}
 use Rattle.shm_segment.specs.declared.view.View.{View}
 
-abbrev pub known : List Sample → ℕ → Known
+abbrev pub known : List Sample → ℕ → KnownSamples
 known samples stores = record { samples = samples; stores = stores }
 
-abbrev pub nothing : Known
+abbrev pub nothing : KnownSamples
 nothing = known [] 0
 
 -- the publisher after this many stores of these samples

@@ -22,9 +22,9 @@ mod word_numbers;
 
 pub use plays::Accounts;
 pub use publisher::{Begin, Phase, PubStep, Publisher};
-pub use rule::Kept;
+pub use rule::SegmentRule;
 pub use sample::Sample;
 pub use seats::{Account, MonitorSeat, Notice};
 pub use segment::{Segment, SegmentTable, TableSeat};
-pub use view::{Known, Load, Numbered, Role, View};
+pub use view::{KnownSamples, Load, Numbered, Role, View};
 pub use word_numbers::{BODY, COUNT, VALID};

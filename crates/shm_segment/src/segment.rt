@@ -3,7 +3,7 @@ ghost use Rattle.shm_segment.specs.Publishing.{opened};
 ghost use Rattle.shm_segment.specs.Words.{words_of};
 
 use crate::publisher::Publisher;
-use crate::rule::Kept;
+use crate::rule::SegmentRule;
 use crate::view::View;
 use atomic_table::{Seat, Table};
 use gps_fixed::NoMemory;
@@ -11,7 +11,7 @@ use std::alloc::Global;
 use std::marker::Model;
 
 /// The table of a segment: its words, under its rule.
-pub type SegmentTable = Table<(), View, u32, Kept, Global>;
+pub type SegmentTable = Table<(), View, u32, SegmentRule, Global>;
 
 /// A seat of the table.
 pub type TableSeat = Seat<(), View>;

@@ -12,7 +12,7 @@ pub enum Role {
 }
 
 /// Published samples, in order, and a number of stores after which they were known.
-pub struct Known {
+pub struct KnownSamples {
     pub samples: LinkedList<Sample>,
     pub stores: u64,
 }
@@ -37,9 +37,9 @@ pub struct View {
     /// The segment's first number.
     pub first: u32,
     /// The publisher's list and number of stores; of another seat what it was told of them.
-    pub known: Known,
+    pub known: KnownSamples,
     /// What a notice said that is being met.
-    pub met: Known,
+    pub met: KnownSamples,
     /// The pairs that a monitor took.
     pub taken: LinkedList<Numbered>,
     /// The loads that a monitor made.

@@ -97,6 +97,7 @@ pub(crate) fn time_of(payload: &[u8]) -> Option<DayTime>
 /// A time that is given is the date, the clock and the nanoseconds added up, as a day and nanoseconds of that day.
 #[tactic(auto, using(crate::proofs::Sums::sum_is, crate::proofs::Sums::within_is))]
 pub fn times_are_sums()
-    ensures sum { (date clock : ℕ) (nano : ℤ) (time : DayTime) → unsigned_abs nano ≤ 1_000_000_000 → joined (Some (pos date)) (Some clock) (Some nano) ≡ Some time → IsSum date clock nano time }
+    ensures sum { (date clock : ℕ) (nano : ℤ) (time : DayTime) → unsigned_abs nano ≤ 1_000_000_000
+        → joined (Some (pos date)) (Some clock) (Some nano) ≡ Some time → IsSum date clock nano time }
     ensures within { (date since : ℕ) (time : DayTime) → carried date since ≡ Some time → time.tod < day_length }
 {}

@@ -1,5 +1,5 @@
 -- Where a list of bytes begins with a frame, in steps. The law that ties it to the sets of frames is a contract of `frame_at`.
--- This project's own.
+--
 use Rattle.std.specs.Prelude.{ℕ, ◌+◌, ◌*◌, ◌==◌, ◌&&◌, Bool, false, cond, nat_lt, List, [], ◌∷◌, length, take, drop}
 use Rattle.ubx_frame.specs.declared.frame.Shape.{Shape}
 use Rattle.ubx_frame.specs.declared.frame.Shape.TheVariants.{Whole, Pending, No}

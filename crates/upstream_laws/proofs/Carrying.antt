@@ -21,7 +21,7 @@ use Rattle.watch_policy.specs.Selection.{packet_form, watches}
 use Rattle.device_core.specs.Reports.{device_close, gained}
 use Rattle.device_core.specs.Stream.{notes_in, packets_in}
 use Rattle.packet_cut.specs.Packets.{parts_from}
-use Rattle.session_core.specs.Shown.{opening_policy}
+use Rattle.session_core.specs.SessionView.{opening_policy}
 use Rattle.session_core.specs.Stretches.{between, selected}
 use Rattle.book_batch.specs.Lines.{line_for, line_in}
 use Rattle.book_log.specs.Entries.{Entry, Got, Ended, Lost, stream}
@@ -29,7 +29,7 @@ use Rattle.book_log.specs.Readings.{first_stamp, of_device}
 use Rattle.book_log.specs.History.{announced, history, history_after, reports_at}
 use Rattle.book_log.proofs.Histories.{stream-append}
 use Rattle.book_log.proofs.HistoryLaws.{whole_history}
-use Rattle.book_replies.specs.Knowledge.{Knowledge}
+use Rattle.book_replies.specs.ReplyDataView.{ReplyDataView}
 use Rattle.book_replies.specs.Replies.{opening_reply}
 use Rattle.upstream_laws.specs.Alike.{packet_in, reported}
 use Rattle.upstream_laws.specs.Joined.{AreWhole, IsWhole, joined}
@@ -74,7 +74,7 @@ none_before : (names : List (List ℕ)) (reports : List Report) → selected (li
 none_before names [] = refl
 none_before names (report ∷ reports) = none_before names reports
 
-pub replies_and_packets : (device : Option (List ℕ)) (names : List (List ℕ)) (opening mark end : ℕ) (known : Knowledge) (log : List Entry)
+pub replies_and_packets : (device : Option (List ℕ)) (names : List (List ℕ)) (opening mark end : ℕ) (known : ReplyDataView) (log : List Entry)
     → session_bytes device names opening mark end known log
     ≡ (opening_reply ++ watch_reply device names known) ++ joined (carried device names (between mark end (history log)))
 replies_and_packets device names opening mark end known log =
@@ -159,7 +159,7 @@ carried-append : (device : Option (List ℕ)) (names : List (List ℕ)) (a b : L
 carried-append device names a b = flat_map-append (λ report. cond (is_watched device names report) (packet_in report.body) []) a b
 
 -- up to an earlier place of the history they are a beginning
-pub further : (device : Option (List ℕ)) (names : List (List ℕ)) (opening mark end : ℕ) (known : Knowledge) (log : List Entry)
+pub further : (device : Option (List ℕ)) (names : List (List ℕ)) (opening mark end : ℕ) (known : ReplyDataView) (log : List Entry)
     → session_bytes device names opening mark (length (history log)) known log
     ≡ session_bytes device names opening mark end known log ++ joined (carried device names (drop (end - mark) (drop mark (history log))))
 further device names opening mark end known log =

@@ -24,7 +24,7 @@ use Rattle.gps_client.proofs.Heads.{version_is}
 use Rattle.upstream_laws.specs.Head.{most}
 use Rattle.upstream_laws.specs.Lines.{IsEarlier, IsHead, IsLine, is_plain}
 use Rattle.upstream_laws.specs.Carried.{AreNames, packets_policy, watch_reply}
-use Rattle.book_replies.specs.Knowledge.{Knowledge}
+use Rattle.book_replies.specs.ReplyDataView.{ReplyDataView}
 
 -- a text of at most this number of bytes, none of which ends a line
 pub record Neat (most : ℕ) (text : List ℕ) : Type 0 where
@@ -243,7 +243,7 @@ devices_are_earlier names firsts neat = record {
   other = λ e. cc;
 }
 
-pub replies_are_head : (device : Option (List ℕ)) (names : List (List ℕ)) (known : Knowledge) → AreNames device names
+pub replies_are_head : (device : Option (List ℕ)) (names : List (List ℕ)) (known : ReplyDataView) → AreNames device names
     → IsHead (opening_reply ++ watch_reply device names known)
 replies_are_head name names known are =
     let first : List ℕ = version ++ line_end in

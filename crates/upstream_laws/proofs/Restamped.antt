@@ -12,7 +12,7 @@ use Rattle.epoch_core.specs.Past.{earliest, latest}
 use Rattle.epoch_core.specs.Days.{Dated, carried, dated, day_known, given_day, last_tod}
 use Rattle.epoch_core.specs.Quantities.{breaks, is_fix_kind, is_sky_kind, itow_tag, said, stamped, timed, tod_tag}
 use Rattle.epoch_core.specs.Fixes.{fix_of, has_no_fix, mode_of}
-use Rattle.epoch_core.specs.Satellites.{all_sats, all_seen, satellites, seen_in}
+use Rattle.epoch_core.specs.Satellites.{all_sats, all_used_ids, satellites, used_ids_in}
 use Rattle.epoch_core.specs.Epochs.{begins, closed, closing, closings, epochs, epochs_of, has_ended, joined, left, running, sky_of}
 
 -- a note with another stamp
@@ -135,9 +135,9 @@ module _ (at : Moment) where
   sats_at [] = refl
   sats_at (d ∷ epoch) = ap (λ t. t ++ d.note.sats) (sats_at epoch)
 
-  seen_at : (epoch : List Dated) → all_seen (map (dated_at at) epoch) ≡ all_seen epoch
+  seen_at : (epoch : List Dated) → all_used_ids (map (dated_at at) epoch) ≡ all_used_ids epoch
   seen_at [] = refl
-  seen_at (d ∷ epoch) = ap (λ t. t ++ seen_in d.note) (seen_at epoch)
+  seen_at (d ∷ epoch) = ap (λ t. t ++ used_ids_in d.note) (seen_at epoch)
 
   satellites_same : (epoch : List Dated) → satellites (map (dated_at at) epoch) ≡ satellites epoch
   unfolding satellites

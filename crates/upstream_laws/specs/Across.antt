@@ -1,5 +1,5 @@
 -- Packets and reports come across: what is handed on of a session's bytes are the packets of the device there, and so its fixes and skies.
--- This project's own.
+--
 use Rattle.std.specs.Prelude.{◌≡◌, ◌==◌, ◌<◌, ℕ, true, List, [], ◌++◌, length, Option, Some, None, slice_index_or}
 use Rattle.gps_report.specs.Name.{are_distinct}
 use Rattle.std.specs.List.{list_all}
@@ -11,7 +11,7 @@ use Rattle.device_core.specs.Stream.{bytes_in, packets_in}
 use Rattle.session_core.specs.Stretches.{between}
 use Rattle.book_log.specs.Entries.{Entry, IsLog, stream}
 use Rattle.book_log.specs.History.{history}
-use Rattle.book_replies.specs.Knowledge.{Knowledge}
+use Rattle.book_replies.specs.ReplyDataView.{ReplyDataView}
 use Rattle.book_replies.specs.Replies.{opening_reply}
 use Rattle.upstream_laws.specs.Head.{behind, fresh}
 use Rattle.upstream_laws.specs.Lines.{IsHead}
@@ -28,12 +28,12 @@ pub record ComesAcross (bytes : List ℕ) (packets : List Packet) : Type 0 where
 
 -- what a session that asked once is written before the packets is a head
 abbrev pub RepliesAreHead : Type 0
-RepliesAreHead = (device : Option (List ℕ)) (names : List (List ℕ)) (known : Knowledge) → AreNames device names
+RepliesAreHead = (device : Option (List ℕ)) (names : List (List ℕ)) (known : ReplyDataView) → AreNames device names
     → IsHead (opening_reply ++ watch_reply device names known)
 
 -- a session that asked once: the packets of the device behind the mark
 abbrev pub PacketsComeAcross : Type 0
-PacketsComeAcross = (device : Option (List ℕ)) (names : List (List ℕ)) (opening mark end : ℕ) (known : Knowledge) (log : List Entry)
+PacketsComeAcross = (device : Option (List ℕ)) (names : List (List ℕ)) (opening mark end : ℕ) (known : ReplyDataView) (log : List Entry)
     → AreNames device names
     → ComesAcross (session_bytes device names opening mark end known log) (carried device names (between mark end (history log)))
 
@@ -55,7 +55,7 @@ CarriedAreItsPackets = (device : Option (List ℕ)) (names : List (List ℕ)) (d
 
 -- Asked before the first byte of device d, and with all its packets: the same fixes and skies.
 abbrev pub ReportsComeAcross : Type 0
-ReportsComeAcross = (device : Option (List ℕ)) (names : List (List ℕ)) (opening : ℕ) (known : Knowledge) (before later : List Entry)
+ReportsComeAcross = (device : Option (List ℕ)) (names : List (List ℕ)) (opening : ℕ) (known : ReplyDataView) (before later : List Entry)
     (d : ℕ) (again : List Symbol)
     → AreNames device names
     → IsTheDevice device names d (history (before ++ later))
@@ -66,7 +66,7 @@ ReportsComeAcross = (device : Option (List ℕ)) (names : List (List ℕ)) (open
 
 -- and of a beginning of the bytes, wherever the session ended, the first of them
 abbrev pub FirstReportsComeAcross : Type 0
-FirstReportsComeAcross = (device : Option (List ℕ)) (names : List (List ℕ)) (opening end : ℕ) (known : Knowledge) (before later : List Entry)
+FirstReportsComeAcross = (device : Option (List ℕ)) (names : List (List ℕ)) (opening end : ℕ) (known : ReplyDataView) (before later : List Entry)
     (d : ℕ) (front rest : List ℕ) (again : List Symbol)
     → AreNames device names
     → IsTheDevice device names d (history (before ++ later))

@@ -1,4 +1,4 @@
--- Two streams of a device with the same fixes and skies, whatever the stamps; and the packets among reports. This project's own.
+-- Two streams of a device with the same fixes and skies, whatever the stamps; and the packets among reports.
 use Rattle.std.specs.Prelude.{◌≡◌, Bool, true, false, List, [], ◌∷◌, ◌++◌}
 use Rattle.std.specs.List.{filter, flat_map}
 use Rattle.gps_report.specs.declared.edge.Symbol.{Symbol}

@@ -7,12 +7,12 @@ use Rattle.gps_report.specs.declared.packet.Packet.{Packet}
 use Rattle.gps_report.specs.declared.policy.Policy.{Policy}
 use Rattle.gps_report.specs.declared.report.Report.{Report}
 use Rattle.watch_policy.specs.Selection.{watches}
-use Rattle.session_core.specs.Shown.{opening_policy}
+use Rattle.session_core.specs.SessionView.{opening_policy}
 use Rattle.session_core.specs.Stretches.{Stretch, answer_stretch, items_to}
 use Rattle.book_batch.specs.Lines.{line_for}
 use Rattle.book_log.specs.Entries.{Entry}
 use Rattle.book_log.specs.History.{history}
-use Rattle.book_replies.specs.Knowledge.{Knowledge}
+use Rattle.book_replies.specs.ReplyDataView.{ReplyDataView}
 use Rattle.book_replies.specs.Replies.{opening_reply, reply_to}
 use Rattle.gps_command.specs.declared.command.Command.TheVariants as command
 use Rattle.upstream_laws.specs.Alike.{packet_in}
@@ -34,11 +34,11 @@ abbrev pub carried : Option (List ℕ) → List (List ℕ) → List Report → L
 carried device names reports = flat_map (λ report. cond (is_watched device names report) (packet_in report.body) []) reports
 
 -- the devices at the moment of the request, and the policy
-abbrev pub watch_reply : Option (List ℕ) → List (List ℕ) → Knowledge → List ℕ
+abbrev pub watch_reply : Option (List ℕ) → List (List ℕ) → ReplyDataView → List ℕ
 watch_reply device names known = reply_to known names (packets_policy device) (command.Watch None)
 
 -- it opened at a place of the history, and asked once at another
-abbrev pub asked_once : Option (List ℕ) → List (List ℕ) → ℕ → ℕ → Knowledge → List Stretch
+abbrev pub asked_once : Option (List ℕ) → List (List ℕ) → ℕ → ℕ → ReplyDataView → List Stretch
 asked_once device names opening mark known =
     answer_stretch opening opening_policy opening_reply ∷ answer_stretch mark (packets_policy device) (watch_reply device names known) ∷ []
 
@@ -46,7 +46,7 @@ asked_once device names opening mark known =
 abbrev pub written : List (List ℕ) → List Stretch → ℕ → List Report → List ℕ
 written names stretches end reports = concat (items_to (line_for names) end stretches reports)
 
-abbrev pub session_bytes : Option (List ℕ) → List (List ℕ) → (opening mark end : ℕ) → Knowledge → List Entry → List ℕ
+abbrev pub session_bytes : Option (List ℕ) → List (List ℕ) → (opening mark end : ℕ) → ReplyDataView → List Entry → List ℕ
 session_bytes device names opening mark end known log = written names (asked_once device names opening mark known) end (history log)
 
 -- the names of at most eight devices, and of the one that is watched

@@ -1,5 +1,5 @@
 -- The head of what another daemon sends, byte by byte: lines ended by LF, each of which begins as an object of gpsd_json(5) does with its
--- class, up to and including the first of class WATCH. At most 1,048,576 bytes. What stands behind the head is handed on. This project's own.
+-- class, up to and including the first of class WATCH. At most 1,048,576 bytes. What stands behind the head is handed on.
 use Rattle.std.specs.Prelude.{ℕ, ◌+◌, ◌==◌, Bool, true, false, ◌||◌, List, [], ◌∷◌, ◌++◌, length, take, fold, nat_lt, Option, Some, None, if◌then◌else◌}
 use Rattle.std.specs.Str.{bytes_eq}
 use Rattle.std.specs.List.{list_any}

@@ -1,4 +1,4 @@
--- Packets joined, one behind another, and the packets of these bytes: all of them, or the first ones. This project's own.
+-- Packets joined, one behind another, and the packets of these bytes: all of them, or the first ones.
 use Rattle.std.specs.Prelude.{◌≡◌, ◌<◌, ◌≤◌, ℕ, List, [], ◌∷◌, ◌++◌, drop, length, map, take}
 use Rattle.std.specs.List.{AllByRecursion, flat_map}
 use Rattle.gps_report.specs.declared.packet.Packet.{Packet}

@@ -9,12 +9,12 @@ use Rattle.gps_command.specs.Requests.{requests}
 use Rattle.gps_command.specs.declared.command.Command.TheVariants as command
 use Rattle.gps_command.specs.declared.request.RawCommand.{RawCommand}
 use Rattle.gps_command.specs.declared.request.RawCommand.TheVariants as raw
-use Rattle.session_core.specs.Shown.{opening_policy}
+use Rattle.session_core.specs.SessionView.{opening_policy}
 use Rattle.session_core.specs.Stretches.{Stretch, answer_stretch, between, end_of, items_to}
 use Rattle.book_batch.specs.Lines.{line_for}
 use Rattle.book_log.specs.Entries.{Entry, stream}
 use Rattle.book_log.specs.History.{history}
-use Rattle.book_replies.specs.Knowledge.{Knowledge}
+use Rattle.book_replies.specs.ReplyDataView.{ReplyDataView}
 use Rattle.book_replies.specs.Replies.{opening_reply, reply_by}
 use Rattle.report_book.specs.Knowing.{known_in}
 use Rattle.session_runs.specs.Runs.{SessionRun}
@@ -31,7 +31,7 @@ use Rattle.upstream_sessions.specs.Sessions.{AskedOnce, SessionsAreAlike, Sessio
 -- the two stretches, by what the devices were known to be
 record IsRun (device : Option (List ℕ)) (names : List (List ℕ)) (run : SessionRun) (mark : Stretch) : Type 0 where
   opening : ℕ
-  known : Knowledge
+  known : ReplyDataView
   stretches : run.stretches ≡ asked_once device names opening mark.place known
 
 stretch_is : (s : Stretch) (policy : Policy) (text : List ℕ) → s.policy ≡ policy → s.reply ≡ Some text → s ≡ answer_stretch s.place policy text
@@ -49,7 +49,7 @@ is_run device names log run mark once =
     let answers = asked.3 in
     let moment : ℕ = answers.0 in
     let answer = answers.2 in
-    let known : Knowledge = known_in (length names) (take moment log) in
+    let known : ReplyDataView = known_in (length names) (take moment log) in
     let policy : mark.policy ≡ packets_policy device = answer.policy ∙ ap (policy_answered opening_policy) meant.watches ∙ meant.policy in
     let text : mark.reply ≡ Some (watch_reply device names known) =
     answer.reply ∙ ap (λ c. Some (reply_by known names mark.policy c)) meant.watches

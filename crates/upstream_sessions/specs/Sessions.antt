@@ -1,4 +1,4 @@
--- A session over the whole run of a book, whose client sent the request of another daemon and nothing else. This project's own.
+-- A session over the whole run of a book, whose client sent the request of another daemon and nothing else.
 use Rattle.std.specs.Prelude.{◌≡◌, ℕ, List, [], ◌∷◌, ◌++◌, length, take, Option}
 use Rattle.std.specs.List.{concat}
 use Rattle.gps_report.specs.declared.edge.Symbol.{Symbol}
@@ -8,7 +8,7 @@ use Rattle.gps_command.specs.Requests.{requests}
 use Rattle.session_core.specs.Stretches.{Stretch, between, end_of}
 use Rattle.book_log.specs.Entries.{Entry, stream}
 use Rattle.book_log.specs.History.{history}
-use Rattle.book_sessions.specs.Attendance.{Attendance}
+use Rattle.book_sessions.specs.MemberView.{MemberView}
 use Rattle.session_runs.specs.Accounts.{Account}
 use Rattle.session_runs.specs.Runs.{SessionRun, items_over}
 use Rattle.session_runs.specs.Asking.{Asked}
@@ -36,7 +36,7 @@ SessionsComeAcross = (device : Option (List ℕ)) (names : List (List ℕ)) (log
 
 -- the same of the items that were taken of its outlet so far, by the account of such a session in a book: its client sent the request
 abbrev pub TakenComesAcross : Type 0
-TakenComesAcross = (device : Option (List ℕ)) (names : List (List ℕ)) (before log : List Entry) (a : Attendance) (run : SessionRun)
+TakenComesAcross = (device : Option (List ℕ)) (names : List (List ℕ)) (before log : List Entry) (a : MemberView) (run : SessionRun)
     (taken : List (List ℕ)) (opening mark : Stretch) (again : List Stamped)
     → AreNames device names → Account names before log a run taken (request device) → run.stretches ≡ opening ∷ mark ∷ []
     → bytes_of again ≡ behind fresh (concat taken)

@@ -1,7 +1,7 @@
 use Rattle.std.proofs.Common.{◌≡◌, ◌≤◌, ◌<◌, List, length, get_or, sym, ap, ◌∙◌, subst, arith}
 use Rattle.std.specs.Int.{from_bool}
 use Rattle.gps_report.specs.declared.report.Report.{Report}
-use Rattle.session_core.specs.Shown.{Shown, last_place}
+use Rattle.session_core.specs.SessionView.{SessionView, last_place}
 use Rattle.book_batch.specs.Lines.{line_for}
 use Rattle.book_sessions.specs.Spreading.{Reports, is_live}
 use Rattle.book_sessions.proofs.Walking.{count_left, left_here, left_more, zip_next}
@@ -11,7 +11,7 @@ pub report_row-requires-clause-after : goal.report_row-requires-clause-after
 report_row-requires-clause-after g c =
     let i = c.sessions.session-index in
     let within : i < length c.args.sessions.now = c.sessions-test.true in
-    let P : Shown → Type 0 = λ s. last_place 0 s.marks ≤ c.args.first in
+    let P : SessionView → Type 0 = λ s. last_place 0 s.marks ≤ c.args.first in
     subst P (sym (left_here c.args.sessions.now c.sessions.sessions i c.session-item.result c.sessions.invariant.rest)) (c.requires.after i c.session-item.result within)
 
 pub sessions-preserved : goal.sessions-preserved
@@ -30,7 +30,7 @@ sessions-preserved g c =
       so_far = zip_next (Reports g.O.Outlet.exact (line_for c.args.names.now) c.args.first c.args.batch.reports) xs ys i x y within same c.sessions.invariant.so_far c.sessions.invariant.rest
           (subst Becomes c.sessions.invariant.reports c.report_row.ensures.session);
       rest = left_more xs ys i y c.sessions.invariant.rest;
-      shares = omega (arith, count, ap (λ (s : Shown). from_bool (is_live s)) here, c.sessions.invariant.shares, c.report_row.ensures.shares);
+      shares = omega (arith, count, ap (λ (s : SessionView). from_bool (is_live s)) here, c.sessions.invariant.shares, c.report_row.ensures.shares);
       lines = c.report_row.ensures.lines;
       reports = c.report_row.ensures.reports ∙ c.sessions.invariant.reports;
     }

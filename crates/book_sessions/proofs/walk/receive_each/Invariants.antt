@@ -2,7 +2,7 @@
 use Rattle.std.proofs.Common.{◌≡◌, ◌≤◌, List, length, drop}
 use Rattle.book_batch.specs.Lines.{line_for}
 use Rattle.book_batch.specs.Sharing.{SharesLines, shares_of}
-use Rattle.book_sessions.specs.Attendance.{Attendance}
+use Rattle.book_sessions.specs.MemberView.{MemberView}
 use Rattle.book_sessions.specs.Roster.{IsAfterAll}
 use Rattle.book_sessions.specs.Spreading.{Spreads}
 use Rattle.book_sessions.specs.Walks.{Walks}
@@ -12,7 +12,7 @@ abbrev pub invariant-numbers : goal.invariant-numbers
 invariant-numbers g l =
     let Becomes = Spreads g.O.Outlet.exact (line_for l.names) l.first l.initial.batch.reports in
     record {
-      so_far : (new : List Attendance) → Walks Becomes (drop l.n-index l.numbers.items) l.members.items new
+      so_far : (new : List MemberView) → Walks Becomes (drop l.n-index l.numbers.items) l.members.items new
           → Walks Becomes l.numbers.items l.initial.members.items new;
       count : length l.members.items ≡ length l.initial.members.items;
       after : IsAfterAll l.first l.members.items;

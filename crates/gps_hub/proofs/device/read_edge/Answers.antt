@@ -1,6 +1,6 @@
 use Rattle.std.proofs.Common.{ap, ◌∙◌}
 use Rattle.pps_edges.specs.Scan.{edge_in}
-use Rattle.hub_laws.proofs.Readable.{read_exactly}
+use Rattle.hub_promise.proofs.Readable.{read_exactly}
 use Rattle.gps_hub.proofs.device.read_edge.Goals as goal
 
 pub returns : goal.returns

@@ -1,19 +1,19 @@
 use Rattle.std.proofs.Common.{◌≡◌, ℕ, List, [], Some, None, Option, sym, subst, refl, ap, ◌∙◌, false, inr, ⊎_elim, length, option_to_list}
-use Rattle.hub_laws.specs.declared.ends.DeviceEnd.{DeviceEnd}
-use Rattle.hub_laws.specs.declared.ends.DeviceEnd.TheVariants.{Ended, ReadFault, NoMemory as LostNoMemory}
+use Rattle.hub_promise.specs.declared.ends.DeviceEnd.{DeviceEnd}
+use Rattle.hub_promise.specs.declared.ends.DeviceEnd.TheVariants.{Ended, ReadFault, NoMemory as LostNoMemory}
 use Rattle.serve_pieces.specs.declared.piece.Piece.{Piece}
 use Rattle.serve_pieces.specs.declared.piece.Piece.TheVariants.{Bytes, Line, Input, Last}
 use Rattle.gps_lane.specs.Ends.{Taking}
 use Rattle.report_book.specs.BookView.{BookView}
-use Rattle.book_log.specs.Logged.{turns_at}
+use Rattle.book_log.specs.DeviceLogView.{turns_at}
 use Rattle.book_log.specs.Entries.{ended, lost}
 use Rattle.pps_edges.specs.Scan.{edge_in}
-use Rattle.hub_laws.specs.Given.{end_by}
-use Rattle.hub_laws.specs.Keeping.{Lasts}
-use Rattle.hub_laws.specs.Parts.{Lanes}
-use Rattle.hub_laws.specs.Steps.{DeviceStep, MovesOn, stop_entries, with_bytes, with_edge}
-use Rattle.hub_laws.proofs.Forward.{moves_onward, quiet_onward}
-use Rattle.hub_laws.proofs.Arms.{fed_step, bytes_refused_step, bytes_last_step, bytes_useless_step, edged_step, edges_refused_step, edges_last_step, edges_useless_step, nothing_step}
+use Rattle.hub_promise.specs.Given.{end_by}
+use Rattle.hub_promise.specs.Keeping.{Lasts}
+use Rattle.hub_promise.specs.Parts.{InletsView}
+use Rattle.hub_promise.specs.Steps.{DeviceStep, MovesOn, stop_entries, with_bytes, with_edge}
+use Rattle.hub_promise.proofs.Forward.{moves_onward, quiet_onward}
+use Rattle.hub_promise.proofs.Arms.{fed_step, bytes_refused_step, bytes_last_step, bytes_useless_step, edged_step, edges_refused_step, edges_last_step, edges_useless_step, nothing_step}
 use Rattle.gps_hub.proofs.device.stop_as.Goals as goal
 
 pub returns-in-ReadFault : goal.returns-in-ReadFault

@@ -1,5 +1,5 @@
 use Rattle.std.proofs.Common.{◌≡◌, map, take}
-use Rattle.hub_laws.specs.Keeping.{fresh_lasts}
+use Rattle.hub_promise.specs.Keeping.{fresh_lasts}
 use Rattle.gps_hub.proofs.inlets.lasts_of.Given as goal
 
 abbrev pub invariant-devices : goal.invariant-devices

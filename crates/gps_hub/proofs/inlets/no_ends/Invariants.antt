@@ -1,5 +1,5 @@
 use Rattle.std.proofs.Common.{◌≡◌, map, take}
-use Rattle.hub_laws.specs.Keeping.{no_end}
+use Rattle.hub_promise.specs.Keeping.{no_end}
 use Rattle.gps_hub.proofs.inlets.no_ends.Given as goal
 
 abbrev pub invariant-devices : goal.invariant-devices

@@ -2,8 +2,8 @@ use Rattle.std.proofs.Common.{◌≡◌, subst}
 use Rattle.serve_pieces.specs.declared.piece.Piece.TheVariants.{Last}
 use Rattle.session_core.specs.declared.mark.Close.{Close}
 use Rattle.report_book.specs.Moves.{HangsUp}
-use Rattle.hub_laws.specs.Given.{why_of}
-use Rattle.hub_laws.proofs.Sessions.{hung_step, may_end}
+use Rattle.hub_promise.specs.Given.{why_of}
+use Rattle.hub_promise.proofs.Sessions.{hung_step, may_end}
 use Rattle.gps_hub.proofs.session.end.Goals as goal
 
 pub returns-clause-step : goal.returns-clause-step

@@ -1,13 +1,13 @@
 use Rattle.std.proofs.Common.{◌≡◌, ℕ, List, sym, subst, false}
 use Rattle.report_book.specs.BookView.{BookView}
 use Rattle.std.specs.Prelude.{Err, Option}
-use Rattle.report_book.specs.Moves.{HangsUp, Hears}
+use Rattle.report_book.specs.Moves.{HangsUp, AnswersRequests}
 use Rattle.report_book.specs.Refusals.{RefusesAs}
 use Rattle.report_book.specs.declared.fault.BookFault.{BookFault}
 use Rattle.serve_pieces.specs.declared.piece.Piece.TheVariants.{Input}
 use Rattle.session_core.specs.declared.mark.Close.TheVariants.{NoMemory}
-use Rattle.hub_laws.specs.Steps.{SessionStep, with_got}
-use Rattle.hub_laws.proofs.Sessions.{heard_step, hung_step}
+use Rattle.hub_promise.specs.Steps.{SessionStep, with_got}
+use Rattle.hub_promise.proofs.Sessions.{heard_step, hung_step}
 use Rattle.gps_hub.proofs.session.hear.Goals as goal
 
 pub returns-in-Ok-clause-step : goal.returns-in-Ok-clause-step
@@ -18,7 +18,7 @@ returns-in-Ok-clause-step g c = λ x.
 
 pub returns-in-Ok-clause-answer : goal.returns-in-Ok-clause-answer
 returns-in-Ok-clause-answer g c =
-    let P : List ℕ → Type 0 = λ b. Hears false c.args.s b c.args.book.now c.input.new.self in
+    let P : List ℕ → Type 0 = λ b. AnswersRequests false c.args.s b c.args.book.now c.input.new.self in
     subst P c.as_slice.ensures.bytes c.in-Ok.ensures.hears
 
 pub returns-in-Err-clause-step : goal.returns-in-Err-clause-step

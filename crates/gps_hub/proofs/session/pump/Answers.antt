@@ -1,8 +1,8 @@
 use Rattle.std.proofs.Common.{◌≡◌, sym, ap, ◌∙◌, subst, append-nil}
 use Rattle.gps_lane.specs.Ends.{Taking}
 use Rattle.serve_pieces.specs.declared.piece.Piece.{Piece}
-use Rattle.hub_laws.specs.Steps.{SessionStep}
-use Rattle.hub_laws.proofs.Sessions.{still_step}
+use Rattle.hub_promise.specs.Steps.{SessionStep}
+use Rattle.hub_promise.proofs.Sessions.{still_step}
 use Rattle.gps_hub.proofs.Pumps.{looked_at}
 use Rattle.gps_hub.proofs.session.pump.Goals as goal
 

@@ -1,8 +1,8 @@
 use Rattle.std.proofs.Common.{◌≡◌, refl, sym, subst}
 use Rattle.serve_pieces.specs.declared.piece.Piece.{Piece}
 use Rattle.serve_pieces.specs.declared.piece.Piece.TheVariants.{Bytes, Line}
-use Rattle.hub_laws.specs.Steps.{SessionStep, with_got}
-use Rattle.hub_laws.proofs.Sessions.{useless_step}
+use Rattle.hub_promise.specs.Steps.{SessionStep, with_got}
+use Rattle.hub_promise.proofs.Sessions.{useless_step}
 use Rattle.gps_hub.specs.declared.pumped.Pumped.TheVariants.{Fed}
 use Rattle.gps_hub.specs.Pumping.{TookInput}
 use Rattle.gps_hub.proofs.session.take_input.Goals as goal

@@ -2,7 +2,7 @@ use Rattle.std.proofs.Common.{subst}
 use Rattle.gps_lane.specs.Ends.{Putting}
 use Rattle.gps_lane.specs.Lane.{BeginsWith}
 use Rattle.serve_pieces.specs.declared.piece.Piece.{Piece}
-use Rattle.hub_laws.proofs.Settling.{gets_one}
+use Rattle.hub_promise.proofs.Settling.{gets_one}
 use Rattle.gps_hub.proofs.settling.drop_piece.Goals as goal
 
 pub returns-clause-input : goal.returns-clause-input

@@ -1,5 +1,5 @@
 use Rattle.std.proofs.Common.{◌≡◌}
-use Rattle.hub_laws.specs.Steps.{GetsMore}
+use Rattle.hub_promise.specs.Steps.{GetsMore}
 use Rattle.gps_hub.proofs.settling.empty.Given as goal
 
 abbrev pub invariant-pieces : goal.invariant-pieces

@@ -1,5 +1,5 @@
 use Rattle.std.proofs.Common.{◌≤◌}
-use Rattle.gps_outside.specs.Turns.{HasTaken, work_left}
+use Rattle.gps_outside.specs.ReadSteps.{HasTaken, work_left}
 use Rattle.gps_outside.proofs.whole.read_all.Given as goal
 
 abbrev pub invariant-turns : goal.invariant-turns

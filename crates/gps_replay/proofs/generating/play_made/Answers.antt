@@ -1,6 +1,6 @@
 use Rattle.std.proofs.Common.{◌≡◌, [], length, Some, rules}
-use Rattle.line_play.specs.Outcomes.{HasCause}
-use Rattle.line_play.specs.Played.{Played}
+use Rattle.line_player.specs.Outcomes.{PlayHasCause}
+use Rattle.line_player.specs.Played.{HasPlayed}
 use Rattle.gps_replay.specs.Closings.{closing_rules}
 use Rattle.gps_replay.specs.Generated.{default_queue}
 use Rattle.gps_replay.proofs.Making.{caused}
@@ -9,7 +9,7 @@ use Rattle.gps_replay.proofs.generating.play_made.Goals as goal
 pub returns-in-Ok-clause-cause : goal.returns-in-Ok-clause-cause
 returns-in-Ok-clause-cause g c = λ seed size few of.
     let is : c.in-Ok.most ≡ length c.args.script = search rules in
-    let played : Played c.play.result (closing_rules default_queue) c.in-Ok.most (Some (record { taken = []; left = c.args.script })) (Some c.play.new.source)
+    let played : HasPlayed c.play.result (closing_rules default_queue) c.in-Ok.most (Some (record { taken = []; left = c.args.script })) (Some c.play.new.source)
     (g.K.Sink.written c.args.sink.now) (g.K.Sink.written c.play.new.sink) = search rules in
-    let cause : HasCause c.play.result 0 0 0 0 (g.K.Sink.faults c.args.sink.now) (g.K.Sink.faults c.play.new.sink) = search rules in
+    let cause : PlayHasCause c.play.result 0 0 0 0 (g.K.Sink.faults c.args.sink.now) (g.K.Sink.faults c.play.new.sink) = search rules in
     caused c.play.result c.args.script c.in-Ok.most _ _ _ _ _ is played cause seed size few of

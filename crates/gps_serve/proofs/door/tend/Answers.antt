@@ -19,21 +19,21 @@ asks-init g c =
 
 pub asks-preserved : goal.asks-preserved
 asks-preserved g c = record {
-  seated = c.turn-to_ask.ensures.seated;
-  tends = tends_any _ _ _ _ _ (c.turn-to_ask.ensures.tends _ c.asks.invariant.tends);
-  fails = c.turn-to_ask.ensures.fails _ c.asks.invariant.fails;
+  seated = c.step-to_ask.ensures.seated;
+  tends = tends_any _ _ _ _ _ (c.step-to_ask.ensures.tends _ c.asks.invariant.tends);
+  fails = c.step-to_ask.ensures.fails _ c.asks.invariant.fails;
 }
 
 pub returns-then-last-clause-fails : goal.returns-then-last-clause-fails
 returns-then-last-clause-fails g c =
-    still_fails g.G.Door.faults _ _ _ c.turn-to_ask.new.self.gate c.leave.result.gate (c.turn-to_ask.ensures.fails _ c.asks.invariant.fails) c.leave.ensures.failed
+    still_fails g.G.Door.faults _ _ _ c.step-to_ask.new.self.gate c.leave.result.gate (c.step-to_ask.ensures.fails _ c.asks.invariant.fails) c.leave.ensures.failed
     c.leave.ensures.gate
 
 pub returns-then-last-clause-tended : goal.returns-then-last-clause-tended
 returns-then-last-clause-tended g c =
-    tended _ _ _ (links_at c.turn-to_ask.new.self.sessions.seated.items) (g.G.Door.links c.args.begin.gate) _ c.leave.result.seat c.leave.result.runs.items
-    (same_links _ _ _ _ c.turn-to_ask.new.self.seat c.leave.result.seat c.turn-to_ask.ensures.seated refl (ap (λ (a : Admissions). a.links) c.leave.ensures.seat))
+    tended _ _ _ (links_at c.step-to_ask.new.self.sessions.seated.items) (g.G.Door.links c.args.begin.gate) _ c.leave.result.seat c.leave.result.runs.items
+    (same_links _ _ _ _ c.step-to_ask.new.self.seat c.leave.result.seat c.step-to_ask.ensures.seated refl (ap (λ (a : Admissions). a.links) c.leave.ensures.seat))
     c.leave.ensures.runs
-    (still_tends g.G.Door.links g.G.Door.faults g.G.Door.quiets _ c.turn-to_ask.new.self.gate c.leave.result.gate _ _ _ _ _ _ _ _ _
-    (c.turn-to_ask.ensures.tends _ c.asks.invariant.tends) c.leave.ensures.gate c.leave.ensures.full c.leave.ensures.no_memory refl
+    (still_tends g.G.Door.links g.G.Door.faults g.G.Door.quiets _ c.step-to_ask.new.self.gate c.leave.result.gate _ _ _ _ _ _ _ _ _
+    (c.step-to_ask.ensures.tends _ c.asks.invariant.tends) c.leave.ensures.gate c.leave.ensures.full c.leave.ensures.no_memory refl
     (ap (λ (a : Admissions). a.done) c.leave.ensures.seat))

@@ -1,4 +1,4 @@
-use Rattle.hub_laws.proofs.Beginning.{unused}
+use Rattle.hub_promise.proofs.Beginning.{unused}
 use Rattle.gps_serve.proofs.Resting.{new_counts}
 use Rattle.gps_serve.proofs.ground.new_book.Goals as goal
 

@@ -1,6 +1,6 @@
 use Rattle.std.proofs.Common.{length, sym, ◌∙◌, ap, subst, arith}
-use Rattle.serve_settling.specs.Runs.{EachRun, RunCause}
-use Rattle.serve_settling.proofs.Causes.{each_run_more}
+use Rattle.serve_end_settling.specs.Runs.{EachRun, RunCause}
+use Rattle.serve_end_settling.proofs.Causes.{each_run_more}
 use Rattle.gps_serve.proofs.Zips.{ran_end, ran_next}
 use Rattle.gps_serve.proofs.scope.join_devices.Goals as goal
 

@@ -2,7 +2,7 @@ use Rattle.std.proofs.Common.{◌≡◌, ◌≤◌, ◌+◌, length}
 use Rattle.std.specs.Vec.{vec_len, vec_capacity}
 use Rattle.std.specs.Vec.Iter.{into_iter_items}
 use Rattle.gps_serve.specs.Doors.{RanSoFar}
-use Rattle.serve_settling.specs.Runs.{EachRun, RunCause, source_facts}
+use Rattle.serve_end_settling.specs.Runs.{EachRun, RunCause, source_facts}
 use Rattle.gps_serve.specs.Works.{JoinsDevice}
 use Rattle.gps_serve.proofs.scope.join_devices.Given as goal
 

@@ -1,8 +1,8 @@
 use Rattle.std.proofs.Common.{◌≤◌, length, Some, refl, sym, ◌∙◌, ap, subst, arith}
 use Rattle.std.specs.List.{All, list_all}
-use Rattle.hub_laws.specs.Given.{is_end}
-use Rattle.hub_laws.specs.Keeping.{IsClosed}
-use Rattle.serve_settling.specs.Runs.{source_facts}
+use Rattle.hub_promise.specs.Given.{is_end}
+use Rattle.hub_promise.specs.Keeping.{IsClosed}
+use Rattle.serve_end_settling.specs.Runs.{source_facts}
 use Rattle.gps_serve.specs.AtEnd.{gate_facts, sink_facts}
 use Rattle.gps_serve.specs.Lost.{IsNotLost}
 use Rattle.gps_serve.specs.Statuses.{EachWhole, HasStopped}

@@ -1,9 +1,9 @@
 use Rattle.std.proofs.Common.{◌≡◌, IfSome, ap, sym, subst, arith}
 use Rattle.std.specs.List.{AllZip}
 use Rattle.std.specs.Vec.{vec_len}
-use Rattle.hub_laws.specs.Parts.{Terms}
-use Rattle.serve_settling.specs.Runs.{source_facts}
-use Rattle.gps_serve.specs.AtEnd.{AtEnd, gate_facts, sink_facts, told_of}
+use Rattle.hub_promise.specs.Parts.{Terms}
+use Rattle.serve_end_settling.specs.Runs.{source_facts}
+use Rattle.gps_serve.specs.AtEnd.{AtEnd, gate_facts, sink_facts, settings_of}
 use Rattle.gps_serve.specs.Runs.{RanOn}
 use Rattle.gps_serve.specs.Units.{CountFromZero}
 use Rattle.gps_serve.proofs.Taking.{devices_read}
@@ -52,7 +52,7 @@ returns-clause-reads g c some =
 
 pub returns-clause-at_end : goal.returns-clause-at_end
 returns-clause-at_end g c =
-    subst (λ x. IfSome c.gather.result.book (λ book. AtEnd (told_of g.J.HubNaming.terms c.args.numbers.queue c.args.numbers.tries) g.D.Dials.may
+    subst (λ x. IfSome c.gather.result.book (λ book. AtEnd (settings_of g.J.HubNaming.terms c.args.numbers.queue c.args.numbers.tries) g.D.Dials.may
     (source_facts g.W.In.Source.content g.W.In.Source.faults g.W.In.Source.quiets) (sink_facts g.W.Out.Sink.written g.W.Out.Sink.faults)
     (gate_facts g.W.Gate.Door.links g.W.Gate.Door.faults g.W.Gate.Door.quiets) (g.W.Gate.Door.links x) c.gather.result.full c.gather.result.no_memory book
     c.gather.result.devices.items c.gather.result.sessions.items c.gather.result.monitors.items c.gather.result.gate))

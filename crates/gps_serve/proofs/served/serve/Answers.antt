@@ -1,6 +1,6 @@
 use Rattle.std.proofs.Common.{◌++◌, ◌∙◌, Ok, Err, ap, is_some, map, arith}
-use Rattle.serve_opening.specs.Opening.{places_in}
-use Rattle.serve_settling.specs.Runs.{source_facts}
+use Rattle.world_opening.specs.Opening.{places_in}
+use Rattle.serve_end_settling.specs.Runs.{source_facts}
 use Rattle.gps_serve.specs.AtEnd.{gate_facts, sink_facts}
 use Rattle.gps_serve.proofs.Taking.{bytes_held, edges_held, edges_there}
 use Rattle.gps_serve.proofs.Asked.{few_of, some_of, still_asked}

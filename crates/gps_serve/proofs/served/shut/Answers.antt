@@ -1,6 +1,6 @@
 use Rattle.std.proofs.Common.{sym, subst}
 use Rattle.std.specs.List.{All}
-use Rattle.hub_laws.specs.Keeping.{IsClosed}
+use Rattle.hub_promise.specs.Keeping.{IsClosed}
 use Rattle.gps_serve.specs.Statuses.{HasStopped}
 use Rattle.gps_serve.proofs.served.shut.Goals as goal
 

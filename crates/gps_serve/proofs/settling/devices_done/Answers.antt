@@ -1,6 +1,6 @@
 use Rattle.std.proofs.Common.{◌≡◌, true, false, length, sym, ◌∙◌, ap, subst, arith}
-use Rattle.serve_settling.specs.Failing.{DeviceFailed}
-use Rattle.serve_settling.specs.Runs.{EachRun, RunCause}
+use Rattle.serve_end_settling.specs.Failing.{DeviceFailed}
+use Rattle.serve_end_settling.specs.Runs.{EachRun, RunCause}
 use Rattle.gps_serve.proofs.Causes.{failed_more}
 use Rattle.gps_serve.proofs.Devices.{devices_all, devices_begin, devices_more, ends_all, ends_begin, ends_more, lanes_left, next_device}
 use Rattle.gps_serve.proofs.First.{untold_begin, untold_more}

@@ -1,9 +1,9 @@
 use Rattle.std.proofs.Common.{◌≡◌, ◌≤◌, ◌+◌, true, false, ◌++◌, length, map}
 use Rattle.std.specs.Vec.{vec_len, vec_capacity}
 use Rattle.std.specs.Vec.Iter.{into_iter_items}
-use Rattle.serve_parts.specs.declared.done.DeviceDone.{DeviceDone}
-use Rattle.serve_settling.specs.Failing.{DeviceFailed, SomeFailed}
-use Rattle.serve_settling.specs.Runs.{EachRun, RunCause, source_facts}
+use Rattle.serve_end_parts.specs.declared.done.DeviceDone.{DeviceDone}
+use Rattle.serve_end_settling.specs.Failing.{DeviceFailed, SomeFailed}
+use Rattle.serve_end_settling.specs.Runs.{EachRun, RunCause, source_facts}
 use Rattle.gps_serve.specs.Doors.{RanSoFar}
 use Rattle.gps_serve.specs.Runs.{DevicesSoFar, IsLeftOf}
 use Rattle.gps_serve.specs.Statuses.{TellsNoFault}

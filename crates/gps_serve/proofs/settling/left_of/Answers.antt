@@ -1,7 +1,7 @@
 use Rattle.std.proofs.Common.{subst}
-use Rattle.hub_laws.specs.Parts.{Lanes}
-use Rattle.serve_settling.specs.Lanes.{Settles, SettlesSome, tx_of}
-use Rattle.serve_settling.specs.Runs.{source_facts}
+use Rattle.hub_promise.specs.Parts.{InletsView}
+use Rattle.serve_end_settling.specs.Lanes.{Settles, SettlesSome, tx_of}
+use Rattle.serve_end_settling.specs.Runs.{source_facts}
 use Rattle.gps_serve.proofs.Devices.{device_served}
 use Rattle.gps_serve.proofs.First.{tells_none}
 use Rattle.gps_serve.proofs.settling.left_of.Goals as goal
@@ -9,8 +9,8 @@ use Rattle.gps_serve.proofs.settling.left_of.Goals as goal
 pub returns-clause-served : goal.returns-clause-served
 returns-clause-served g c =
     let done = c.device_done-device in
-    let P : Lanes → Type 0 = λ x. Settles c.args.run.bytes.pieces x.bytes done.result.bytes_rx in
-    let Q : Lanes → Type 0 = λ x. SettlesSome (tx_of c.args.run.edges) x.edges done.result.edges_rx in
+    let P : InletsView → Type 0 = λ x. Settles c.args.run.bytes.pieces x.bytes done.result.bytes_rx in
+    let Q : InletsView → Type 0 = λ x. SettlesSome (tx_of c.args.run.edges) x.edges done.result.edges_rx in
     device_served g.D.Dials.may (source_facts g.S.Source.content g.S.Source.faults g.S.Source.quiets) c.args.inlets c.args.run done.result c.requires.ready
     done.ensures.source done.ensures.edges done.ensures.bytes_tx done.ensures.edges_tx (subst P c.inlets.view_is done.ensures.bytes_rx)
     (subst Q c.inlets.view_is done.ensures.edges_rx)

@@ -1,6 +1,6 @@
 use Rattle.std.proofs.Common.{◌∙◌, length, refl, sym, ap, subst, arith}
 use Rattle.report_book.specs.BookView.{BookView}
-use Rattle.serve_settling.specs.Runs.{source_facts}
+use Rattle.serve_end_settling.specs.Runs.{source_facts}
 use Rattle.gps_serve.specs.AtEnd.{sink_facts}
 use Rattle.gps_serve.specs.Readies.{AllServed, IsSourceOf}
 use Rattle.gps_serve.proofs.Sessions.{is_next, next_session, none_left, same_book, sessions_all, sessions_begin, sessions_more, some_left}

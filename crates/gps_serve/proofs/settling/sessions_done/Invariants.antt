@@ -4,7 +4,7 @@ use Rattle.std.specs.Vec.Iter.{into_iter_items}
 use Rattle.gps_serve.specs.AtEnd.{sink_facts}
 use Rattle.gps_serve.specs.Doors.{RanSoFar}
 use Rattle.gps_serve.specs.Readies.{IsSourceOf, SessionsSoFar}
-use Rattle.serve_settling.specs.Runs.{source_facts}
+use Rattle.serve_end_settling.specs.Runs.{source_facts}
 use Rattle.gps_serve.proofs.settling.sessions_done.Given as goal
 
 abbrev pub invariant-sessions : goal.invariant-sessions

@@ -1,5 +1,5 @@
 use Rattle.std.proofs.Common.{◌≤◌}
-use Rattle.gps_outside.specs.Turns.{work_left}
+use Rattle.gps_outside.specs.ReadSteps.{work_left}
 use Rattle.gpsrelay.specs.Texts.{texts_by}
 use Rattle.gpsrelay.proofs.Decoding.{UnderWay}
 use Rattle.gpsrelay.proofs.decode.write_reports.Given as goal

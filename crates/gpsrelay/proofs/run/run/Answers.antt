@@ -1,4 +1,4 @@
-use Rattle.gps_words.specs.declared.command.Command.TheVariants.{Decode, Pseudo, Replay, Generate, Lines}
+use Rattle.gps_words.specs.declared.command.CommandLine.TheVariants.{Decode, Pseudo, Replay, Generate, Lines}
 use Rattle.gpsrelay.proofs.Commands.{completes, ends, read_fault, write_fault}
 use Rattle.gpsrelay.proofs.run.run.Goals as goal
 

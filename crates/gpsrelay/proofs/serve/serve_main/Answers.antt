@@ -1,20 +1,20 @@
 use Rattle.std.proofs.Common.{inr}
 use Rattle.gps_words.specs.Serve.{shown}
 use Rattle.report_book.specs.BookView.{BookView}
-use Rattle.serve_opening.specs.Opening.{dial_of}
-use Rattle.serve_settling.specs.Runs.{source_facts}
-use Rattle.gps_serve.specs.AtEnd.{AtEnd, Told, gate_facts, sink_facts, told_in}
+use Rattle.world_opening.specs.Opening.{dial_of}
+use Rattle.serve_end_settling.specs.Runs.{source_facts}
+use Rattle.gps_serve.specs.AtEnd.{AtEnd, DaemonSettings, gate_facts, sink_facts, settings_in}
 use Rattle.gpsrelay.specs.Served.{AsksWhole, HaveEdges, HeldBehind}
 use Rattle.gpsrelay.proofs.Serving.{asks_whole, for_words, have_edges, held_behind, told_for}
 use Rattle.gpsrelay.proofs.serve.serve_main.Goals as goal
 
 pub returns-in-Ok-plan_of-clause-at_end : goal.returns-in-Ok-plan_of-clause-at_end
 returns-in-Ok-plan_of-clause-at_end g c =
-    told_for (λ (told : Told) (book : BookView). AtEnd told (dial_of (g.W.World.stamps c.args.world))
+    told_for (λ (told : DaemonSettings) (book : BookView). AtEnd told (dial_of (g.W.World.stamps c.args.world))
     (source_facts g.W.In.Source.content g.W.In.Source.faults g.W.In.Source.quiets) (sink_facts g.W.Out.Sink.written g.W.Out.Sink.faults)
     (gate_facts g.W.Gate.Door.links g.W.Gate.Door.faults g.W.Gate.Door.quiets) (g.W.World.links c.args.world) c.serve.result.full c.serve.result.no_memory book
     c.serve.result.devices.items c.serve.result.sessions.items c.serve.result.monitors.items c.serve.result.gate)
-    _ (shown c.in-Ok.options) (told_in c.in-Ok-plan_of.plan) c.serve.result.book c.in-Ok.ensures.ok c.in-Ok-plan_of.ensures.told c.serve.ensures.at_end
+    _ (shown c.in-Ok.options) (settings_in c.in-Ok-plan_of.plan) c.serve.result.book c.in-Ok.ensures.ok c.in-Ok-plan_of.ensures.told c.serve.ensures.at_end
 
 pub returns-in-Ok-plan_of-clause-none : goal.returns-in-Ok-plan_of-clause-none
 returns-in-Ok-plan_of-clause-none g c none = inr (c.serve.ensures.none none)

@@ -1,4 +1,4 @@
-use Rattle.serve_workers.proofs.LineTurning.{ended_lines, no_last_memory, no_last_closed, failed_lines, starved_lines, closed_lines, ends_as}
+use Rattle.serve_workers.proofs.LineStepping.{ended_lines, no_last_memory, no_last_closed, failed_lines, starved_lines, closed_lines, ends_as}
 use Rattle.serve_workers.proofs.edges.cut_all.Goals as goal
 
 pub returns-in-Done-clause-cuts : goal.returns-in-Done-clause-cuts

@@ -1,8 +1,8 @@
 use Rattle.std.proofs.Common.{◌∙◌, ap, arith}
 use Rattle.gps_lane.specs.Ends.{Putting}
 use Rattle.serve_pieces.specs.declared.piece.Piece.{Piece}
-use Rattle.serve_workers.specs.declared.readers.Turn.TheVariants.{On, Over, Closed}
-use Rattle.serve_workers.proofs.LineTurning.{line_turns_on, lines_broken_off}
+use Rattle.serve_workers.specs.declared.readers.ReaderStep.TheVariants.{On, Over, Closed}
+use Rattle.serve_workers.proofs.LineStepping.{line_turns_on, lines_broken_off}
 use Rattle.serve_workers.proofs.edges.cut_on.Goals as goal
 
 pub reads-preserved : goal.reads-preserved

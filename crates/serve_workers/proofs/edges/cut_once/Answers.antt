@@ -1,7 +1,7 @@
-use Rattle.serve_workers.specs.declared.readers.Turn.TheVariants.{On, Over, Closed}
+use Rattle.serve_workers.specs.declared.readers.ReaderStep.TheVariants.{On, Over, Closed}
 use Rattle.serve_pieces.specs.declared.piece.Ending.TheVariants.{End, Failed}
 use Rattle.serve_workers.specs.declared.edges.Put.TheVariants as was
-use Rattle.serve_workers.proofs.LineTurning.{got_turn, no_lines, quiet_took, stop_took, end_took, fault_took}
+use Rattle.serve_workers.proofs.LineStepping.{got_turn, no_lines, quiet_took, stop_took, end_took, fault_took}
 use Rattle.serve_workers.proofs.edges.cut_once.Goals as goal
 
 pub returns-in-NoMemory-clause-turns : goal.returns-in-NoMemory-clause-turns

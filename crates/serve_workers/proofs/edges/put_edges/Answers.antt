@@ -1,4 +1,4 @@
-use Rattle.serve_workers.proofs.LineTurning.{handed_lines}
+use Rattle.serve_workers.proofs.LineStepping.{handed_lines}
 use Rattle.serve_workers.proofs.edges.put_edges.Goals as goal
 
 pub returns-clause-hands : goal.returns-clause-hands

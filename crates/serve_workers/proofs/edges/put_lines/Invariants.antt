@@ -1,5 +1,5 @@
 use Rattle.std.proofs.Common.{◌≡◌, ℕ, List, length}
-use Rattle.text_lines.specs.Standing.{StandsFor}
+use Rattle.line_cut.specs.Standing.{StandsFor}
 use Rattle.serve_workers.proofs.Cutting.{Cuts}
 use Rattle.serve_workers.proofs.edges.put_lines.Given as goal
 

@@ -1,4 +1,4 @@
-use Rattle.serve_workers.proofs.Turning.{broken_off, turns_on}
+use Rattle.serve_workers.proofs.Stepping.{broken_off, turns_on}
 use Rattle.serve_workers.proofs.readers.read_on.Goals as goal
 
 pub returns-in-Over-clause-turns : goal.returns-in-Over-clause-turns

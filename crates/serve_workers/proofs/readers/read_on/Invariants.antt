@@ -1,11 +1,11 @@
 use Rattle.std.proofs.Common.{◌≡◌, ◌≤◌}
-use Rattle.serve_workers.specs.declared.readers.Turn.TheVariants.{On}
-use Rattle.serve_workers.specs.Readings.{Turns}
+use Rattle.serve_workers.specs.declared.readers.ReaderStep.TheVariants.{On}
+use Rattle.serve_workers.specs.Readings.{ReaderSteps}
 use Rattle.serve_workers.proofs.readers.read_on.Given as goal
 
 abbrev pub invariant-reads : goal.invariant-reads
 invariant-reads g l = record {
-  turns : Turns g.M.Maker.part g.M.Maker.good On l.initial.pieces.put l.pieces.put (g.S.Source.content l.initial.source) (g.S.Source.content l.source);
+  turns : ReaderSteps g.M.Maker.part g.M.Maker.good On l.initial.pieces.put l.pieces.put (g.S.Source.content l.initial.source) (g.S.Source.content l.source);
   lane : l.pieces ≡ record l.initial.pieces { put = l.pieces.put };
   faults : g.S.Source.faults l.initial.source ≤ g.S.Source.faults l.source;
   quiets : g.S.Source.quiets l.initial.source ≤ g.S.Source.quiets l.source;

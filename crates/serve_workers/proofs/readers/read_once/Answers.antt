@@ -1,5 +1,5 @@
 use Rattle.std.proofs.Common.{rules}
-use Rattle.serve_workers.proofs.Turning.{was_read, dropped, no_memory, stopped}
+use Rattle.serve_workers.proofs.Stepping.{was_read, dropped, no_memory, stopped}
 use Rattle.serve_workers.proofs.readers.read_once.Goals as goal
 
 pub returns-then-put-clause-read : goal.returns-then-put-clause-read

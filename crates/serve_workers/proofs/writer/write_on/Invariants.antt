@@ -1,5 +1,5 @@
 use Rattle.std.proofs.Common.{◌≡◌, ◌≤◌, []}
-use Rattle.serve_workers.specs.declared.writer.SessionEnd.TheVariants.{Drained}
+use Rattle.serve_workers.specs.declared.writer.WriterEnd.TheVariants.{Drained}
 use Rattle.serve_workers.specs.Writing.{Writes}
 use Rattle.serve_workers.proofs.writer.write_on.Given as goal
 

@@ -1,16 +1,16 @@
 use Rattle.std.proofs.Common.{◌≡◌, None, not, ◌&&◌, take, max, sym, ap, ◌∙◌, subst}
 use Rattle.std.specs.List.{list_any}
 use Rattle.book_replies.specs.Replies.{answered}
-use Rattle.book_sessions.specs.Attendance.{Attendance}
+use Rattle.book_sessions.specs.MemberView.{MemberView}
 use Rattle.book_sessions.specs.Answering.{Inputs, enables}
 use Rattle.book_sessions.proofs.Answered.{input_put, watched_now}
 use Rattle.book_sessions.proofs.member.Member.input.Goals as goal
 
 pub returns-clause-gains : goal.returns-clause-gains
 returns-clause-gains g c =
-    let old : Attendance = record { session = c.self.inside.session; cutter = c.self.inside.cutter; watched = c.self.inside.watched } in
-    let P : Attendance → Type 0 = λ a. a.session.closing ≡ None in
-    let Q : Attendance → Type 0 = λ a. Inputs g.O.Outlet.exact c.args.known.now c.args.names.now c.args.place c.args.piece.now a c.rest.new.self in
+    let old : MemberView = record { session = c.self.inside.session; cutter = c.self.inside.cutter; watched = c.self.inside.watched } in
+    let P : MemberView → Type 0 = λ a. a.session.closing ≡ None in
+    let Q : MemberView → Type 0 = λ a. Inputs g.O.Outlet.exact c.args.known.now c.args.names.now c.args.place c.args.piece.now a c.rest.new.self in
     let none : old.session.closing ≡ None = subst P (sym c.self.view_is) c.requires.open in
     subst Q c.self.view_is
     (input_put g.O.Outlet.exact c.args.known.now c.args.names.now c.args.place c.args.piece.now c.in_ok-cut.cut.requests.items c.as_slice.result.now c.in_ok-cut.cut.cutter _
@@ -20,8 +20,8 @@ returns-clause-gains g c =
 pub returns-clause-watched : goal.returns-clause-watched
 returns-clause-watched g c =
     let inputs : Inputs g.O.Outlet.exact c.args.known.now c.args.names.now c.args.place c.args.piece.now c.args.self.now c.rest.new.self = returns-clause-gains g c in
-    let before = ap (λ (a : Attendance). a.watched) c.self.view_is in
-    let now = ap (λ (a : Attendance). a.watched) c.self-2.view_is in
+    let before = ap (λ (a : MemberView). a.watched) c.self.view_is in
+    let now = ap (λ (a : MemberView). a.watched) c.self-2.view_is in
     let is : c.is_new.result ≡ (not c.args.self.now.watched && c.rest.new.self.watched) =
     c.is_new.ensures ∙ ap (λ b. not b && c.self-2.inside.watched) before ∙ ap (λ b. not c.args.self.now.watched && b) now in
     watched_now c.args.self.now c.rest.new.self (list_any enables (take inputs.count (answered c.args.known.now c.args.names.now c.args.self.now.session.policy inputs.requests))) c.is_new.result

@@ -1,5 +1,5 @@
 use Rattle.std.proofs.Common.{List, sym, ap, ◌∙◌, subst}
-use Rattle.book_sessions.specs.Attendance.{Attendance}
+use Rattle.book_sessions.specs.MemberView.{MemberView}
 use Rattle.book_sessions.specs.Roster.{IsAfterAll, IsOpenAt}
 use Rattle.book_sessions.proofs.Listening.{listening_closed}
 use Rattle.book_sessions.proofs.Places.{after_close}
@@ -11,7 +11,7 @@ invariant_of-self g c =
     let changed = c.close_at.ensures in
     let old = c.self.inside.members.items in
     let new = c.close_at.new.members.items in
-    let P : List Attendance → Type 0 = λ l. IsOpenAt c.args.s l in (
+    let P : List MemberView → Type 0 = λ l. IsOpenAt c.args.s l in (
       changed_roster c.self.inside.live.items c.self.inside.recent.items c.keep_open.new.numbers.items c.self.inside.watched c.self.inside.watched c.args.s changed.0 old new
           c.self.invariant.0 (subst P (sym c.self.view_is) c.requires.open) changed.1 c.keep_open.ensures
           (c.self.invariant.0.watched_ones ∙ same_watched c.args.s changed.0 old new changed.1 (λ free. ap (λ a. a.watched) (changed.2 free).becomes)),
@@ -20,5 +20,5 @@ invariant_of-self g c =
 
 pub returns-clause-after : goal.returns-clause-after
 returns-clause-after g c = λ later after.
-    let P : List Attendance → Type 0 = λ l. IsAfterAll later l in
+    let P : List MemberView → Type 0 = λ l. IsAfterAll later l in
     after_close c.args.place c.args.s c.args.why c.self.inside.members.items c.close_at.new.members.items c.close_at.ensures later (subst P (sym c.self.view_is) after)

@@ -1,7 +1,7 @@
 use Rattle.std.proofs.Common.{List, subst, sym}
 use Rattle.std.specs.List.{AllZip}
 use Rattle.session_core.specs.declared.mark.Close.TheVariants.{DaemonEnd}
-use Rattle.book_sessions.specs.Attendance.{Attendance}
+use Rattle.book_sessions.specs.MemberView.{MemberView}
 use Rattle.book_sessions.specs.Roster.{IsAfterAll, Shuts}
 use Rattle.book_sessions.proofs.Listening.{listening_shut}
 use Rattle.book_sessions.proofs.Places.{after_shut}
@@ -18,11 +18,11 @@ invariant_of-self g c = (
 
 pub returns-clause-shuts : goal.returns-clause-shuts
 returns-clause-shuts g c =
-    let P : List Attendance → Type 0 = λ l. AllZip (Shuts c.args.place DaemonEnd) l c.close_each.new.members.items in
+    let P : List MemberView → Type 0 = λ l. AllZip (Shuts c.args.place DaemonEnd) l c.close_each.new.members.items in
     subst P c.self.view_is (shut_zip c.args.place DaemonEnd c.self.inside.live.items c.self.inside.members.items c.close_each.new.members.items c.self.invariant.0.live_ones c.close_each.ensures)
 
 pub returns-clause-after : goal.returns-clause-after
 returns-clause-after g c = λ later after.
-    let P : List Attendance → Type 0 = λ l. IsAfterAll later l in
+    let P : List MemberView → Type 0 = λ l. IsAfterAll later l in
     let zip = shut_zip c.args.place DaemonEnd c.self.inside.live.items c.self.inside.members.items c.close_each.new.members.items c.self.invariant.0.live_ones c.close_each.ensures in
     after_shut c.args.place DaemonEnd c.self.inside.members.items c.close_each.new.members.items zip later (subst P (sym c.self.view_is) after)

@@ -3,7 +3,7 @@ use Rattle.std.specs.List.{AllZip}
 use Rattle.std.specs.Vec.{vec_len}
 use Rattle.std.proofs.lemmas.Bool.{eqb-true}
 use Rattle.book_batch.specs.Lines.{line_for}
-use Rattle.book_sessions.specs.Attendance.{Attendance}
+use Rattle.book_sessions.specs.MemberView.{MemberView}
 use Rattle.book_sessions.specs.Spreading.{Spreads}
 use Rattle.book_sessions.specs.Roster.{IsAfterAll}
 use Rattle.book_sessions.proofs.Listening.{is_nil, listening_spread}
@@ -23,20 +23,20 @@ invariant_of-self g c =
 
 pub returns-clause-spreads : goal.returns-clause-spreads
 returns-clause-spreads g c =
-    let P : List Attendance → Type 0 = λ l. AllZip (Spreads g.O.Outlet.exact (line_for c.args.names.now) c.args.first c.args.batch.reports) l c.receive_each.new.members.items in
+    let P : List MemberView → Type 0 = λ l. AllZip (Spreads g.O.Outlet.exact (line_for c.args.names.now) c.args.first c.args.batch.reports) l c.receive_each.new.members.items in
     subst P c.self.view_is (spread_zip g.O.Outlet.exact c.args.names.now c.args.first c.args.batch.reports c.self.inside.listening.items c.self.inside.members.items c.receive_each.new.members.items
     c.self.invariant.1 c.receive_each.ensures)
 
 pub returns-clause-after : goal.returns-clause-after
 returns-clause-after g c = λ later after.
-    let P : List Attendance → Type 0 = λ l. IsAfterAll later l in
+    let P : List MemberView → Type 0 = λ l. IsAfterAll later l in
     let zip = spread_zip g.O.Outlet.exact c.args.names.now c.args.first c.args.batch.reports c.self.inside.listening.items c.self.inside.members.items c.receive_each.new.members.items
     c.self.invariant.1 c.receive_each.ensures in
     after_spread g.O.Outlet.exact (line_for c.args.names.now) c.args.first c.args.batch.reports c.self.inside.members.items c.receive_each.new.members.items zip later (subst P (sym c.self.view_is) after)
 
 pub returns-then-is_empty-clause-spreads : goal.returns-then-is_empty-clause-spreads
 returns-then-is_empty-clause-spreads g c =
-    let P : List Attendance → Type 0 = λ l. AllZip (Spreads g.O.Outlet.exact (line_for c.args.names.now) c.args.first c.args.batch.reports) l l in
+    let P : List MemberView → Type 0 = λ l. AllZip (Spreads g.O.Outlet.exact (line_for c.args.names.now) c.args.first c.args.batch.reports) l l in
     let zero : vec_len c.self.inside.listening ≡ 0 = eqb-true (vec_len c.self.inside.listening) 0 (sym c.if-is_empty.ensures) in
     let none : length c.self.inside.listening.items ≡ 0 = omega (arith, zero) in
     subst P c.self.view_is (spread_to_none g.O.Outlet.exact c.args.names.now c.args.first c.args.batch.reports c.self.inside.listening.items c.self.inside.members.items

@@ -4,8 +4,8 @@ use Rattle.hub_door.specs.Admissions.{Admissions, admitting, link_of}
 use Rattle.report_book.specs.BookView.{BookView}
 use Rattle.report_book.specs.Refusals.{crowd_fault}
 use Rattle.serve_pieces.specs.declared.piece.Piece.{Piece}
-use Rattle.hub_laws.specs.Keeping.{HubKeeps}
-use Rattle.hub_laws.specs.Parts.{HubView}
+use Rattle.hub_promise.specs.Keeping.{HubKeeps}
+use Rattle.hub_promise.specs.Parts.{HubView}
 use Rattle.gps_hub.specs.Admitting.{AdmitsAs, IsCrowded, RefusesLink}
 use Rattle.gps_hub.proofs.Opening.{crowded, fault_of, numbered, not_refused, opened_keeps, refuses_again, shut_ended}
 use Rattle.gps_hub.proofs.hub.Hub.admit_link.Goals as goal

@@ -1,10 +1,10 @@
 use Rattle.std.proofs.Common.{◌≡◌, ◌<◌, ℕ, List, Option, Some, None, get_or, set, length, sym, ap, ◌∙◌, subst, arith}
-use Rattle.hub_laws.specs.DaemonHub.{MayGoOn}
-use Rattle.hub_laws.specs.declared.ends.DeviceEnd.{DeviceEnd}
-use Rattle.hub_laws.specs.Keeping.{HubKeeps, Lasts}
-use Rattle.hub_laws.specs.Parts.{HubView, Lanes, Terms, parts_of}
-use Rattle.hub_laws.proofs.Going.{device_free}
-use Rattle.hub_laws.proofs.Hubs.{hub_device}
+use Rattle.hub_promise.specs.DaemonHub.{MayGoOn}
+use Rattle.hub_promise.specs.declared.ends.DeviceEnd.{DeviceEnd}
+use Rattle.hub_promise.specs.Keeping.{HubKeeps, Lasts}
+use Rattle.hub_promise.specs.Parts.{HubView, InletsView, Terms, parts_of}
+use Rattle.hub_promise.proofs.Going.{device_free}
+use Rattle.hub_promise.proofs.Hubs.{hub_device}
 use Rattle.gps_hub.specs.Pumping.{DevicePumped, KeepsOthers}
 use Rattle.gps_hub.proofs.Pumps.{device_pumped, other_devices, looked_names, match_none, running_is}
 use Rattle.gps_hub.proofs.hub.Hub.device_piece.Goals as goal

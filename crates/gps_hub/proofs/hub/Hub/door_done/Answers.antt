@@ -1,8 +1,8 @@
 use Rattle.std.proofs.Common.{◌≡◌, true, sym, ap, ◌∙◌, subst}
 use Rattle.hub_door.specs.Admissions.{Admissions}
-use Rattle.hub_laws.specs.Keeping.{HubKeeps}
-use Rattle.hub_laws.specs.Parts.{HubView}
-use Rattle.hub_laws.proofs.Calls.{hub_done}
+use Rattle.hub_promise.specs.Keeping.{HubKeeps}
+use Rattle.hub_promise.specs.Parts.{HubView}
+use Rattle.hub_promise.proofs.Calls.{hub_done}
 use Rattle.gps_hub.proofs.hub.Hub.door_done.Goals as goal
 
 pub invariant_of-self : goal.invariant_of-self

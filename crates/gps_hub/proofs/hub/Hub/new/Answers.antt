@@ -2,9 +2,9 @@ use Rattle.std.proofs.Common.{◌≡◌, List, Option, None, [], false, replicat
 use Rattle.gps_lane.specs.Ends.{Taking}
 use Rattle.hub_door.specs.Admissions.{Admissions}
 use Rattle.serve_pieces.specs.declared.piece.Piece.{Piece}
-use Rattle.hub_laws.specs.declared.ends.DeviceEnd.{DeviceEnd}
-use Rattle.hub_laws.specs.Keeping.{HubKeeps, Lasts}
-use Rattle.hub_laws.proofs.Calls.{hub_new}
+use Rattle.hub_promise.specs.declared.ends.DeviceEnd.{DeviceEnd}
+use Rattle.hub_promise.specs.Keeping.{HubKeeps, Lasts}
+use Rattle.hub_promise.proofs.Calls.{hub_new}
 use Rattle.gps_hub.proofs.hub.Hub.new.Goals as goal
 
 pub invariant_of-hub : goal.invariant_of-hub

@@ -1,8 +1,8 @@
 use Rattle.std.proofs.Common.{◌≡◌, ℕ, Bool, sym, ap, ◌∙◌, subst}
 use Rattle.hub_door.specs.Admissions.{Admissions}
-use Rattle.hub_laws.specs.DaemonHub.{DaemonHub}
-use Rattle.hub_laws.specs.Parts.{AreAdmitted, HubView, Terms, terms_of}
-use Rattle.hub_laws.proofs.Calls.{hub_agrees}
+use Rattle.hub_promise.specs.DaemonHub.{DaemonHub}
+use Rattle.hub_promise.specs.Parts.{AreAdmitted, HubView, Terms, terms_of}
+use Rattle.hub_promise.proofs.Calls.{hub_agrees}
 use Rattle.gps_hub.proofs.hub.Hub.part.Goals as goal
 
 pub returns-clause-agrees : goal.returns-clause-agrees

@@ -1,8 +1,8 @@
 use Rattle.std.proofs.Common.{◌≡◌, ◌<◌, ℕ, length, sym, ap, ◌∙◌, subst}
 use Rattle.book_units.specs.Units.{segment_of}
-use Rattle.hub_laws.specs.Parts.{HubView, Terms}
-use Rattle.hub_laws.proofs.Calls.{hub_publish}
-use Rattle.hub_laws.proofs.Hubs.{map_length}
+use Rattle.hub_promise.specs.Parts.{HubView, Terms}
+use Rattle.hub_promise.proofs.Calls.{hub_publish}
+use Rattle.hub_promise.proofs.Hubs.{map_length}
 use Rattle.gps_hub.proofs.hub.Hub.publish.Goals as goal
 
 pub publish_unit-step-requires : goal.publish_unit-step-requires

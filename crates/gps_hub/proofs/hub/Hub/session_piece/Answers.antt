@@ -1,14 +1,14 @@
 use Rattle.std.proofs.Common.{◌≡◌, ◌<◌, ℕ, List, Option, Some, None, get_or, set, length, sym, ap, ◌∙◌, subst, arith}
 use Rattle.gps_lane.specs.Ends.{Taking}
-use Rattle.hub_laws.specs.DaemonHub.{SessionFits}
-use Rattle.hub_laws.specs.Keeping.{HubKeeps, Lasts}
-use Rattle.hub_laws.specs.Parts.{HubView, Lanes, Terms, parts_of}
-use Rattle.hub_laws.proofs.Going.{open_at, session_free}
-use Rattle.hub_laws.proofs.Hubs.{hub_session}
-use Rattle.hub_laws.proofs.Lists.{zip_length}
+use Rattle.hub_promise.specs.DaemonHub.{SessionFits}
+use Rattle.hub_promise.specs.Keeping.{HubKeeps, Lasts}
+use Rattle.hub_promise.specs.Parts.{HubView, InletsView, Terms, parts_of}
+use Rattle.hub_promise.proofs.Going.{open_at, session_free}
+use Rattle.hub_promise.proofs.Hubs.{hub_session}
+use Rattle.hub_promise.proofs.Lists.{zip_length}
 use Rattle.gps_hub.specs.Pumping.{KeepsOtherInputs, SessionPumped}
 use Rattle.std.specs.Prelude.{option_and_then, slice_get}
-use Rattle.book_sessions.specs.Attendance.{Attendance}
+use Rattle.book_sessions.specs.MemberView.{MemberView}
 use Rattle.gps_hub.proofs.Pumps.{none_of, other_inputs, session_pumped}
 use Rattle.gps_hub.proofs.hub.Hub.session_piece.Goals as goal
 
@@ -26,7 +26,7 @@ module _ (g : _) (c : goal.After-index_mut g) where
       let n = zip_length (SessionFits c.self.inside.book.names k.0 c.self.inside.book.log.log) c.self.inside.book.sessions c.self.inside.inputs.items k.1.sessions in
       omega arith
 
-  not_closed : option_and_then (λ (a : Attendance). a.session.closing) (slice_get c.self.inside.book.sessions c.args.s) ≡ None
+  not_closed : option_and_then (λ (a : MemberView). a.session.closing) (slice_get c.self.inside.book.sessions c.args.s) ≡ None
   not_closed = sym c.closing.ensures ∙ none_of c.closing.result c.if-is_some.ensures
 
 module _ (g : _) (c : goal.After-show g) where
@@ -43,7 +43,7 @@ module _ (g : _) (c : goal.After-show g) where
       let n = zip_length (SessionFits c.self.inside.book.names k.0 c.self.inside.book.log.log) c.self.inside.book.sessions c.self.inside.inputs.items k.1.sessions in
       omega arith
 
-  not_closed_after : option_and_then (λ (a : Attendance). a.session.closing) (slice_get c.self.inside.book.sessions c.args.s) ≡ None
+  not_closed_after : option_and_then (λ (a : MemberView). a.session.closing) (slice_get c.self.inside.book.sessions c.args.s) ≡ None
   not_closed_after = sym c.closing.ensures ∙ none_of c.closing.result c.if-is_some.ensures
 
 pub pump-pumped-requires-clause-runs : goal.pump-pumped-requires-clause-runs

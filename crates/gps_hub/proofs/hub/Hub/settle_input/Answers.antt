@@ -2,9 +2,9 @@ use Rattle.std.proofs.Common.{set, sym, ap, ◌∙◌, subst, arith}
 use Rattle.gps_lane.specs.Ends.{Taking}
 use Rattle.hub_door.specs.Admissions.{Admissions}
 use Rattle.serve_pieces.specs.declared.piece.Piece.{Piece}
-use Rattle.hub_laws.specs.Keeping.{HubKeeps}
-use Rattle.hub_laws.specs.Parts.{AreAdmitted, HubView}
-use Rattle.hub_laws.proofs.Settling.{closed_one, hub_settled, input_named, input_there, session_there}
+use Rattle.hub_promise.specs.Keeping.{HubKeeps}
+use Rattle.hub_promise.specs.Parts.{AreAdmitted, HubView}
+use Rattle.hub_promise.proofs.Settling.{closed_one, hub_settled, input_named, input_there, session_there}
 use Rattle.gps_hub.specs.Pumping.{KeepsOtherInputs}
 use Rattle.gps_hub.proofs.Pumps.{other_inputs}
 use Rattle.gps_hub.proofs.hub.Hub.settle_input.Goals as goal

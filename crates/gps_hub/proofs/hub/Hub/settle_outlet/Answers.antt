@@ -2,10 +2,10 @@ use Rattle.std.proofs.Common.{inl, inr, sym, ap, ◌∙◌, subst}
 use Rattle.book_sessions.specs.Roster.{IsOpenAt}
 use Rattle.hub_door.specs.Admissions.{Admissions}
 use Rattle.report_book.specs.BookView.{BookView}
-use Rattle.hub_laws.specs.Keeping.{HubKeeps}
-use Rattle.hub_laws.specs.Parts.{AreAdmitted, HubView}
-use Rattle.hub_laws.proofs.Going.{open_at}
-use Rattle.hub_laws.proofs.Settling.{outlet_named, session_there}
+use Rattle.hub_promise.specs.Keeping.{HubKeeps}
+use Rattle.hub_promise.specs.Parts.{AreAdmitted, HubView}
+use Rattle.hub_promise.proofs.Going.{open_at}
+use Rattle.hub_promise.proofs.Settling.{outlet_named, session_there}
 use Rattle.gps_hub.specs.Emptied.{GotAll}
 use Rattle.gps_hub.proofs.Pumps.{none_so}
 use Rattle.gps_hub.proofs.hub.Hub.settle_outlet.Goals as goal

@@ -1,7 +1,7 @@
 use Rattle.std.proofs.Common.{◌≡◌, refl, sym, subst}
 use Rattle.report_book.specs.Moves.{ShutsAll}
-use Rattle.hub_laws.specs.Parts.{HubView}
-use Rattle.hub_laws.proofs.Shutting.{all_stopped, hub_shut}
+use Rattle.hub_promise.specs.Parts.{HubView}
+use Rattle.hub_promise.proofs.Shutting.{all_stopped, hub_shut}
 use Rattle.gps_hub.proofs.hub.Hub.shut.Goals as goal
 
 pub invariant_of-self : goal.invariant_of-self

@@ -1,5 +1,5 @@
 use Rattle.std.proofs.Common.{length, ap, arith}
-use Rattle.hub_laws.specs.Parts.{HubView}
+use Rattle.hub_promise.specs.Parts.{HubView}
 use Rattle.gps_hub.proofs.hub.Hub.units.Goals as goal
 
 pub overflow_cast-devices : goal.overflow_cast-devices

@@ -1,5 +1,5 @@
 use Rattle.std.proofs.Common.{arith}
-use Rattle.gps_outside.proofs.Turns.{passes_more}
+use Rattle.gps_outside.proofs.ReadSteps.{passes_more}
 use Rattle.gps_outside.proofs.intake.Intake.step.Goals as goal
 
 pub returns-in-Got-2-clause-bytes : goal.returns-in-Got-2-clause-bytes

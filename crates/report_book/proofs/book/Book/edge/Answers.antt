@@ -1,7 +1,7 @@
 use Rattle.std.proofs.Common.{◌≡◌, ◌≤◌, ◌<◌, ℕ, Bool, false, length, ap, sym, subst, arith}
 use Rattle.book_log.proofs.Owned.{are_named}
 use Rattle.book_log.specs.Entries.{fed, edged, ended}
-use Rattle.book_log.specs.Logged.{turns_at}
+use Rattle.book_log.specs.DeviceLogView.{turns_at}
 use Rattle.report_book.specs.BookView.{BookView, turned_if}
 use Rattle.report_book.specs.Moves.{Earns}
 use Rattle.report_book.proofs.Calls.{after_if, is_device, moved, roomy}

@@ -1,10 +1,10 @@
 use Rattle.std.proofs.Common.{◌<◌, ◌++◌, ℕ, List, length, refl, sym, subst}
-use Rattle.book_replies.specs.Knowledge.{Knowledge}
+use Rattle.book_replies.specs.ReplyDataView.{ReplyDataView}
 use Rattle.report_book.specs.Knowing.{known_in}
-use Rattle.report_book.specs.Moves.{Hears}
+use Rattle.report_book.specs.Moves.{AnswersRequests}
 use Rattle.book_log.specs.Entries.{Entry}
 use Rattle.book_sessions.specs.Answering.{Inputs}
-use Rattle.book_sessions.specs.Attendance.{Attendance}
+use Rattle.book_sessions.specs.MemberView.{MemberView}
 use Rattle.book_sessions.specs.Roster.{Changes, IsOpenAt}
 use Rattle.report_book.specs.BookView.{BookView}
 use Rattle.report_book.proofs.Calls.{after_at, heard_holds, is_open_at, is_session, one_changed}
@@ -34,11 +34,11 @@ invariant_of-self-2 g c =
 pub returns-clause-hears : goal.returns-clause-hears
 returns-clause-hears g c =
     let new : BookView = record { names = c.self.inside.names; log = c.self.inside.log; sessions = c.input.new.self; units = c.self.inside.units.units } in
-    let P : BookView → Type 0 = λ b. Hears g.O.Outlet.exact c.args.s c.args.piece.now b new in
+    let P : BookView → Type 0 = λ b. AnswersRequests g.O.Outlet.exact c.args.s c.args.piece.now b new in
     subst P c.self.view_is (record {
       same = record { names = refl; log = refl; units = refl };
       session = λ before stands.
-          let K : Knowledge → Type 0 = λ k. Changes c.args.s (Inputs g.O.Outlet.exact k c.self.inside.names c.place-place.result c.args.piece.now) c.self.inside.roster c.input.new.self in
+          let K : ReplyDataView → Type 0 = λ k. Changes c.args.s (Inputs g.O.Outlet.exact k c.self.inside.names c.place-place.result c.args.piece.now) c.self.inside.roster c.input.new.self in
           let L : ℕ → Type 0 = λ n. Changes c.args.s (Inputs g.O.Outlet.exact (known_in (length c.self.inside.names) (before ++ c.self.inside.log.log)) c.self.inside.names n c.args.piece.now) c.self.inside.roster c.input.new.self in
           subst L c.place-place.ensures.place (subst K (c.in_ok-known.ensures.known before stands) c.in_ok-input.ensures.input);
     })

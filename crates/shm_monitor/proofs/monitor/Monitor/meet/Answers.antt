@@ -2,13 +2,13 @@
 use Rattle.std.proofs.Common.{ap, ◌∙◌, arith}
 use Rattle.shm_segment.specs.Seats.{SegmentId, Noticed}
 use Rattle.shm_segment.proofs.Writing.{part_of}
-use Rattle.shm_monitor.specs.Watching.{Watching}
+use Rattle.shm_monitor.specs.MonitorView.{MonitorView}
 use Rattle.shm_monitor.proofs.Keeping.{takes_notice, meets_as}
 use Rattle.shm_monitor.proofs.monitor.Monitor.meet.Goals as goal
 
 pub join_seat-requires : goal.join_seat-requires
 join_seat-requires c =
-    let mine = ap (λ (w : Watching). w.segment) c.self.view_is ∙ c.requires.monitor in
+    let mine = ap (λ (w : MonitorView). w.segment) c.self.view_is ∙ c.requires.monitor in
     let theirs = ap (λ (n : Noticed). n.segment) c.notice.view_is ∙ c.requires.notice in (
       part_of _ _ _ c.segment.view_is _ (ap (λ (s : SegmentId). s.table) mine),
       part_of _ _ _ c.segment.view_is _ (ap (λ (s : SegmentId). s.table) theirs),
@@ -19,7 +19,7 @@ join_seat-requires c =
 
 pub load-requires : goal.load-requires
 load-requires c =
-    let mine = ap (λ (w : Watching). w.segment) c.self.view_is ∙ c.requires.monitor in
+    let mine = ap (λ (w : MonitorView). w.segment) c.self.view_is ∙ c.requires.monitor in
     let joined = c.join_seat.ensures in (
       part_of _ _ _ c.segment.view_is _ (joined.0 ∙ ap (λ (s : SegmentId). s.table) mine),
       (let words = c.segment.invariant in omega arith),

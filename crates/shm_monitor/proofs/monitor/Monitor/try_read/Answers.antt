@@ -1,6 +1,6 @@
 -- Each load of the body goes on with the reading, and the second count ends it.
 use Rattle.std.proofs.Common.{◌≡◌, ℕ, ◌+◌, subst, arith}
-use Rattle.shm_monitor.specs.Watching.{HasLoaded}
+use Rattle.shm_monitor.specs.MonitorView.{HasLoaded}
 use Rattle.shm_monitor.proofs.Turns.{goes_by, ends}
 use Rattle.shm_monitor.proofs.monitor.Monitor.try_read.Goals as goal
 

@@ -1,5 +1,5 @@
 use Rattle.std.proofs.Common.{◌+◌}
-use Rattle.shm_monitor.specs.Watching.{HasLoaded}
+use Rattle.shm_monitor.specs.MonitorView.{HasLoaded}
 use Rattle.shm_monitor.proofs.monitor.Monitor.try_read.Given as goal
 
 abbrev pub invariant-loop : goal.invariant-loop

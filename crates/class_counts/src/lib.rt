@@ -1,0 +1,12 @@
+//! Lines of this project's daemon, read to their end and counted by class: what the command `lines` does.
+#![tactic(auto)]
+
+mod counting;
+mod outcome;
+mod reading;
+mod running;
+mod tally;
+mod writing;
+
+pub use outcome::CountOutcome;
+pub use running::count_lines;

@@ -1,0 +1,75 @@
+ghost use Rattle.std.specs.Prelude.{◌≡◌, ◌≢◌, ◌≤◌, ◌==◌, List, ℕ, length, not};
+ghost use Rattle.line_cut.specs.Lines.{open_line};
+ghost use Rattle.class_counts.specs.declared.outcome.CountOutcome.{CountOutcome};
+ghost use Rattle.class_counts.specs.Standing.{CountStands};
+ghost use Rattle.class_counts.specs.Counted.{Counted, IsWithin};
+ghost use Rattle.class_counts.specs.Outcomes.{CountHasCause};
+ghost use Rattle.class_counts.specs.Writing.{EndsWith, StopsWith, WriteCause};
+
+use crate::CountOutcome;
+use crate::counting::{Count, Stop};
+use crate::reading::{Reading, read_lines};
+use crate::writing::{refuse, report};
+use gps_outside::{Sink, Source};
+use std::alloc::Global;
+
+/// Ends a count at its first bad line, or for want of memory.
+fn stop<K: Sink>(alloc: Global, stop: Stop, good: u64, sink: &mut K) -> CountOutcome
+    ensures closes { StopsWith stop good result (K.written sink.old) (K.written sink.new) }
+    ensures cause { WriteCause result (K.faults sink.old) (K.faults sink.new) }
+    ensures faults_stay { K.faults sink.old ≤ K.faults sink.new }
+{
+    match stop {
+        Stop::Bad => refuse(alloc, good, sink),
+        Stop::NoMemory => CountOutcome::NoMemory,
+    }
+}
+
+/// Ends a count at the end of its input, whose last line may lack its end.
+fn end<K: Sink>(alloc: Global, count: &Count, sink: &mut K) -> CountOutcome
+    ensures closes { (bytes : List ℕ) → CountStands count.now bytes
+        → EndsWith (not (length (open_line bytes) == 0)) count.now result (K.written sink.old) (K.written sink.new) }
+    ensures cause { WriteCause result (K.faults sink.old) (K.faults sink.new) }
+    ensures faults_stay { K.faults sink.old ≤ K.faults sink.new }
+{
+    if count.is_open() {
+        refuse(alloc, count.good, sink)
+    } else {
+        report(alloc, &count.tally, sink)
+    }
+}
+
+/// As [`count_lines`].
+#[tactic(auto, using(crate::proofs::Ends::counted_end, crate::proofs::Ends::counted_stop, crate::proofs::Ends::counted_full, crate::proofs::Ends::counted_failed, crate::proofs::Ends::counted_quiet, crate::proofs::Ends::has_cause))]
+fn count<S: Source, K: Sink>(alloc: Global, source: &mut S, sink: &mut K) -> CountOutcome
+    ensures counted { Counted result (S.content source.old) (S.content source.new) (K.written sink.old) (K.written sink.new) }
+    ensures cause { CountHasCause result (S.faults source.old) (S.faults source.new) (S.quiets source.old) (S.quiets source.new)
+        (K.faults sink.old) (K.faults sink.new) }
+    ensures faults_stay { S.faults source.old ≤ S.faults source.new }
+    ensures quiets_stay { S.quiets source.old ≤ S.quiets source.new }
+    ensures sink_faults_stay { K.faults sink.old ≤ K.faults sink.new }
+{
+    let mut count = Count::new(alloc);
+    match read_lines(alloc, &mut count, source) {
+        Reading::End => end(alloc, &count, sink),
+        Reading::Stopped(why) => stop(alloc, why, count.good, sink),
+        Reading::Full => CountOutcome::Full,
+        Reading::Failed => CountOutcome::ReadFault,
+        Reading::TooQuiet => CountOutcome::TooQuiet,
+    }
+}
+
+/// Reads lines to the source's end, or to the first bad one, and writes how many are of each class, or the number of that
+/// line. A line is ended by LF and has at most 1,048,576 bytes; an input at most 1,073,741,824.
+pub fn count_lines<S: Source, K: Sink>(alloc: Global, source: &mut S, sink: &mut K) -> CountOutcome
+    ensures counted { Counted result (S.content source.old) (S.content source.new) (K.written sink.old) (K.written sink.new) }
+    ensures cause { CountHasCause result (S.faults source.old) (S.faults source.new) (S.quiets source.old) (S.quiets source.new)
+        (K.faults sink.old) (K.faults sink.new) }
+    ensures within { IsWithin (S.content source.old) → (result ≢ CountOutcome.Full) × (result ≢ CountOutcome.BadLine) }
+    ensures faults_stay { S.faults source.old ≤ S.faults source.new }
+    ensures quiets_stay { S.quiets source.old ≤ S.quiets source.new }
+    ensures sink_faults_stay { K.faults sink.old ≤ K.faults sink.new }
+{
+    let outcome = count(alloc, source, sink);
+    outcome
+}

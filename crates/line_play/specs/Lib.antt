@@ -1,5 +1,0 @@
-pub mod Rules
-pub mod Courses
-pub mod Outcomes
-pub mod Played
-pub mod Turns

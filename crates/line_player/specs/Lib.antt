@@ -1,0 +1,5 @@
+pub mod Rules
+pub mod Courses
+pub mod Outcomes
+pub mod Played
+pub mod LineSteps

@@ -1,0 +1,31 @@
+-- How a play ends, its exit status, and what must have happened outside where it ends so.
+use Rattle.std.specs.Prelude.{ℕ}
+use Rattle.gps_outside.specs.Counts.{Rose, RoseBy}
+use Rattle.line_player.specs.declared.outcome.PlayOutcome.{PlayOutcome}
+use Rattle.line_player.specs.declared.outcome.PlayOutcome.TheVariants.{Done, ReadFault, TooQuiet, WriteFault, Full, BadLine, NoMemory}
+use Rattle.line_player.specs.declared.outcome.Fault.{Fault}
+use Rattle.line_player.specs.declared.outcome.Fault.TheVariants as fault
+
+abbrev pub status_of : PlayOutcome → ℕ
+status_of Done = 0
+status_of ReadFault = 3
+status_of TooQuiet = 3
+status_of WriteFault = 4
+status_of Full = 5
+status_of BadLine = 6
+status_of NoMemory = 7
+
+abbrev pub outcome_of : Fault → PlayOutcome
+outcome_of fault.BadLine = BadLine
+outcome_of fault.Sink = WriteFault
+outcome_of fault.NoMemory = NoMemory
+
+-- the counts of the source and of the sink before and after a play that ends so
+abbrev pub PlayHasCause : PlayOutcome → ℕ → ℕ → ℕ → ℕ → ℕ → ℕ → Type 0
+PlayHasCause Done faults faults' quiets quiets' sunk sunk' = Unit {0}
+PlayHasCause ReadFault faults faults' quiets quiets' sunk sunk' = Rose faults faults'
+PlayHasCause TooQuiet faults faults' quiets quiets' sunk sunk' = RoseBy 1000 quiets quiets'
+PlayHasCause WriteFault faults faults' quiets quiets' sunk sunk' = Rose sunk sunk'
+PlayHasCause Full faults faults' quiets quiets' sunk sunk' = Unit {0}
+PlayHasCause BadLine faults faults' quiets quiets' sunk sunk' = Unit {0}
+PlayHasCause NoMemory faults faults' quiets quiets' sunk sunk' = Unit {0}

@@ -1,0 +1,172 @@
+ghost use Rattle.std.specs.Prelude.{◌≡◌, ◌≤◌, ◌<◌, ◌+◌, ◌-◌, ◌^◌, ◌++◌, ◌⊎◌, List, ℕ, Option, Ok, IfOk, length};
+ghost use Rattle.line_player.specs.Courses.{course_so_far, output_of, whole_course, written_so_far};
+ghost use Rattle.line_player.specs.Outcomes.{PlayHasCause};
+ghost use Rattle.line_player.specs.Played.{IsWithin, HasPlayed};
+ghost use Rattle.line_player.specs.LineSteps.{IsAt, IsDue, WriteCause, Writes};
+ghost use Rattle.line_player.specs.declared.plays_lines.LineStep.{LineStep};
+ghost use Rattle.line_player.specs.declared.outcome.PlayOutcome.{PlayOutcome};
+ghost use Rattle.gps_outside.specs.Counts.{Rose, RoseBy};
+
+use crate::lines::Lines;
+use crate::outcome::{Fault, PlayOutcome};
+use crate::plays_lines::{LineStep, PlaysLines};
+use gps_fixed::NoMemory;
+use gps_outside::{Intake, IntakeStep, Sink, Source, write_all};
+use line_cut::Limit;
+use std::alloc::Global;
+
+/// Writes what is due, unless memory was wanted for it.
+#[tactic(auto, using(crate::proofs::Writing::made, crate::proofs::Writing::refused, crate::proofs::Writing::broken))]
+fn write_due<K: Sink>(
+    turn: Result<LineStep, NoMemory>,
+    due: &[u8],
+    sink: &mut K,
+) -> Result<(), Fault>
+    ensures wrote { (refused : Option ℕ) (before all : List ℕ) → IsDue turn refused before all due.now
+        → Writes result refused before all (K.written sink.old) (K.written sink.new) }
+    ensures made { IfOk result (λ _. turn ≡ Ok LineStep.Made) }
+    ensures cause { WriteCause result (K.faults sink.old) (K.faults sink.new) }
+    ensures faults_stay { K.faults sink.old ≤ K.faults sink.new }
+{
+    match turn {
+        Err(NoMemory) => Err(Fault::NoMemory),
+        Ok(LineStep::Made) => {
+            if write_all(sink, due) {
+                Ok(())
+            } else {
+                Err(Fault::Sink)
+            }
+        }
+        Ok(LineStep::Refused) => {
+            if write_all(sink, due) {
+                Err(Fault::BadLine)
+            } else {
+                Err(Fault::Sink)
+            }
+        }
+    }
+}
+
+/// Runs the lines that a piece makes known, and writes what is due then.
+fn hand_on<P: PlaysLines, K: Sink>(
+    lines: &mut Lines,
+    player: &mut P,
+    piece: &[u8],
+    sink: &mut K,
+) -> Result<(), Fault>
+    requires room { lines.old.count + length piece.now < 2 ^ 64 - 1 }
+    requires limit { lines.old.limit ≡ (P.rules player.old).limit }
+    requires known { (bytes : List ℕ) × IsAt (P.rules player.old) bytes lines.old.cutter lines.old.count (P.stands player.old) }
+    ensures wrote { (bytes : List ℕ) → IsAt (P.rules player.old) bytes lines.old.cutter lines.old.count (P.stands player.old)
+        → Writes result (course_so_far (P.rules player.old) (bytes ++ piece.now)).refused
+        (written_so_far (P.rules player.old) bytes) (written_so_far (P.rules player.old) (bytes ++ piece.now))
+        (K.written sink.old) (K.written sink.new) }
+    ensures at { IfOk result (λ _. (bytes : List ℕ)
+        → IsAt (P.rules player.old) bytes lines.old.cutter lines.old.count (P.stands player.old)
+        → IsAt (P.rules player.old) (bytes ++ piece.now) lines.new.cutter lines.new.count (P.stands player.new)) }
+    ensures number { lines.new.count ≤ lines.old.count + length piece.now }
+    ensures limit_stays { lines.new.limit ≡ lines.old.limit }
+    ensures rules_stay { P.rules player.new ≡ P.rules player.old }
+    ensures cause { WriteCause result (K.faults sink.old) (K.faults sink.new) }
+    ensures faults_stay { K.faults sink.old ≤ K.faults sink.new }
+{
+    let turn = lines.take(player, piece);
+    write_due(turn, lines.due(), sink)
+}
+
+/// Runs the line that the source's end makes known, and writes what is due at the end.
+fn close<P: PlaysLines, K: Sink>(
+    lines: &mut Lines,
+    player: &mut P,
+    sink: &mut K,
+) -> Result<(), Fault>
+    requires room { lines.old.count < 2 ^ 64 - 1 }
+    requires known { (bytes : List ℕ) × IsAt (P.rules player.old) bytes lines.old.cutter lines.old.count (P.stands player.old) }
+    ensures wrote { (bytes : List ℕ) → IsAt (P.rules player.old) bytes lines.old.cutter lines.old.count (P.stands player.old)
+        → Writes result (whole_course (P.rules player.old) bytes).refused
+        (written_so_far (P.rules player.old) bytes) (output_of (P.rules player.old) bytes)
+        (K.written sink.old) (K.written sink.new) }
+    ensures cause { WriteCause result (K.faults sink.old) (K.faults sink.new) }
+    ensures faults_stay { K.faults sink.old ≤ K.faults sink.new }
+{
+    let turn = lines.finish(player);
+    write_due(turn, lines.due(), sink)
+}
+
+/// As [`play`].
+fn read_through<S: Source, K: Sink, P: PlaysLines>(
+    alloc: Global,
+    limit: Limit,
+    most: u32,
+    player: &mut P,
+    source: &mut S,
+    sink: &mut K,
+) -> PlayOutcome
+    requires limit { limit ≡ (P.rules player.old).limit }
+    requires starts { P.stands player.old (P.rules player.old).start }
+    ensures played { HasPlayed result (P.rules player.old) most (S.content source.old) (S.content source.new)
+        (K.written sink.old) (K.written sink.new) }
+    ensures cause { PlayHasCause result (S.faults source.old) (S.faults source.new) (S.quiets source.old) (S.quiets source.new)
+        (K.faults sink.old) (K.faults sink.new) }
+    ensures faults_stay { S.faults source.old ≤ S.faults source.new }
+    ensures quiets_stay { S.quiets source.old ≤ S.quiets source.new }
+    ensures sink_faults_stay { K.faults sink.old ≤ K.faults sink.new }
+{
+    let mut lines = Lines::new(alloc, limit);
+    let mut intake = Intake::new(most);
+    let mut buf = [0u8; 512];
+    'turns: loop {
+        match intake.step(source, &mut buf) {
+            IntakeStep::Piece(n) => match hand_on(&mut lines, player, &buf[..n], sink) {
+                Ok(()) => {}
+                Err(fault) => return fault.outcome(),
+            },
+            IntakeStep::Quiet => {}
+            IntakeStep::Last(n) => match hand_on(&mut lines, player, &buf[..n], sink) {
+                Ok(()) => return PlayOutcome::Full,
+                Err(fault) => return fault.outcome(),
+            },
+            IntakeStep::End => match close(&mut lines, player, sink) {
+                Ok(()) => return PlayOutcome::Done,
+                Err(fault) => return fault.outcome(),
+            },
+            IntakeStep::Failed => return PlayOutcome::ReadFault,
+            IntakeStep::TooQuiet => return PlayOutcome::TooQuiet,
+        }
+    }
+}
+
+/// Reads a text of at most `most` bytes to the source's end, runs its lines as soon as they are known, up to the first
+/// refused one, and writes what they write.
+///
+/// A line is known once its end was read, or so much of it that it is too long; the source's end ends the last one. A
+/// refused line N is written as `bad line N`, behind what those before it write.
+///
+/// Where neither the source nor the sink fails, fewer than a thousand reads bring nothing, and the source tells that no
+/// more than `most` bytes are left and that none of their lines is refused, all is read and written, unless memory is
+/// wanted.
+pub fn play<S: Source, K: Sink, P: PlaysLines>(
+    alloc: Global,
+    limit: Limit,
+    most: u32,
+    player: &mut P,
+    source: &mut S,
+    sink: &mut K,
+) -> PlayOutcome
+    requires limit { limit ≡ (P.rules player.old).limit }
+    requires starts { P.stands player.old (P.rules player.old).start }
+    ensures played { HasPlayed result (P.rules player.old) most (S.content source.old) (S.content source.new)
+        (K.written sink.old) (K.written sink.new) }
+    ensures cause { PlayHasCause result (S.faults source.old) (S.faults source.new) (S.quiets source.old) (S.quiets source.new)
+        (K.faults sink.old) (K.faults sink.new) }
+    ensures faults_stay { S.faults source.old ≤ S.faults source.new }
+    ensures quiets_stay { S.quiets source.old ≤ S.quiets source.new }
+    ensures sink_faults_stay { K.faults sink.old ≤ K.faults sink.new }
+    ensures complete { IsWithin (P.rules player.old) most (S.content source.old)
+        → (Rose (S.faults source.old) (S.faults source.new) → ⊥)
+        → (RoseBy 1000 (S.quiets source.old) (S.quiets source.new) → ⊥)
+        → (Rose (K.faults sink.old) (K.faults sink.new) → ⊥)
+        → (result ≡ PlayOutcome.Done) ⊎ (result ≡ PlayOutcome.NoMemory) }
+{
+    read_through(alloc, limit, most, player, source, sink)
+}

@@ -1,0 +1,21 @@
+use Rattle.std.proofs.Common.{◌≡◌, false, nat_lt, length, sym, subst, rules}
+use Rattle.book_log.specs.Entries.{lost}
+use Rattle.replay_player.specs.Playing.{BookStandsFor, ReplayBookView}
+use Rattle.replay_player.proofs.Devices.{loss_acts}
+use Rattle.replay_player.proofs.Refusing.{brings_none}
+use Rattle.replay_player.proofs.replay_book.ReplayBook.lose_device.Goals as goal
+
+pub returns-then-not-has_device : goal.returns-then-not-has_device
+returns-then-not-has_device c = record {
+  acts = λ state plays.
+      let none : nat_lt c.args.d (length c.args.self.now.book.names) ≡ false = search rules in
+      brings_none c.args.self.now state c.args.d (lost c.args.d) plays none;
+}
+
+pub returns : goal.returns
+returns c = record {
+  acts = λ state plays.
+      let P : ReplayBookView → Type 0 = λ v. BookStandsFor v state in
+      loss_acts (record { devices = c.self.inside.devices; book = c.self.inside.book; watchers = c.self.inside.watchers.items }) c.lose_device.new.self c.args.d (lost c.args.d) c.lose_device.result c.event_step_of.result c.show.ensures.holds
+      c.lose_device.ensures.lost c.lose_device.ensures.refusal c.event_step_of.ensures state (subst P (sym c.self.view_is) plays);
+}

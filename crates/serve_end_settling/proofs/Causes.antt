@@ -1,0 +1,55 @@
+-- What the counts of the sources say once the threads have ended.
+use Rattle.std.proofs.Common.{◌≡◌, ℕ, ◌<◌, inl, inr, List, [], ◌∷◌, ◌++◌, Option, Some, None, sym, subst, arith}
+use Rattle.gps_lane.specs.Ends.{Putting}
+use Rattle.gps_outside.specs.Counts.{Rose, Tally}
+use Rattle.gps_outside.specs.Told.{Stream}
+use Rattle.serve_pieces.specs.declared.piece.Ending.{Ending}
+use Rattle.serve_pieces.specs.declared.piece.Ending.TheVariants.{Failed}
+use Rattle.serve_pieces.specs.declared.piece.Piece.{Piece}
+use Rattle.serve_threads.specs.Reading.{Reads, ReadsLines}
+use Rattle.serve_threads.specs.declared.reading.ReaderDone.{ReaderDone}
+use Rattle.serve_end_parts.specs.declared.done.DeviceDone.{DeviceDone}
+use Rattle.serve_end_settling.specs.declared.device.DeviceRun.{DeviceRun}
+use Rattle.serve_end_settling.specs.Failing.{DeviceFailed, EdgeFailed, RunFailed, SomeFailed, SourceFailed, source_of}
+use Rattle.serve_end_settling.specs.Runs.{EachRun, EdgeCause, RunCause}
+
+rose_some : (before now : ℕ) → Rose before now → 0 < now
+rose_some before now rose = omega (arith, rose)
+
+pub reads_cause : (part : Piece → List ℕ) (P : Piece → Type 0) (ending : Option Ending) (tx tx' : Putting Piece) (before after : Option Stream) (old new : Tally)
+    → Reads part P ending tx tx' before after old new → ending ≡ Some Failed → 0 < new.faults
+reads_cause part P ending tx tx' before after old new reads failed = rose_some old.faults new.faults (reads.failed failed)
+
+pub lines_cause : (ending : Option Ending) (tx tx' : Putting Piece) (before after : Option Stream) (old new : Tally)
+    → ReadsLines ending tx tx' before after old new → ending ≡ Some Failed → 0 < new.faults
+lines_cause ending tx tx' before after old new reads failed = rose_some old.faults new.faults (reads.failed failed)
+
+pub each_run_more : {X : Type 0} (P : X → Type 0) (runs : List X) (run : X) → EachRun P runs → P run → EachRun P (runs ++ run ∷ [])
+each_run_more P [] run each p = (p, tt)
+each_run_more P (first ∷ runs) run each p = (each.0, each_run_more P runs run each.1 p)
+
+pub failed_front : {X : Type 0} (P : X → Type 0) (xs : List X) (x : X) → SomeFailed P xs → SomeFailed P (xs ++ x ∷ [])
+failed_front P [] x some = absurd some
+failed_front P (first ∷ xs) x some = elim some [ inl here ↦ inl here | inr later ↦ inr (failed_front P xs x later) ]
+
+pub failed_last : {X : Type 0} (P : X → Type 0) (xs : List X) (x : X) → P x → SomeFailed P (xs ++ x ∷ [])
+failed_last P [] x p = inl p
+failed_last P (first ∷ xs) x p = inr (failed_last P xs x p)
+
+edge_failed : {S R : Type 0} (faults : S → ℕ) (edges : Option (ReaderDone S R)) → EdgeFailed edges → EdgeCause faults edges → SourceFailed faults (source_of edges)
+edge_failed faults None failed cause = absurd failed
+edge_failed faults (Some run) failed cause = cause failed
+
+pub bytes_failed : {S R : Type 0} (faults : S → ℕ) (run : DeviceRun S R) → RunCause faults run → run.bytes.ending ≡ Some Failed → RunFailed faults run
+bytes_failed faults run cause failed = inl (cause.bytes failed)
+
+pub edges_failed : {S R : Type 0} (faults : S → ℕ) (run : DeviceRun S R) → RunCause faults run → EdgeFailed run.edges → RunFailed faults run
+edges_failed faults run cause failed = inr (edge_failed faults run.edges failed cause.edges)
+
+-- the device that is handed back has the sources of its readers
+pub failed_done : {S R : Type 0} (faults : S → ℕ) (device : DeviceDone S R) (run : DeviceRun S R)
+    → RunFailed faults run → device.source ≡ Some run.bytes.source → device.edges ≡ source_of run.edges → DeviceFailed faults device
+failed_done faults device run failed source edges = elim failed [
+  | inl bytes ↦ inl (subst (SourceFailed faults) (sym source) bytes)
+  | inr lines ↦ inr (subst (SourceFailed faults) (sym edges) lines)
+]

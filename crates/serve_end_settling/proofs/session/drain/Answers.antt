@@ -1,0 +1,24 @@
+use Rattle.std.proofs.Common.{◌∙◌, refl, subst}
+use Rattle.gps_lane.specs.Lane.{BeginsWith}
+use Rattle.report_book.specs.BookView.{BookView}
+use Rattle.serve_end_settling.specs.Outlets.{given_to}
+use Rattle.serve_end_settling.proofs.Emptying.{part_emptied, wrote_item, wrote_part}
+use Rattle.serve_end_settling.proofs.session.drain.Goals as goal
+
+pub returns-then-not-write_item-clause-outlet : goal.returns-then-not-write_item-clause-outlet
+returns-then-not-write_item-clause-outlet g c = λ free.
+    part_emptied (given_to c.args.number c.args.book.now free) c.args.items.now c.items.items c.next_item.new.items c.in-Some-next_item.item c.items.invariant.wrote.lane
+    c.in-Some-next_item.ensures.items
+    (subst (λ (b : BookView). BeginsWith c.next_item.new.items.got (given_to c.args.number b free)) c.items.invariant.book (c.in-Some-next_item.ensures.begins free))
+
+pub returns-then-not-write_item-clause-wrote : goal.returns-then-not-write_item-clause-wrote
+returns-then-not-write_item-clause-wrote g c =
+    wrote_part c.args.items.now c.items.items c.next_item.new.items c.in-Some-next_item.item _ _ _ _ _ _ c.items.invariant.wrote c.in-Some-next_item.ensures.items
+    c.if-not-write_item.ensures.bytes c.if-not-write_item.ensures.faults_stay (c.if-not-write_item.ensures.failed refl)
+
+pub items-preserved : goal.items-preserved
+items-preserved g c = record {
+  book = c.next_item.ensures.book ∙ c.items.invariant.book;
+  wrote = wrote_item c.args.items.now c.items.items c.next_item.new.items c.in-Some-next_item.item _ _ _ _ _ _ c.items.invariant.wrote c.in-Some-next_item.ensures.items
+      c.if-not-write_item.ensures.bytes c.if-not-write_item.ensures.faults_stay;
+}

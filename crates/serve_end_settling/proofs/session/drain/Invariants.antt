@@ -1,0 +1,10 @@
+use Rattle.std.proofs.Common.{◌≡◌}
+use Rattle.serve_workers.specs.declared.writer.WriterEnd.TheVariants.{Drained}
+use Rattle.serve_threads.specs.Sessions.{Wrote}
+use Rattle.serve_end_settling.proofs.session.drain.Given as goal
+
+abbrev pub invariant-items : goal.invariant-items
+invariant-items g l = record {
+  book : l.book ≡ l.initial.book;
+  wrote : Wrote Drained l.initial.items l.items (g.K.Sink.written l.initial.sink) (g.K.Sink.written l.sink) (g.K.Sink.faults l.initial.sink) (g.K.Sink.faults l.sink);
+}

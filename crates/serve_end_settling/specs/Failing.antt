@@ -1,0 +1,36 @@
+-- Which devices had a source that failed.
+use Rattle.std.specs.Prelude.{◌≡◌, ◌<◌, ◌⊎◌, ℕ, List, [], ◌∷◌, Option, Some, None, option_map}
+use Rattle.serve_pieces.specs.declared.piece.Ending.TheVariants.{Failed}
+use Rattle.serve_threads.specs.declared.reading.ReaderDone.{ReaderDone}
+use Rattle.serve_end_parts.specs.declared.done.DeviceDone.{DeviceDone}
+use Rattle.serve_end_settling.specs.declared.device.DeviceRun.{DeviceRun}
+
+-- the reader of its edges says that its source failed
+abbrev pub EdgeFailed : {S R : Type 0} → Option (ReaderDone S R) → Type 0
+EdgeFailed None = ⊥
+EdgeFailed (Some run) = run.ending ≡ Some Failed
+
+-- a reader of the device says that its source failed
+abbrev pub SaysFailed : {S R : Type 0} → DeviceRun S R → Type 0
+SaysFailed run = (run.bytes.ending ≡ Some Failed) ⊎ EdgeFailed run.edges
+
+-- the faults of the source are above 0
+abbrev pub SourceFailed : {S : Type 0} → (S → ℕ) → Option S → Type 0
+SourceFailed faults None = ⊥
+SourceFailed faults (Some source) = 0 < faults source
+
+-- the source of a reader, where there is one
+abbrev pub source_of : {S R : Type 0} → Option (ReaderDone S R) → Option S
+source_of {S} {R} reader = option_map (λ (r : ReaderDone S R). r.source) reader
+
+-- a source of the device failed, as its readers hand the sources back
+abbrev pub RunFailed : {S R : Type 0} → (S → ℕ) → DeviceRun S R → Type 0
+RunFailed faults run = SourceFailed faults (Some run.bytes.source) ⊎ SourceFailed faults (source_of run.edges)
+
+-- and as the device is handed back
+abbrev pub DeviceFailed : {S R : Type 0} → (S → ℕ) → DeviceDone S R → Type 0
+DeviceFailed faults device = SourceFailed faults device.source ⊎ SourceFailed faults device.edges
+
+abbrev pub SomeFailed : {X : Type 0} → (X → Type 0) → List X → Type 0
+SomeFailed P [] = ⊥
+SomeFailed P (x ∷ xs) = P x ⊎ SomeFailed P xs

@@ -1,6 +1,0 @@
-//! Opens what a daemon works with outside: its inputs, the places of its edges, and its door. This project's own.
-#![tactic(auto)]
-
-mod opening;
-
-pub use opening::{Outside, Stop, open};

@@ -1,0 +1,23 @@
+use Rattle.std.proofs.Common.{rules, sym, ◌∙◌}
+use Rattle.world_opening.proofs.Asking.{edge_asks_at, edge_room_at, edge_stopped_at}
+use Rattle.world_opening.proofs.Held.{edge_more, pairs_all, pairs_more}
+use Rattle.world_opening.proofs.opening.open_edges.Goals as goal
+
+pub open_next-requires-after_bounds : goal.open_next-requires-after_bounds
+open_next-requires-after_bounds g c κs within = edge_room_at c.in-Some.ensures.steps.0 c.places.invariant.so c.requires.few
+
+pub returns-in-Err-clause-asked : goal.returns-in-Err-clause-asked
+returns-in-Err-clause-asked g c = edge_stopped_at c.in-Some.ensures.steps.0 c.places.invariant.so c.in-Err.ensures.places c.in-Err.ensures.address
+
+pub places-preserved : goal.places-preserved
+places-preserved g c = record {
+  so = edge_asks_at c.in-Some.ensures.steps.0 c.places.invariant.so c.in-Ok.ensures.places c.in-Ok.ensures.address c.in-Ok.ensures.faults_stay;
+  tells = search rules;
+  unread = c.in-Ok.ensures.unread c.places.invariant.unread;
+  held = edge_more g.W.In.Source.content c.in-Some.ensures.steps.0 c.places.invariant.held c.in-Ok.ensures.others c.in-Ok.ensures.held;
+  pairs = pairs_more g.W.In.Source.content _ _ _ _ _ _ _ c.in-Some.ensures.steps.0 c.places.invariant.pairs c.in-Ok.ensures.held;
+  count = search rules;
+}
+
+pub returns-clause-pairs : goal.returns-clause-pairs
+returns-clause-pairs g c = pairs_all _ _ _ (sym c.places.place-iterator.rest.ok.0 ∙ c.in-None.ensures.steps.0) c.places.invariant.pairs

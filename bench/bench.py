@@ -1,19 +1,22 @@
 #!/usr/bin/env python3
-"""Measures `gpsrelay decode` on made inputs, and gpsd's `gpsdecode` on the same bytes where it is installed.
+"""Measures `gpsrelay decode` on made inputs, and on the same bytes gpsd's `gpsdecode` where it is installed, and where `cc` is
+installed a C program that writes the same lines (decode.c, built with -O2).
 
     python3 bench/bench.py [PROGRAM] [ROUNDS]
 
 PROGRAM is the built program (default crates/gpsrelay/out/gpsrelay, which `rt run` leaves). The inputs are made
-by a fixed seed, so they are the same bytes everywhere. For each input the two programs run by turns, ROUNDS
+by a fixed seed, so they are the same bytes everywhere. For each input the programs run by turns, ROUNDS
 times (default 3), from a file to /dev/null, and the first two also into a pipe that another process drains; the best
 round counts. Printed: megabytes a processor second, nanoseconds a packet, processor seconds and peak memory (of which
-some 10 MB are this script's, from before the program begins), and the ratio of processor seconds where both ran. Only
-ratios of one run compare programs.
+some 10 MB are this script's, from before the program begins), the ratio of the other programs' processor seconds to gpsrelay's,
+and whether the C program wrote the same bytes. Only ratios of one run compare programs.
 """
+import filecmp
 import os
 import random
 import shutil
 import struct
+import subprocess
 import sys
 import tempfile
 import time
@@ -141,6 +144,24 @@ def made(make, path):
     return size, packets
 
 
+def built(folder):
+    """The C program, or None where there is no C compiler."""
+    compiler = shutil.which("cc")
+    if not compiler:
+        return None
+    program = os.path.join(folder, "decode")
+    subprocess.run([compiler, "-O2", "-o", program, os.path.join(TOP, "bench", "decode.c")], check=True)
+    return program
+
+
+def are_alike(one, other, path):
+    """Whether two commands write the same bytes; by files, so that this process stays small."""
+    for command, to in (one, f"{path}.1"), (other, f"{path}.2"):
+        with open(path, "rb") as given, open(to, "wb") as out:
+            subprocess.run(command, stdin=given, stdout=out, stderr=subprocess.DEVNULL, check=True)
+    return filecmp.cmp(f"{path}.1", f"{path}.2", shallow=False)
+
+
 def line(name, best, size, packets):
     wall, cpu, peak, status = best
     each = f"{1e9 * cpu / packets:7.0f} ns/packet" if packets else " " * 17
@@ -156,6 +177,9 @@ def main():
         commands["gpsdecode"] = [other]
     print(f"{os.cpu_count()} processors; best of {rounds} rounds, programs by turns")
     with tempfile.TemporaryDirectory() as folder:
+        written_in_c = built(folder)
+        if written_in_c:
+            commands["C program"] = [written_in_c]
         for (name, make), piped in [(it, False) for it in INPUTS] + [(it, True) for it in PIPED]:
             path = os.path.join(folder, "input")
             size, packets = made(make, path)
@@ -166,9 +190,12 @@ def main():
             print(f"{name}{', into a pipe' if piped else ''} ({size:,} bytes, {packets:,} packets)")
             for each in commands:
                 print(line(each, min(results[each]), size, packets))
-            if other:
-                ratio = min(r[1] for r in results["gpsdecode"]) / min(r[1] for r in results["gpsrelay"])
-                print(f"  ratio      {ratio:8.1f}")
+            own = min(r[1] for r in results["gpsrelay"])
+            for each in list(commands)[1:]:
+                print(f"  ratio      {min(r[1] for r in results[each]) / own:8.1f} {each}")
+            if written_in_c and packets and not piped:
+                same = are_alike(commands["gpsrelay"], [written_in_c], path)
+                print(f"  the C program's lines are {'the same' if same else 'others'}")
 
 
 if __name__ == "__main__":

@@ -4,6 +4,7 @@ device may do to it is tried. Every wait is bounded.
 
 Use: serve.py PROGRAM. Prints a line for each check, and ends with 1 if one fails.
 """
+import itertools
 import json
 import os
 import re
@@ -223,6 +224,22 @@ def devices():
     check("a device that is not there: status", 3, daemon.wait()[0])
 
 
+def bursts():
+    """Bursts that fill a lane many times over, each with silence behind it: a worker that calls its lanes empty too early leaves the rest."""
+    daemon, device = started()
+    watcher, asker = daemon.client(), daemon.client()
+    watcher.watching('{"nmea":true}')
+    asker.line()
+    for begun in range(0, 1500, 500):
+        burst = b"".join(second(t) for t in range(begun, begun + 500))
+        device.send(burst)
+        check("a device's burst is there before its next byte", burst, b"".join(itertools.islice(iter(watcher.line, None), 1000)))
+        asker.send(b"?VERSION;" * 2000)
+        check("a burst of requests is answered before the next one", [VERSION] * 2000, list(itertools.islice(iter(asker.line, None), 2000)))
+    device.end()
+    check("bursts: status", 0, daemon.wait()[0])
+
+
 def listening():
     with socket.create_server(("127.0.0.1", 0)) as taken:
         port = taken.getsockname()[1]
@@ -268,4 +285,4 @@ def idle():
 
 
 many_files()
-sys.exit(run_parts(a_day, forms, bad_clients, crowd, stuck_client, devices, listening, idle))
+sys.exit(run_parts(a_day, forms, bad_clients, crowd, stuck_client, devices, bursts, listening, idle))

@@ -173,10 +173,11 @@ def with_gpsd():
 
 
 class Fake:
-    """A server that sends these bytes to the first that connects, and then keeps the connection or closes it."""
+    """A server that sends these bytes to the first that connects, at once or one each `drip` seconds, and then keeps the connection or
+    closes it."""
 
-    def __init__(self, data=b"", keeps=True):
-        self.data, self.keeps = data, keeps
+    def __init__(self, data=b"", keeps=True, drip=0):
+        self.data, self.keeps, self.drip = data, keeps, drip
         self.listener = socket.create_server(("127.0.0.1", 0))
         self.listener.settimeout(WAIT)
         self.port = self.listener.getsockname()[1]
@@ -190,7 +191,9 @@ class Fake:
         try:
             if self.keeps or self.data:
                 self.asked = self.link.recv(4096)
-            self.link.sendall(self.data)
+            for piece in ([byte] for byte in self.data) if self.drip else [self.data]:
+                self.link.sendall(bytes(piece))
+                time.sleep(self.drip)
         except OSError:
             pass  # the daemon may close before it has taken all
         if not self.keeps:
@@ -226,6 +229,7 @@ def refusals():
     rows = [
         ("silence", "its answer was not whole within 10 seconds", HEAD_WAIT + 2, Fake()),
         ("half an answer", "its answer was not whole within 10 seconds", HEAD_WAIT + 2, Fake(VERSION + DEVICES)),
+        ("a byte of an answer each half second", "its answer was not whole within 10 seconds", HEAD_WAIT + 2, Fake(VERSION + DEVICES, drip=0.5)),
         ("a bad third line", none, 4, Fake(VERSION + DEVICES + b"HTTP/1.1 400 Bad Request\r\n")),
         ("closed in the answer", early, 4, Fake(VERSION + DEVICES[:20], keeps=False)),
         ("a long answer", none, 4, Fake(VERSION + long)),

@@ -1,5 +1,5 @@
 #!/usr/bin/env python3
-"""How the program's lines are written: few large writes while input stands ready, and each line at once when the receiver is slow.
+"""How the program's lines are written: few large writes while input stands ready, and all that is due before the program waits for input.
 
 Use: writes.py PROGRAM. Prints a line for each check, and ends with 1 if one fails. The counts of writes need strace; without it they are
 skipped, with a line that says so.
@@ -15,6 +15,8 @@ import time
 
 from checks import check, exit_status
 from packets import sentence
+from rows_decode import MADE
+from rows_text import EOE_FRAME, PVT_FRAME, RMC, at, fix, rmc_fix
 
 PROGRAM = os.path.abspath(sys.argv[1])
 SIZE = 8_000_000
@@ -84,6 +86,60 @@ def slow_feed():
     check("a sentence each 50 ms: the last line at the end", (1, 0), (rest.count(b"\n"), child.returncode))
 
 
+class Waiting:
+    """A command that reads a FIFO, which stays open."""
+
+    def __init__(self, command, folder):
+        path = os.path.join(folder, command)
+        os.mkfifo(path)
+        self.input = os.open(path, os.O_RDWR)
+        with open(path, "rb") as reading:
+            self.child = subprocess.Popen([PROGRAM, command], stdin=reading, stdout=subprocess.PIPE)
+        self.output = self.child.stdout.fileno()
+
+    def comes(self, seconds):
+        return bool(select.select([self.output], [], [], seconds)[0])
+
+    def gives(self, data, wanted):
+        """What comes of these bytes while nothing else does: as much as is wanted or what came in five seconds, and what follows at once."""
+        os.write(self.input, data)
+        found = b""
+        while len(found) < len(wanted) and self.comes(5):
+            found += os.read(self.output, 65536)
+        return found + (os.read(self.output, 65536) if self.comes(0.2) else b"")
+
+    def ends(self):
+        """What comes once the input is closed, and the status."""
+        os.close(self.input)
+        return self.child.communicate(timeout=30)[0], self.child.returncode
+
+
+def time_alone(clock):
+    """An RMC without a position, and its fix."""
+    body = f"GPRMC,{clock},V,,,,,,,230394,,"
+    return sentence(body), fix(1, at(f"1994-03-23T{clock[:2]}:{clock[2:4]}:{clock[4:]}.000Z"))
+
+
+def while_input_waits(folder):
+    """What is due of the bytes so far comes while the input is open and brings nothing more."""
+    (second, second_fix), (third, third_fix) = time_alone("123520"), time_alone("123521")
+    many = [time_alone(f"13{t // 60:02}{t % 60:02}") for t in range(500)]
+    sentences = MADE[0][3]  # of the fix of PVT_FRAME
+    reading = b"m0 notready 0 0\n"
+    for command, steps, last in (
+            ("decode", [("a sentence, whose epoch may go on", RMC, b""), ("the next second", second, rmc_fix()),
+                        ("a sentence without its last byte", third[:-1], b""), ("its last byte", third[-1:], second_fix),
+                        ("500 seconds", b"".join(given for given, _ in many), third_fix + b"".join(line for _, line in many[:-1]))], many[-1][1]),
+            ("pseudo", [("a frame, whose epoch may go on", PVT_FRAME, b""), ("the end of its epoch", EOE_FRAME, sentences),
+                        ("200 epochs", (PVT_FRAME + EOE_FRAME) * 200, sentences * 200)], b""),
+            ("replay", [("a reading", b"device g\nmonitor 0 0\nload 0 2\n", reading), ("a line without its end", b"load 0 2", b""),
+                        ("its end", b"\n", reading), ("3,000 readings", b"load 0 2\n" * 3_000, reading * 3_000)], b"")):
+        program = Waiting(command, folder)
+        for what, given, wanted in steps:
+            check(f"{command}, the input waits: {what}", wanted, program.gives(given, wanted))
+        check(f"{command}, the input ends: what is left, and the status", (last, 0), program.ends())
+
+
 def closed_output():
     reading, writing = os.pipe()
     os.close(reading)
@@ -109,6 +165,7 @@ def limit_of_history():
 
 with tempfile.TemporaryDirectory() as place:
     many_at_once(place)
+    while_input_waits(place)
 slow_feed()
 closed_output()
 full_disk()

@@ -45,7 +45,7 @@ fn forms_of_all(alloc: Global, reports: &[Report], names: &Names) -> Result<Vec<
     Ok(forms)
 }
 
-/// So many rows of the same forms, at least one; the last of them are the forms themselves.
+/// The given number of rows of the same forms, at least one; the last of them is the forms themselves.
 #[tactic(auto, using(crate::proofs::Walks::one_more_row))]
 fn rows_of(alloc: Global, forms: Vec<Forms>, shares: usize) -> Result<Vec<Row>, NoMemory>
     requires { 0 < shares }

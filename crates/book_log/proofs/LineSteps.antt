@@ -19,7 +19,7 @@ use Rattle.book_log.specs.History.{history, history_after}
 use Rattle.book_log.specs.Standing.{DeviceStateView, StandsAt, has_stopped, is_ended, is_lost}
 use Rattle.book_log.specs.Steps.{Ends, Goes, Loses, TakesSymbols, Took, announcement, unless_known}
 use Rattle.book_log.proofs.ReadingLaws.{first_of-append, last_of-append, or_none}
-use Rattle.book_log.proofs.Histories.{gains_are, given_own, has_end-append, has_lost-append, history-append, history_edge, history_piece, no_end_got, no_loss_got, same, stream-append, stream_after}
+use Rattle.book_log.proofs.Histories.{gains_are, given_own, has_end-append, has_lost-append, history-append, history_edge, history_piece, no_end_got, no_loss_got, same, stream-append, stream_after, stream_got}
 use Rattle.std.proofs.lemmas.List.Folds.{list_any-append}
 
 -- the last value among a device's reports, behind those of a log
@@ -57,6 +57,10 @@ goes_on d old new symbols stamp out reports at_first law runs took = record {
     fix = took.fix ∙ last_after fix_in d log (got d symbols) (bodies) old.fix (last_of fix_in out) (adds log was) was.fix (sym (no_fix_announced first out));
     sky = took.sky ∙ last_after sky_in d log (got d symbols) (bodies) old.sky (last_of sky_in out) (adds log was) was.sky (sym (no_sky_announced first out));
   };
+  device = λ still. (
+    ap has_stopped runs,
+    λ past stands. subst (DeviceStands new.kept) (ap (λ s. past ++ s) (sym (stream_got d symbols))) (took.stands past stands),
+  );
 }
   where
     first : Option Moment
@@ -121,6 +125,7 @@ goes_by_end d old new reports runs (out, closed) = record {
     fix = closed.fix ∙ last_after fix_in d log (ended d) (out ++ Device None ∷ []) old.fix (last_of fix_in out) (adds log was) was.fix (sym (no_fix_at_end out));
     sky = closed.sky ∙ last_after sky_in d log (ended d) (out ++ Device None ∷ []) old.sky (last_of sky_in out) (adds log was) was.sky (sym (no_sky_at_end out));
   };
+  device = λ still. stopped_for_good new.stage _ closed.stage refl still;
 }
   where
     adds : (log : List Entry) → StandsAt old d log → history_after log (ended d) ≡ of_device d (out ++ Device None ∷ [])
@@ -140,4 +145,5 @@ goes_by_loss d old new runs loses = record {
     fix = ap (λ l. l.fix) loses ∙ last_after fix_in d log (lost d) [] old.fix None refl was.fix refl;
     sky = ap (λ l. l.sky) loses ∙ last_after sky_in d log (lost d) [] old.sky None refl was.sky refl;
   };
+  device = λ still. stopped_for_good new.stage _ (ap (λ l. l.stage) loses) refl still;
 }

@@ -9,6 +9,7 @@ use Rattle.book_log.specs.DeviceLogView.{LogHolds, IsFresh, FollowsLog, runs, ru
 use Rattle.book_log.specs.Pieces.{LogView}
 use Rattle.book_log.specs.Turning.{shown}
 use Rattle.book_log.specs.Steps.{IsNew}
+use Rattle.book_log.proofs.SummarySteps.{all_stand_still}
 
 new_at : (line : DeviceStateView) (d : ℕ) → IsNew line → StandsAt line d []
 unfolding history_after
@@ -55,6 +56,7 @@ new_log opening present devices limit log same stands count runs stopped small l
       record {
         some = ([], subst P (sym same) stands);
         over = λ before was. new_over opening present limit log before same none was;
+        devices_go_on = all_stand_still opening present log.entries same none;
         symbols = ap symbols_in (sym none);
         few = omega arith;
         limit = limited;

@@ -16,7 +16,7 @@ use Rattle.book_log.specs.declared.device_stage.DeviceStage.TheVariants.{Running
 use Rattle.book_log.specs.Entries.{Entry, Got, GoesOn, IsLog, ended, got, has_end, has_lost, lost, stops_in, stream}
 use Rattle.book_log.specs.Readings.{fix_in, first_stamp, given_by, last_of, last_stamp, of_device, sky_in, stamp_at}
 use Rattle.book_log.specs.History.{history, history_after}
-use Rattle.book_log.specs.Standing.{DeviceStateView, StandsAt, StandsFor, DeviceStatesView, is_ended, is_lost}
+use Rattle.book_log.specs.Standing.{DeviceStateView, StandsAt, StandsFor, DeviceStatesView, DevicesGoOn, GoesOnBy, is_ended, is_lost}
 use Rattle.book_log.specs.Steps.{EndsAt, Goes, GoesAll, LosesAt, TakesAt}
 use Rattle.book_log.proofs.ReadingLaws.{last_of-append}
 use Rattle.book_log.proofs.Histories.{IsQuiet, given_other, has_end-append, has_lost-append, history-append, quiet_end, quiet_got, quiet_loss, stream-append}
@@ -75,6 +75,15 @@ stays d e line log entries bodies other quiet adds was = record {
   sky = last_stays sky_in d e log entries bodies line.sky other adds was.sky;
 }
 
+-- a device that was given nothing
+pub stands_still : (line : DeviceStateView) (symbols : List Symbol) → symbols ≡ [] → GoesOnBy line line symbols
+stands_still line symbols none = λ runs. (runs, λ past stands. subst (DeviceStands line.kept) (sym (ap (λ s. past ++ s) none ∙ append-nil past)) stands)
+
+pub all_stand_still : (old new : DeviceStatesView) (log : List Entry) → old ≡ new → log ≡ [] → DevicesGoOn old new log
+all_stand_still old new log same none = λ d free within.
+    let P : DeviceStatesView → Type 0 = λ o. GoesOnBy (get_or o.lines d free) (get_or new.lines d free) (stream d log) in
+    subst P (sym same) (stands_still (get_or new.lines d free) (stream d log) (ap (stream d) none))
+
 bool_cases : (b : Bool) → (b ≡ true) ⊎ (b ≡ false)
 bool_cases true = inl refl
 bool_cases false = inr refl
@@ -93,6 +102,8 @@ all_go old new d entries bodies reports next within are goes quiet own on stamps
         subst P (sym are) (line log was e free (subst (λ n. e < n) count inside));
     stamp = stamps log was;
   };
+  devices = λ e free inside. let P : List DeviceStateView → Type 0 = λ lines. GoesOnBy (get_or old.lines e free) (get_or lines e free) (stream e entries) in
+      subst P (sym are) (device e free);
   count = count;
 }
   where
@@ -114,6 +125,20 @@ all_go old new d entries bodies reports next within are goes quiet own on stamps
               let Q : DeviceStateView → Type 0 = λ l. StandsAt l e (log ++ entries) in
               subst Q (sym (get_or-set_other old.lines d e next free (λ (p : e ≡ d). eqb-false d e other (sym p))))
               (stays d e (get_or old.lines e free) log entries bodies other (quiet e other) (adds log was free ∙ own) (was.lines e free inside))
+        ]
+
+    device : (e : ℕ) (free : DeviceStateView) → GoesOnBy (get_or old.lines e free) (get_or (set old.lines d next) e free) (stream e entries)
+    device e free =
+        elim (bool_cases (nat_eq d e)) [
+          | inl same ↦
+              let is : d ≡ e = eqb-true d e same in
+              let P : ℕ → Type 0 = λ k. GoesOnBy (get_or old.lines k free) (get_or (set old.lines d next) k free) (stream k entries) in
+              let Q : DeviceStateView → Type 0 = λ l. GoesOnBy (get_or old.lines d free) l (stream d entries) in
+              subst P is (subst Q (sym (get_or-set_same old.lines d next free within)) (goes free).device)
+          | inr other ↦
+              let Q : DeviceStateView → Type 0 = λ l. GoesOnBy (get_or old.lines e free) l (stream e entries) in
+              subst Q (sym (get_or-set_other old.lines d e next free (λ (p : e ≡ d). eqb-false d e other (sym p))))
+              (stands_still (get_or old.lines e free) (stream e entries) (quiet e other).no_symbols)
         ]
 
 stamp_of_piece : (d : ℕ) (at : Moment) (bytes : List ℕ) → option_or (last_stamp (got d (piece at bytes))) (Some at) ≡ Some at

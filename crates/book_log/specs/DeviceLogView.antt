@@ -5,7 +5,7 @@ use Rattle.std.specs.List.{filter, list_all}
 use Rattle.gps_report.specs.declared.report.Report.{Report}
 use Rattle.book_log.specs.Entries.{Entry, symbols_in}
 use Rattle.book_log.specs.History.{history_after}
-use Rattle.book_log.specs.Standing.{DeviceStateView, DeviceStatesView, StandsFor, has_stopped}
+use Rattle.book_log.specs.Standing.{DeviceStateView, DeviceStatesView, DevicesGoOn, StandsFor, has_stopped}
 
 -- `opening` is of the log before this generation, `present` of that and the log since; `length` is that of this generation's history
 pub record DeviceLogView : Type 0 where
@@ -28,7 +28,7 @@ runs line = cond (has_stopped line.stage) false true
 abbrev pub running : DeviceStatesView → ℕ
 running summary = length (filter runs summary.lines)
 
--- a new generation begins before so many more symbols
+-- a new generation begins before the given number of further symbols
 abbrev pub turns_at : DeviceLogView → ℕ → Bool
 turns_at b more = nat_lt 0 b.symbols && nat_lt b.limit (b.symbols + more)
 
@@ -66,6 +66,7 @@ pub record FollowsLog (b : DeviceLogView) (before : List Entry) : Type 0 where
 pub record LogHolds (b : DeviceLogView) : Type 0 where
   pub some : (before : List Entry) × StandsFor b.opening before
   pub over : (before : List Entry) → StandsFor b.opening before → FollowsLog b before
+  pub devices_go_on : DevicesGoOn b.opening b.present b.log
   pub symbols : b.symbols ≡ symbols_in b.log
   pub few : b.symbols ≤ max b.limit 512
   pub limit : b.limit ≤ 33_554_432
@@ -74,7 +75,7 @@ pub record LogHolds (b : DeviceLogView) : Type 0 where
   pub devices : length b.present.lines ≤ 255
   pub generation : b.generation < 2 ^ 64
 
--- so many devices that were given nothing yet, and nothing else: the opening stands for the empty log
+-- this number of devices that were given nothing yet, and nothing else: the opening is a summary of the empty log
 pub record IsFresh (devices limit : ℕ) (b : DeviceLogView) : Type 0 where
   pub opening : StandsFor b.opening []
   pub present : StandsFor b.present []

@@ -3,6 +3,7 @@ use Rattle.std.specs.Prelude.{◌≡◌, ◌+◌, ◌≤◌, ℕ, List, [], ◌�
 use Rattle.book_log.specs.declared.log.LogEvent.{LogEvent}
 use Rattle.book_log.specs.declared.log.LogEvent.TheVariants.{Fed, Edged, Ended, Lost}
 use Rattle.book_log.specs.Entries.{Entry, edged, ended, fed, lost}
+use Rattle.gps_fixed.specs.Moment.{Moment}
 
 -- the entries, and for how many further events and bytes there is room
 pub record LogView : Type 0 where
@@ -36,3 +37,7 @@ entries_of (event ∷ events) bytes = called event bytes ++ entries_of events (d
 pub record Keeps (old new : LogView) (entries : List Entry) : Type 0 where
   pub entries_are : new.entries ≡ old.entries ++ entries
   pub room : old.room ≤ new.room + 1
+
+-- to the last event, which is of this device and this stamp, n bytes were added
+abbrev pub LengthensLast : ℕ → ℕ → Moment → List LogEvent → List LogEvent → Type 0
+LengthensLast d more at old new = (front : List LogEvent) × (count : ℕ) × (old ≡ front ++ Fed d count at ∷ []) × (new ≡ front ++ Fed d (count + more) at ∷ [])

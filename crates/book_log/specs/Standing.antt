@@ -1,6 +1,7 @@
 -- What is kept of a log, and for which logs it stands: those of which it keeps what later reports and replies need.
-use Rattle.std.specs.Prelude.{◌≡◌, ◌<◌, ℕ, Bool, true, false, List, Option, get_or, length}
+use Rattle.std.specs.Prelude.{◌≡◌, ◌<◌, ℕ, Bool, true, false, List, ◌++◌, Option, get_or, length}
 use Rattle.gps_fixed.specs.Moment.{Moment}
+use Rattle.gps_report.specs.declared.edge.Symbol.{Symbol}
 use Rattle.gps_report.specs.declared.fix.Fix.{Fix}
 use Rattle.gps_report.specs.declared.fix.Sky.{Sky}
 use Rattle.device_core.specs.Standing.{DeviceKept, StandsFor as DeviceStands}
@@ -50,3 +51,13 @@ pub record StandsFor (summary : DeviceStatesView) (log : List Entry) : Type 0 wh
   pub is_log : IsLog (length summary.lines) log
   pub lines : (d : ℕ) (free : DeviceStateView) → d < length summary.lines → StandsAt (get_or summary.lines d free) d log
   pub stamp : summary.stamp ≡ last_stamp log
+
+-- A device that runs has run before, and stands for each stream that it stood for then, followed by the symbols since.
+abbrev pub GoesOnBy : DeviceStateView → DeviceStateView → List Symbol → Type 0
+GoesOnBy old new symbols = has_stopped new.stage ≡ false
+    → (has_stopped old.stage ≡ false) × ((past : List Symbol) → DeviceStands old.kept past → DeviceStands new.kept (past ++ symbols))
+
+-- so does each device, by its symbols in this log
+abbrev pub DevicesGoOn : DeviceStatesView → DeviceStatesView → List Entry → Type 0
+DevicesGoOn old new log = (d : ℕ) (free : DeviceStateView) → d < length new.lines
+    → GoesOnBy (get_or old.lines d free) (get_or new.lines d free) (stream d log)

@@ -12,9 +12,9 @@ use Rattle.device_core.specs.Reports.{device_close, Gains}
 use Rattle.device_core.specs.Standing.{StandsFor as DeviceStands}
 use Rattle.book_log.specs.declared.device_stage.DeviceStage.TheVariants.{Running, Ended, Lost}
 use Rattle.book_log.specs.Readings.{fix_in, last_of, of_device, sky_in}
-use Rattle.book_log.specs.Entries.{Entry}
+use Rattle.book_log.specs.Entries.{Entry, stream}
 use Rattle.book_log.specs.History.{history_after}
-use Rattle.book_log.specs.Standing.{DeviceStateView, StandsAt, StandsFor, DeviceStatesView}
+use Rattle.book_log.specs.Standing.{DeviceStateView, StandsAt, StandsFor, DeviceStatesView, DevicesGoOn, GoesOnBy}
 
 abbrev pub announcement : Option Moment → List Body
 announcement None = []
@@ -33,7 +33,7 @@ pub record IsNew (line : DeviceStateView) : Type 0 where
   pub fix : line.fix ≡ None
   pub sky : line.sky ≡ None
 
--- at most so many reports come of a piece, and of an edge, which has no stamp
+-- how many reports come at most of a piece, and of an edge, which has no stamp
 abbrev pub most_reports : Option Moment → List Symbol → ℕ
 most_reports (Some at) symbols = 2056 + length symbols
 most_reports None symbols = 1
@@ -91,9 +91,11 @@ pub record LosesAt (old new : DeviceStatesView) (d : ℕ) : Type 0 where
 pub record Goes (d : ℕ) (old new : DeviceStateView) (entries : List Entry) (reports : List Report) : Type 0 where
   pub adds : (log : List Entry) → StandsAt old d log → history_after log entries ≡ reports
   pub stands : (log : List Entry) → StandsAt old d log → StandsAt new d (log ++ entries)
+  pub device : GoesOnBy old new (stream d entries)
 
 -- all lines go on from every log that they stood for
 pub record GoesAll (old new : DeviceStatesView) (entries : List Entry) (reports : List Report) : Type 0 where
   pub adds : (log : List Entry) → StandsFor old log → history_after log entries ≡ reports
   pub stands : (log : List Entry) → StandsFor old log → StandsFor new (log ++ entries)
+  pub devices : DevicesGoOn old new entries
   pub count : length new.lines ≡ length old.lines

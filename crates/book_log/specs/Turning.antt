@@ -30,7 +30,7 @@ abbrev pub log_of : Option Generation → LogView → LogView
 log_of (Some g) log = g.log
 log_of None log = log
 
--- room for one event more than so many, and for bytes
+-- room for `count` events and one more, and for bytes
 pub record IsReady (count bytes : ℕ) (log : LogView) : Type 0 where
   pub events : count + 1 ≤ log.room
   pub spare : bytes ≤ log.spare

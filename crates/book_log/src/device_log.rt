@@ -43,7 +43,7 @@ impl Model for DeviceLog {
 }
 
 impl DeviceLog {
-    /// So many devices that were given nothing yet, an empty log, and room for an end or a loss of each device. A generation holds at
+    /// The given number of devices that were given nothing yet, an empty log, and room for an end or a loss of each device. A generation holds at
     /// most `limit` symbols, or those of one call where that is more.
     pub fn new(alloc: Global, devices: u8, limit: u32) -> Result<DeviceLog, NoMemory>
         requires { limit ≤ 33_554_432 }
@@ -197,13 +197,6 @@ impl DeviceLog {
     {
         self.present.lose(device);
         self.current.log.push_loss(device);
-    }
-
-    /// How many devices there are.
-    pub fn devices(&self) -> usize
-        ensures { result ≡ length self.now.present.lines }
-    {
-        self.present.len()
     }
 
     /// Whether a device has ended or was lost, or does not exist.

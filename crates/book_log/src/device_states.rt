@@ -31,7 +31,7 @@ impl Model for DeviceStates {
 }
 
 impl DeviceStates {
-    /// So many devices that were given nothing yet.
+    /// The given number of devices that were given nothing yet.
     #[tactic(auto, using(crate::proofs::NewLines::new_run, crate::proofs::NewLines::all_more))]
     pub fn new(alloc: Global, count: u8) -> Result<DeviceStates, NoMemory>
         ensures count { IfOk result (λ lines. length lines.lines ≡ count) }

@@ -43,7 +43,7 @@ fn newer_sky(body: &Body, before: Option<Sky>) -> Result<Option<Sky>, NoMemory>
     }
 }
 
-/// Room for so many reports, and in it the announcement of a first byte, where there is one.
+/// Room for the given number of reports, and in it the announcement of a first byte, where there is one.
 fn begun(
     alloc: Global,
     device: u8,

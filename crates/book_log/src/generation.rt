@@ -16,7 +16,7 @@ pub struct Generation {
     pub(crate) symbols: u32,
 }
 
-/// Whether a new generation begins before so many more symbols.
+/// Whether a new generation begins before `more` further symbols.
 pub fn turns_due(symbols: u32, limit: u32, more: u32) -> bool
     requires { more ≤ 512 }
     ensures { result ≡ (nat_lt 0 symbols && nat_lt limit (symbols + more)) }
@@ -24,7 +24,7 @@ pub fn turns_due(symbols: u32, limit: u32, more: u32) -> bool
     0 < symbols && u64::from(limit) < u64::from(symbols) + u64::from(more)
 }
 
-/// Takes what a call with so many bytes will need: where a turn is due the next generation, which opens with copies of the devices; and
+/// Takes what a call with the given number of bytes will need: where a turn is due the next generation, which opens with copies of the devices; and
 /// room in the log that the call goes to, beside one event for each device's end or loss.
 pub fn prepared(
     alloc: Global,

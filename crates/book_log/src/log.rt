@@ -1,14 +1,14 @@
-ghost use Rattle.std.specs.Prelude.{◌≡◌, ◌≤◌, ◌<◌, ◌+◌, ◌++◌, [], IfOk, OnOk, length};
+ghost use Rattle.std.specs.Prelude.{◌≡◌, ◌≤◌, ◌<◌, ◌+◌, ◌++◌, true, false, [], IfOk, OnOk, length};
 ghost use Rattle.std.specs.Vec.{vec_len, vec_capacity};
 ghost use Rattle.book_log.specs.Entries.{edged, ended, fed, lost};
-ghost use Rattle.book_log.specs.Pieces.{Keeps};
+ghost use Rattle.book_log.specs.Pieces.{Keeps, LengthensLast};
 
 use gps_fixed::{NoMemory, Stamp};
 use gps_report::{Edge, EdgeKind};
 use std::alloc::Global;
 use std::marker::Model;
 
-/// What came of a device: so many bytes at one stamp, a pulse edge, its end or its loss. It takes 24 bytes.
+/// What came of a device: bytes at one stamp, by their number, a pulse edge, its end or its loss. It takes 24 bytes.
 #[derive(Clone, Copy, Debug, PartialEq, Eq)]
 pub enum LogEvent {
     Fed {
@@ -45,6 +45,41 @@ impl Model for Log {
     ghost invariant = { λ l. byte_count l.events.items ≡ length l.bytes.items };
 }
 
+/// To an event of at most this many bytes those of one more piece can be added, so that 16 bits still hold their number.
+const MOST_BEFORE: u16 = 65_023;
+
+/// Adds bytes to the last event, where that is of the same device and the same stamp: pieces of few bytes that come at one stamp
+/// take one event together.
+fn lengthens(events: &mut Vec<LogEvent>, device: u8, at: Stamp, more: u16) -> bool
+    requires { more ≤ 512 }
+    ensures joined { result ≡ true → LengthensLast device more at events.old.items events.new.items }
+    ensures apart { result ≡ false → events.new.items ≡ events.old.items }
+    ensures capacity { vec_capacity events.new ≡ vec_capacity events.old }
+    ensures len { vec_len events.new ≡ vec_len events.old }
+{
+    let events_so_far = events.len();
+    if events_so_far == 0 {
+        return false;
+    }
+    let LogEvent::Fed {
+        device: last,
+        count,
+        at: since,
+    } = events[events_so_far - 1]
+    else {
+        return false;
+    };
+    if last != device || since != at || count > MOST_BEFORE {
+        return false;
+    }
+    events[events_so_far - 1] = LogEvent::Fed {
+        device,
+        count: count + more,
+        at,
+    };
+    true
+}
+
 /// Adds bytes for which there is room.
 fn extend_reserved(bytes: &mut Vec<u8>, more: &[u8])
     requires { vec_len bytes.old + length more.now ≤ vec_capacity bytes.old }
@@ -55,7 +90,7 @@ fn extend_reserved(bytes: &mut Vec<u8>, more: &[u8])
 }
 
 impl Log {
-    /// An empty log with room for so many events and bytes.
+    /// An empty log with room for the given numbers of events and bytes.
     pub fn with_room(alloc: Global, events: usize, bytes: usize) -> Result<Log, NoMemory>
         ensures entries { IfOk result (λ log. log.entries ≡ []) }
         ensures room { IfOk result (λ log. events ≤ log.room) }
@@ -66,7 +101,7 @@ impl Log {
         Ok(Log { events, bytes })
     }
 
-    /// Makes room for so many further events and bytes.
+    /// Makes room for the given numbers of further events and bytes.
     pub fn reserve(&mut self, events: usize, bytes: usize) -> Result<(), NoMemory>
         ensures entries { self.new.entries ≡ self.old.entries }
         ensures kept { self.old.room ≤ self.new.room }
@@ -88,6 +123,9 @@ impl Log {
     {
         let count = bytes.len() as u16;
         extend_reserved(&mut self.bytes, bytes);
+        if lengthens(&mut self.events, device, at, count) {
+            return;
+        }
         self.events
             .push_reserved(LogEvent::Fed { device, count, at });
     }

@@ -33,7 +33,7 @@ policy_of known names policy (request ∷ requests) zero other within = refl
 policy_of known names policy (request ∷ requests) (suc k) other within =
     policy_of known names (policy_with policy request) requests k other (omega arith)
 
--- all of the first requests, and so many of the others
+-- all of the first requests, and k of the others
 joined : (before requests : List RawCommand) (k : ℕ)
     → policy_at (length before + k) (before ++ requests) ≡ fold policy_with (policy_at (length before) before) (take k requests)
 joined before requests k =

@@ -1,3 +1,4 @@
 pub mod ReplyDataView
 pub mod Laws
 pub mod Replies
+pub mod Polling

@@ -18,7 +18,7 @@ pub record ReplyDataView : Type 0 where
 abbrev pub active_count : ReplyDataView → ℕ
 active_count known = count_by is_some known.firsts
 
--- reports of so many devices
+-- reports of the given number of devices
 abbrev pub AreOfDevices : ℕ → List Report → Type 0
 AreOfDevices devices reports = list_all (λ report. nat_lt report.device devices) reports ≡ true
 

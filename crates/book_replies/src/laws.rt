@@ -1,6 +1,7 @@
 //! The laws of answers, as contracts of functions that do nothing.
 
 ghost use Rattle.book_replies.specs.Laws.{AnswersJoin, HasPolicyAfter, OneForEach};
+ghost use Rattle.book_replies.specs.Polling.{PollsAloneShowReports};
 
 /// Each request has one answer, and the answers go on over joined requests, with the policy that the first
 /// ones left.
@@ -14,4 +15,10 @@ pub fn answers_go_on()
 #[tactic(auto, using(crate::proofs::Joined::has_policy_after))]
 pub fn policies_are_those_after()
     ensures { HasPolicyAfter }
+{}
+
+/// Where no request is `?POLL`, the answers are the same without the last fixes and skies of the devices.
+#[tactic(auto, using(crate::proofs::Polls::polls_alone))]
+pub fn polls_alone_show_reports()
+    ensures { PollsAloneShowReports }
 {}

@@ -4,8 +4,10 @@
 
 mod answering;
 mod laws;
+mod polling;
 mod reply_data;
 
 pub use answering::{Answer, answers, opening_reply};
-pub use laws::{answers_go_on, policies_are_those_after};
+pub use laws::{answers_go_on, policies_are_those_after, polls_alone_show_reports};
+pub use polling::may_poll;
 pub use reply_data::ReplyData;

@@ -4,7 +4,6 @@ use Rattle.std.specs.List.{list_any}
 use Rattle.std.proofs.lemmas.Bool.{cases_lt, ne_eqb, leb-true, leb-false, le-leb, lt-leb}
 use Rattle.gps_command.specs.declared.request.RawCommand.{RawCommand}
 use Rattle.gps_command.specs.Kept.{CommandCutterView}
-use Rattle.gps_command.specs.Kept as input
 use Rattle.gps_report.specs.declared.policy.Policy.{Policy}
 use Rattle.gps_report.specs.declared.report.Report.{Report}
 use Rattle.book_replies.specs.declared.answering.Answer.{Answer}
@@ -22,8 +21,8 @@ use Rattle.session_core.specs.Stretches.{Stretch}
 use Rattle.session_core.specs.Holding.{Selection, Holding, SessionGains}
 use Rattle.session_core.proofs.Gaining as gaining
 use Rattle.book_sessions.proofs.Receiving.{gains_on}
-use Rattle.book_sessions.specs.MemberView.{MemberView, cutter_left, rested}
-use Rattle.book_sessions.specs.Answering.{PutsAnswers, Causes, Either, Inputs, MayAnswer, Puts, Stops, enables, raised, ended, mark_at, most_requests, put, stretch_at}
+use Rattle.book_sessions.specs.MemberView.{MemberView, cutter_left, rested, with_cutter}
+use Rattle.book_sessions.specs.Answering.{AnswersCut, PutsAnswers, Causes, Either, Inputs, IsCut, MayAnswer, Puts, Stops, enables, raised, ended, mark_at, most_requests, put, stretch_at}
 
 -- the place of the last mark is that of the mark that was added
 pub last_place_push : (from : ℕ) (marks : List Mark) (mark : Mark) → last_place from (marks ++ mark ∷ []) ≡ mark.place
@@ -83,7 +82,7 @@ module _ (exact : Bool) (place : ℕ) where
         subst P (sym (append-nil stretches)) (gains lines history stretches at holding);
   }
 
-  none_put : (old : MemberView) → Puts place old old []
+  pub none_put : (old : MemberView) → Puts place old old []
   none_put old = still_put old old.session refl refl refl refl refl refl refl (λ lines history stretches at holding.
       record { kept = sym (append-nil old.session.kept); items = sym (append-nil _); holding = holding })
 
@@ -199,23 +198,20 @@ module _ (exact : Bool) (place : ℕ) where
   answers_end (answer ∷ rest) old new is_open marked steps =
       ends_step answer rest old new is_open marked (λ mid still some steps'. answers_end rest mid new still some steps') (nat_le most_requests old.session.requests) refl steps
 
--- A piece of input: the cutter and the room were put in place, the answers put, and a closed session gave up its input.
-pub input_done : (exact : Bool) (known : ReplyDataView) (names : List (List ℕ)) (place : ℕ) (piece : List ℕ) (requests : List RawCommand) (cutter : CommandCutterView) (spare : ℕ)
+-- Requests that were cut: the cutter and the room were put in place, the answers put, and a closed session gave up its input.
+pub answers_done : (exact : Bool) (known : ReplyDataView) (names : List (List ℕ)) (place : ℕ) (requests : List RawCommand) (cutter : CommandCutterView) (spare : ℕ)
     (old next new : MemberView) → old.session.closing ≡ None → 0 < length old.session.marks
-    → ((bytes : List ℕ) → input.StandsFor old.cutter bytes → input.Gains bytes piece requests × input.StandsFor cutter (bytes ++ piece))
     → PutsAnswers exact place (record old { session = record old.session { spare = spare }; cutter = cutter }) (answered known names old.session.policy requests) next
     → length (answered known names old.session.policy requests) ≡ length requests
-    → new ≡ rested next → Inputs exact known names place piece old new
-input_done exact known names place piece requests cutter spare old next new is_open marked gains steps each now =
+    → new ≡ rested next → AnswersCut exact known names place requests cutter old new
+answers_done exact known names place requests cutter spare old next new is_open marked steps each now =
     let mid : MemberView = record old { session = record old.session { spare = spare }; cutter = cutter } in
     let ends = answers_end exact place (answered known names old.session.policy requests) mid next is_open marked steps in
     let puts = ends.puts in
-    let P : MemberView → Type 0 = λ a. Inputs exact known names place piece old a in
+    let P : MemberView → Type 0 = λ a. AnswersCut exact known names place requests cutter old a in
     let S : ℕ → Type 0 = λ n. Stops place (n - ends.count) next.session next.session.closing in
     subst P (sym now) (record {
-      requests = requests;
-      gains = λ bytes stands. (gains bytes stands).0;
-      cutter = λ bytes stands still. ap (λ c. cutter_left c next.cutter) still ∙ ends.cutter ∙ (gains bytes stands).1;
+      goes_on = λ still. ap (λ c. cutter_left c next.cutter) still ∙ ends.cutter;
       count = ends.count;
       few = omega (arith, ends.few, each);
       puts = record {
@@ -236,20 +232,67 @@ input_done exact known names place piece requests cutter spare old next new is_o
     })
 
 -- the same over what the calls of `input` gave
-pub input_put : (exact : Bool) (known : ReplyDataView) (names : List (List ℕ)) (place : ℕ) (piece : List ℕ) (requests asked : List RawCommand) (cutter cut : CommandCutterView) (spare : ℕ)
+pub answers_put : (exact : Bool) (known : ReplyDataView) (names : List (List ℕ)) (place : ℕ) (requests asked : List RawCommand) (cutter cut : CommandCutterView) (spare : ℕ)
     (policy : Policy) (replies : List Answer) (roomy : SessionView) (old next new : MemberView) → old.session.closing ≡ None → 0 < length old.session.marks
-    → ((bytes : List ℕ) → input.StandsFor old.cutter bytes → input.Gains bytes piece requests × input.StandsFor cutter (bytes ++ piece))
     → roomy ≡ record old.session { spare = spare } → cut ≡ cutter → policy ≡ old.session.policy → asked ≡ requests → replies ≡ answered known names policy asked
     → PutsAnswers exact place (record { session = roomy; cutter = cut; watched = old.watched }) replies next
-    → new ≡ rested next → Inputs exact known names place piece old new
-input_put exact known names place piece requests asked cutter cut spare policy replies roomy old next new is_open marked gains room cuts policy_is asks replied steps now =
+    → new ≡ rested next → AnswersCut exact known names place requests cutter old new
+answers_put exact known names place requests asked cutter cut spare policy replies roomy old next new is_open marked room cuts policy_is asks replied steps now =
     let mid : MemberView = record old { session = record old.session { spare = spare }; cutter = cutter } in
     let all : replies ≡ answered known names old.session.policy requests = replied ∙ ap (λ p. answered known names p asked) policy_is ∙ ap (answered known names old.session.policy) asks in
     let P : MemberView → Type 0 = λ a. PutsAnswers exact place a replies next in
     let Q : List Answer → Type 0 = λ l. PutsAnswers exact place mid l next in
     let same : record { session = roomy; cutter = cut; watched = old.watched } ≡ mid =
     ap (λ (s : SessionView). record { session = s; cutter = cut; watched = old.watched }) room ∙ ap (λ (k : CommandCutterView). record old { session = record old.session { spare = spare }; cutter = k }) cuts in
-    input_done exact known names place piece requests cutter spare old next new is_open marked gains (subst Q all (subst P same steps)) (one_for_each known names old.session.policy requests) now
+    answers_done exact known names place requests cutter spare old next new is_open marked (subst Q all (subst P same steps)) (one_for_each known names old.session.policy requests) now
+
+-- a piece of input is heard: what is known, in full, gives the same answers
+pub heard : (exact : Bool) (known full : ReplyDataView) (names : List (List ℕ)) (place : ℕ) (piece : List ℕ) (requests : List RawCommand) (cutter : CommandCutterView) (old new : MemberView)
+    → IsCut piece old requests cutter → answered known names old.session.policy requests ≡ answered full names old.session.policy requests
+    → AnswersCut exact known names place requests cutter old new → Inputs exact full names place piece old new
+heard exact known full names place piece requests cutter old new cut same answers =
+    let P : List Answer → Type 0 = λ l. Puts place old new (take answers.count l) in
+    record {
+      requests = requests;
+      gains = λ bytes stands. (cut bytes stands).0;
+      cutter = λ bytes stands still. answers.goes_on still ∙ (cut bytes stands).1;
+      count = answers.count;
+      few = answers.few;
+      puts = subst P same answers.puts;
+      stops = answers.stops;
+      room = answers.room;
+    }
+
+-- one that ends no request
+pub heard_on : (exact : Bool) (full : ReplyDataView) (names : List (List ℕ)) (place : ℕ) (piece : List ℕ) (requests : List RawCommand) (cutter : CommandCutterView) (old new : MemberView)
+    → IsCut piece old requests cutter → requests ≡ [] → old.session.closing ≡ None → new ≡ with_cutter cutter old → Inputs exact full names place piece old new
+unfolding answered
+heard_on exact full names place piece requests cutter old new cut none is_open now =
+    let P : MemberView → Type 0 = λ a. Inputs exact full names place piece old a in
+    let C : List RawCommand → Type 0 = λ r. IsCut piece old r cutter in
+    let S : Option (ℕ × Close) → Type 0 = λ c. Stops place 0 old.session c in
+    let cuts = subst C none cut in
+    let puts = none_put exact place old in
+    subst P (sym now) (record {
+      requests = [];
+      gains = λ bytes stands. (cuts bytes stands).0;
+      cutter = λ bytes stands still. (cuts bytes stands).1;
+      count = 0;
+      few = omega arith;
+      puts = record {
+        kept = puts.kept;
+        marks = puts.marks;
+        policy = puts.policy;
+        watched = puts.watched;
+        requests = puts.requests;
+        items = puts.items;
+        name = puts.name;
+        cap = puts.cap;
+        gains = puts.gains;
+      };
+      stops = subst S (sym is_open) refl;
+      room = λ some. absurd (omega (arith, some));
+    })
 
 -- whether it is watched for the first time
 pub watched_now : (old new : MemberView) (added : Bool) (more : Bool) → new.watched ≡ (old.watched || added) → more ≡ (not old.watched && new.watched) → new.watched ≡ (old.watched || more)

@@ -5,11 +5,11 @@ use Rattle.std.proofs.lemmas.Bool.{false≢true}
 use Rattle.gps_report.specs.declared.report.Report.{Report}
 use Rattle.session_core.specs.declared.mark.Close.{Close}
 use Rattle.book_batch.specs.Lines.{line_for}
-use Rattle.book_sessions.specs.MemberView.{MemberView, is_open, listens, renewed, with_kept}
+use Rattle.book_sessions.specs.MemberView.{MemberView, is_open, listens, renewed}
 use Rattle.book_sessions.specs.Roster.{AreListening, Changes, Closes, IsOpenAt, IsRoster, shut_at, shut_by}
 use Rattle.book_sessions.specs.Spreading.{Reported, ReportsBy, Spreads}
 use Rattle.book_sessions.specs.Walks.{numbers, Walks, passes_at}
-use Rattle.book_sessions.proofs.Rosters.{numbers_map, numbers_zip, open_is, renewed_open, shuts_each, spread_same, turned_map}
+use Rattle.book_sessions.proofs.Rosters.{LeavesMarks, numbers_map, numbers_zip, open_is, renewed_open, shuts_each, spread_same, turned_map}
 use Rattle.book_sessions.proofs.Walking.{numbers_left, numbers_stay}
 use Rattle.book_sessions.proofs.Zips.{zip_set, zip_weaker}
 
@@ -94,11 +94,11 @@ pub listening_turned : (live recent listening : List ℕ) (watched : ℕ) (old n
 listening_turned live recent listening watched old new roster ones walks =
     ones ∙ sym (ap (numbers listens 0) (turned_map live recent watched old new roster walks) ∙ numbers_map listens listens_still 0 old)
 
--- of one session other items are kept
-pub listening_kept : (listening : List ℕ) (s : ℕ) (kept : MemberView → List (List ℕ)) (next : MemberView) (old new : List MemberView) → AreListening listening old
-    → new ≡ set old s next → ((free : MemberView) → next ≡ with_kept (kept (get_or old s free)) (get_or old s free)) → AreListening listening new
-listening_kept listening s kept next old new ones becomes now =
-    let same : AllZip (λ a b. listens b ≡ listens a) old (set old s next) = zip_set (λ a b. listens b ≡ listens a) (λ a. refl) old s next (λ free. ap listens (now free)) in
+-- of one session the marks, the policy and the closing stayed
+pub listening_left : (listening : List ℕ) (s : ℕ) (f : MemberView → MemberView) (next : MemberView) (old new : List MemberView) → LeavesMarks f → AreListening listening old
+    → new ≡ set old s next → ((free : MemberView) → next ≡ f (get_or old s free)) → AreListening listening new
+listening_left listening s f next old new leaves ones becomes now =
+    let same : AllZip (λ a b. listens b ≡ listens a) old (set old s next) = zip_set (λ a b. listens b ≡ listens a) (λ a. refl) old s next (λ free. ap listens (now free) ∙ leaves.listening (get_or old s free)) in
     ones ∙ sym (ap (numbers listens 0) becomes ∙ numbers_zip listens 0 old (set old s next) same)
 
 pub is_nil : (ns : List ℕ) → length ns ≡ 0 → ns ≡ []

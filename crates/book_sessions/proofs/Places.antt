@@ -1,5 +1,5 @@
 -- Which places are behind all marks after a call, and what a new session holds.
-use Rattle.std.proofs.Common.{◌≡◌, ◌<◌, ◌≤◌, ℕ, Bool, List, [], ◌∷◌, ◌++◌, length, map, get_or, set, take, Option, Some, None, refl, sym, ap, subst, arith}
+use Rattle.std.proofs.Common.{◌≡◌, ◌<◌, ◌≤◌, ℕ, Bool, List, [], ◌∷◌, ◌++◌, length, map, get_or, set, take, Option, Some, None, Result, Ok, Err, OnOk, refl, sym, ap, subst, arith}
 use Rattle.std.specs.List.{AllZip}
 use Rattle.std.proofs.lemmas.List.Elements.{All-cons, All-head, All-map, All-push, All-set, All-tail}
 use Rattle.session_core.specs.declared.mark.Close.{Close}
@@ -10,12 +10,14 @@ use Rattle.session_core.specs.Holding.{Selection, Holding}
 use Rattle.session_core.proofs.Gaining as gaining
 use Rattle.gps_report.specs.declared.report.Report.{Report}
 use Rattle.gps_report.specs.declared.policy.Policy.{Policy}
+use Rattle.gps_command.specs.Kept.{CommandCutterView}
+use Rattle.gps_command.specs.declared.request.RawCommand.{RawCommand}
 use Rattle.book_replies.specs.declared.answering.Answer.{Answer}
 use Rattle.book_replies.specs.ReplyDataView.{ReplyDataView}
 use Rattle.book_replies.specs.Replies.{answered, opening_reply}
 use Rattle.session_core.specs.Naming.{OutletName}
-use Rattle.book_sessions.specs.MemberView.{MemberView, opened, renewed}
-use Rattle.book_sessions.specs.Answering.{Inputs, mark_at}
+use Rattle.book_sessions.specs.MemberView.{MemberView, opened, renewed, with_cutter}
+use Rattle.book_sessions.specs.Answering.{AnswersCut, mark_at}
 use Rattle.book_sessions.specs.Roster.{Changes, Closes, IsAfterAll, Shuts, ShutsBy}
 use Rattle.book_sessions.specs.Spreading.{ReportsBy, Spreads}
 use Rattle.book_sessions.proofs.Zips.{zip_set, zip_weaker}
@@ -34,17 +36,30 @@ last_added place later from [] [] low fits = fits
 last_added place later from [] (answer ∷ answers) low fits = last_added place later place [] answers low low
 last_added place later from (mark ∷ marks) answers low fits = last_added place later mark.place marks answers low fits
 
-pub after_input : (exact : Bool) (known : ReplyDataView) (names : List (List ℕ)) (place s : ℕ) (piece : List ℕ) (old new : List MemberView)
-    → Changes s (Inputs exact known names place piece) old new → s < length old → (later : ℕ) → place ≤ later → IsAfterAll later old → IsAfterAll later new
-after_input exact known names place s piece old new changed within later low after =
+pub after_input : (exact : Bool) (known : ReplyDataView) (names : List (List ℕ)) (place s : ℕ) (requests : List RawCommand) (cutter : CommandCutterView) (old new : List MemberView)
+    → Changes s (AnswersCut exact known names place requests cutter) old new → s < length old → (later : ℕ) → place ≤ later → IsAfterAll later old → IsAfterAll later new
+after_input exact known names place s requests cutter old new changed within later low after =
     let next = changed.0 in
     let Fits : MemberView → Type 0 = λ a. last_place 0 a.session.marks ≤ later in
-    let inputs = changed.2 next in
+    let answers = changed.2 next in
     let Q : List Mark → Type 0 = λ m. last_place 0 m ≤ later in
     let P : List MemberView → Type 0 = λ l. IsAfterAll later l in
     let x = get_or old s next in
     subst P (sym changed.1) (All-set Fits old s next
-    (subst Q (sym inputs.puts.marks) (last_added place later 0 x.session.marks (take inputs.count (answered known names x.session.policy inputs.requests)) low (after s next within))) after)
+    (subst Q (sym answers.puts.marks) (last_added place later 0 x.session.marks (take answers.count (answered known names x.session.policy requests)) low (after s next within))) after)
+
+pub after_going_on : (s : ℕ) (cutter : CommandCutterView) (old new : List MemberView) → Changes s (λ a b. b ≡ with_cutter cutter a) old new
+    → (later : ℕ) → IsAfterAll later old → IsAfterAll later new
+after_going_on s cutter old new changed later after =
+    let P : List MemberView → Type 0 = λ l. IsAfterAll later l in
+    subst P (sym changed.1) (after_zip later old (set old s changed.0)
+    (zip_set (λ a b. b.session.marks ≡ a.session.marks) (λ a. refl) old s changed.0 (λ free. ap (λ (a : MemberView). a.session.marks) (changed.2 free))) after)
+
+-- a call of one session, which may refuse
+pub changed_at : {X E : Type 0} (R : MemberView → MemberView → Type 0) (s : ℕ) (old : List MemberView) (was next : MemberView) (result : Result X E)
+    → ((free : MemberView) → was ≡ get_or old s free) → OnOk result (R was next) → OnOk result (Changes s R old (set old s next))
+changed_at R s old was next (Ok x) got becomes = (next, refl, λ free. let P : MemberView → Type 0 = λ a. R a next in subst P (got free) becomes)
+changed_at R s old was next (Err e) got becomes = tt
 
 pub after_close : (place s : ℕ) (why : Close) (old new : List MemberView) → Changes s (Closes place why) old new → (later : ℕ) → IsAfterAll later old → IsAfterAll later new
 after_close place s why old new changed later after =

@@ -14,7 +14,7 @@ use Rattle.gps_report.specs.declared.report.Report.{Report}
 use Rattle.gps_report.specs.declared.policy.Policy.{Policy}
 use Rattle.watch_policy.specs.Selection.{body_form, selected, watches}
 use Rattle.book_batch.specs.Lines.{line_for, line_in}
-use Rattle.book_sessions.specs.MemberView.{MemberView, closed, cutter_left, is_open, listens, renewed, with_kept}
+use Rattle.book_sessions.specs.MemberView.{MemberView, closed, cutter_left, is_open, listens, renewed, with_cutter, with_kept}
 use Rattle.book_sessions.specs.Roster.{AreListening, Closes, IsAtRest, IsOpenAt, IsRoster, Shuts, ShutsBy, MemberTurns, live_in, most_live, most_opened, shut_at, shut_by, was_watched}
 use Rattle.book_sessions.specs.Spreading.{Due, ReportsBy, Spreads, TakesDue, Unreported, cutter_by, due, due_at}
 use Rattle.book_sessions.specs.Walks.{numbers, Walks, passes_at}
@@ -48,8 +48,28 @@ later_by a b same = record {
   rest = λ rest. let P : MemberView → Type 0 = λ x. IsAtRest x in subst P (sym (same (rest_is_closed a rest))) rest;
 }
 
-later_kept : (a : MemberView) (kept : List (List ℕ)) → IsLater a (with_kept kept a)
-later_kept a kept = record { closed = λ is. is; rest = λ rest. record { marks = rest.marks; answered = rest.answered; closing = rest.closing } }
+-- what a call makes of a session, where its marks, its policy and its closing stay
+pub record LeavesMarks (f : MemberView → MemberView) : Type 0 where
+  pub later : (a : MemberView) → IsLater a (f a)
+  pub watched : (a : MemberView) → (f a).watched ≡ a.watched
+  pub opens : (a : MemberView) → is_open (f a) ≡ is_open a
+  pub listening : (a : MemberView) → listens (f a) ≡ listens a
+
+pub kept_leaves : (kept : MemberView → List (List ℕ)) → LeavesMarks (λ a. with_kept (kept a) a)
+kept_leaves kept = record {
+  later = λ a. record { closed = λ is. is; rest = λ rest. record { marks = rest.marks; answered = rest.answered; closing = rest.closing } };
+  watched = λ a. refl;
+  opens = λ a. refl;
+  listening = λ a. refl;
+}
+
+pub cutter_leaves : (cutter : CommandCutterView) → LeavesMarks (with_cutter cutter)
+cutter_leaves cutter = record {
+  later = λ a. record { closed = λ is. is; rest = λ rest. record { marks = rest.marks; answered = rest.answered; closing = rest.closing } };
+  watched = λ a. refl;
+  opens = λ a. refl;
+  listening = λ a. refl;
+}
 
 pub count_zip : (xs ys : List MemberView) → AllZip (λ a b. b.watched ≡ a.watched) xs ys → count_by was_watched ys ≡ count_by was_watched xs
 count_zip [] [] zip = refl
@@ -117,16 +137,16 @@ numbers_zip test n (x ∷ xs) (y ∷ ys) zip =
     ap (λ l. cond (test y) (n ∷ l) l) (numbers_zip test (n + 1) xs ys zip.1)
     ∙ ap (λ b. cond b (n ∷ numbers test (n + 1) xs) (numbers test (n + 1) xs)) zip.0
 
--- of one session other items are kept
-pub kept_changed : (live recent : List ℕ) (watched s : ℕ) (kept : MemberView → List (List ℕ)) (next : MemberView) (old new : List MemberView) → IsRoster live recent watched old
-    → new ≡ set old s next → ((free : MemberView) → next ≡ with_kept (kept (get_or old s free)) (get_or old s free)) → IsRoster live recent watched new
-kept_changed live recent watched s kept next old new roster becomes now =
+-- of one session the marks, the policy and the closing stayed
+pub marks_left : (live recent : List ℕ) (watched s : ℕ) (f : MemberView → MemberView) (next : MemberView) (old new : List MemberView) → LeavesMarks f → IsRoster live recent watched old
+    → new ≡ set old s next → ((free : MemberView) → next ≡ f (get_or old s free)) → IsRoster live recent watched new
+marks_left live recent watched s f next old new leaves roster becomes now =
     let Q : List MemberView → Type 0 = λ l. AllZip IsLater old l in
     let R : List MemberView → Type 0 = λ l. AllZip (λ a b. b.watched ≡ a.watched) old l in
     let later : AllZip IsLater old (set old s next) = zip_set IsLater later_same old s next (λ free.
-    let P : MemberView → Type 0 = λ b. IsLater (get_or old s free) b in subst P (sym (now free)) (later_kept (get_or old s free) (kept (get_or old s free)))) in
-    let same : AllZip (λ a b. b.watched ≡ a.watched) old (set old s next) = zip_set (λ a b. b.watched ≡ a.watched) (λ a. refl) old s next (λ free. ap (λ a. a.watched) (now free)) in
-    let stays : AllZip (λ a b. is_open b ≡ is_open a) old (set old s next) = zip_set (λ a b. is_open b ≡ is_open a) (λ a. refl) old s next (λ free. ap is_open (now free)) in
+    let P : MemberView → Type 0 = λ b. IsLater (get_or old s free) b in subst P (sym (now free)) (leaves.later (get_or old s free))) in
+    let same : AllZip (λ a b. b.watched ≡ a.watched) old (set old s next) = zip_set (λ a b. b.watched ≡ a.watched) (λ a. refl) old s next (λ free. ap (λ a. a.watched) (now free) ∙ leaves.watched (get_or old s free)) in
+    let stays : AllZip (λ a b. is_open b ≡ is_open a) old (set old s next) = zip_set (λ a b. is_open b ≡ is_open a) (λ a. refl) old s next (λ free. ap is_open (now free) ∙ leaves.opens (get_or old s free)) in
     let length_is : length old ≡ length new = length_all_zip IsLater old new (subst Q (sym becomes) later) in
     record {
       live_ones = roster.live_ones ∙ sym (ap (numbers is_open 0) becomes ∙ numbers_zip is_open 0 old (set old s next) stays);

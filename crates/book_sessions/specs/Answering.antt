@@ -3,6 +3,7 @@ use Rattle.std.specs.Prelude.{◌≡◌, ◌≤◌, ◌<◌, ◌↔◌, ℕ, zer
 use Rattle.std.specs.List.{list_any}
 use Rattle.gps_command.specs.declared.request.RawCommand.{RawCommand}
 use Rattle.gps_command.specs.Kept as input
+use Rattle.gps_command.specs.Kept.{CommandCutterView}
 use Rattle.gps_report.specs.declared.report.Report.{Report}
 use Rattle.book_replies.specs.declared.answering.Answer.{Answer}
 use Rattle.book_replies.specs.ReplyDataView.{ReplyDataView}
@@ -48,7 +49,7 @@ PutsAnswers exact place old (answer ∷ more) new =
     ((push : Push) × MayAnswer exact old.session push
     × MatchPush push (PutsAnswers exact place (put place answer old) more new) (new ≡ ended place Overrun old))
 
--- the number of items after so many more; it stays at its greatest value
+-- the number of items after the given number of further ones; it stays at its greatest value
 abbrev pub raised : ℕ → ℕ → ℕ
 raised items zero = items
 raised items (suc more) = raised (one_more (2 ^ 64 - 1) items) more
@@ -86,13 +87,27 @@ pub record Puts (place : ℕ) (old new : MemberView) (answers : List Answer) : T
   pub gains : (lines : Selection) (history : List Report) (stretches : List Stretch) → length history ≡ place → Holding lines history old.session stretches
       → SessionGains lines history history old.session new.session stretches (stretches ++ map (stretch_at place) answers) (map (λ answer. answer.reply) answers)
 
+-- the requests that a piece ends behind all input of the session before it, and its cutter behind that piece
+abbrev pub IsCut : List ℕ → MemberView → List RawCommand → CommandCutterView → Type 0
+IsCut piece a requests cutter = (bytes : List ℕ) → input.StandsFor a.cutter bytes → input.Gains bytes piece requests × input.StandsFor cutter (bytes ++ piece)
+
+-- requests are answered at one place by what is known, until the session is closed; while it is open, this is its cutter
+pub record AnswersCut (exact : Bool) (known : ReplyDataView) (names : List (List ℕ)) (place : ℕ) (requests : List RawCommand) (cutter : CommandCutterView) (old new : MemberView) : Type 0 where
+  pub goes_on : new.session.closing ≡ None → new.cutter ≡ cutter
+  -- so many are answered
+  pub count : ℕ
+  pub few : count ≤ length requests
+  pub puts : Puts place old new (take count (answered known names old.session.policy requests))
+  pub stops : Stops place (length requests - count) new.session new.session.closing
+  pub room : 0 < count → (new.session.requests ≤ most_requests) × (exact ≡ true → length new.session.kept ≤ new.session.cap)
+
 -- a piece of input at one place: its requests are answered by what is known, until the session is closed
 pub record Inputs (exact : Bool) (known : ReplyDataView) (names : List (List ℕ)) (place : ℕ) (piece : List ℕ) (old new : MemberView) : Type 0 where
   pub requests : List RawCommand
   -- these are the requests that the piece ends, behind all input before it
   pub gains : (bytes : List ℕ) → input.StandsFor old.cutter bytes → input.Gains bytes piece requests
   pub cutter : (bytes : List ℕ) → input.StandsFor old.cutter bytes → new.session.closing ≡ None → input.StandsFor new.cutter (bytes ++ piece)
-  -- so many are answered
+  -- how many are answered
   pub count : ℕ
   pub few : count ≤ length requests
   pub puts : Puts place old new (take count (answered known names old.session.policy requests))

@@ -41,6 +41,10 @@ closed place why a = record a { session = closed_at place why a.session; cutter 
 abbrev pub renewed : MemberView → MemberView
 renewed a = record a { session = turned a.session }
 
+-- no request was ended
+abbrev pub with_cutter : CommandCutterView → MemberView → MemberView
+with_cutter cutter a = record a { cutter = cutter }
+
 -- its outlet keeps these items now
 abbrev pub with_kept : List (List ℕ) → MemberView → MemberView
 with_kept kept a = record a { session = record a.session { kept = kept } }

@@ -1,5 +1,5 @@
 -- How reports come to a session: each line that its policy selects, until its outlet is full.
-use Rattle.std.specs.Prelude.{◌≡◌, ℕ, ◌+◌, Bool, List, [], ◌∷◌, ◌++◌, length, map, not, Option, Some, None, is_some}
+use Rattle.std.specs.Prelude.{◌≡◌, ◌≤◌, ◌↔◌, ℕ, ◌+◌, ◌-◌, Bool, List, [], ◌∷◌, ◌++◌, length, map, take, slice_get, not, Option, Some, None, is_some, option_map}
 use Rattle.gps_command.specs.Kept.{CommandCutterView}
 use Rattle.gps_report.specs.declared.policy.Policy.{Policy}
 use Rattle.gps_report.specs.declared.report.Report.{Report}
@@ -36,6 +36,20 @@ abbrev pub TakesDue : Bool → List Due → SessionView → SessionView → Type
 TakesDue exact [] old new = new ≡ old
 TakesDue exact (d ∷ more) old new = (push : Push) × MayAnswer exact old push
     × MatchPush push (TakesDue exact more (given d.line old) new) (new ≡ closed_at d.place Overrun old)
+
+-- how many more items an outlet has room for that is full exactly if it keeps as many as it may hold
+abbrev pub room_of : SessionView → ℕ
+room_of s = s.cap - length s.kept
+
+abbrev pub overrun_at : Due → ℕ × Close
+overrun_at d = (d.place, Overrun)
+
+-- What is due is put as far as there is room, and the first line beyond it closes the session. So the session is open still exactly where
+-- what it kept and what was due come to at most its capacity.
+pub record TakesByRoom (dues : List Due) (old new : SessionView) : Type 0 where
+  pub kept : new.kept ≡ old.kept ++ map (λ d. d.line) (take (room_of old) dues)
+  pub closing : new.closing ≡ option_map overrun_at (slice_get dues (room_of old))
+  pub stays_open : length old.kept ≤ old.cap → (new.closing ≡ None) ↔ (length old.kept + length dues ≤ old.cap)
 
 -- what reports leave as it is
 pub record Stays (old new : SessionView) : Type 0 where

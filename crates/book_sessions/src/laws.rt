@@ -1,13 +1,15 @@
-//! A law of sessions, as a contract of a function that does nothing.
+//! The laws of sessions, as contracts of functions that do nothing.
 
-ghost use Rattle.std.specs.Prelude.{◌≤◌, List, length};
+ghost use Rattle.std.specs.Prelude.{◌≡◌, ℕ, true, List, None};
 ghost use Rattle.gps_report.specs.declared.report.Report.{Report};
-ghost use Rattle.session_core.specs.Holding.{Agrees, Selection};
-ghost use Rattle.session_core.specs.SessionView.{SessionView, last_place};
-ghost use Rattle.session_core.specs.Stretches.{Stretch};
+ghost use Rattle.session_core.specs.Holding.{Selection};
+ghost use Rattle.session_core.specs.SessionView.{SessionView};
+ghost use Rattle.book_sessions.specs.Spreading.{Reports, TakesByRoom, due};
 
-/// No mark of a session stands behind the end of its history, so the end is a place for the calls of a roster.
-pub fn marks_stand_within_the_history()
-    ensures { (lines : Selection) (history : List Report) (s : SessionView) (stretches : List Stretch) → Agrees lines history s stretches
-        → last_place 0 s.marks ≤ length history }
+/// Over exact outlets, whose room is known: what is due is put as far as there is room, and the first line beyond it closes the session. So
+/// an open session whose outlet keeps no more than it may hold stays open exactly where that and what is due come to at most its capacity.
+#[tactic(auto, using(crate::proofs::Overruns::overrun_is_by_room))]
+pub fn exact_outlets_overrun_by_room()
+    ensures { (lines : Selection) (first : ℕ) (reports : List Report) (old new : SessionView) → old.closing ≡ None
+        → Reports true lines first reports old new → TakesByRoom (due lines old.policy first reports) old new }
 {}

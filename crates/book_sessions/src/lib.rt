@@ -8,6 +8,6 @@ mod roster;
 mod spreading;
 mod walk;
 
-pub use laws::marks_stand_within_the_history;
+pub use laws::exact_outlets_overrun_by_room;
 pub use roster::{AdmitFault, Roster};
 pub use spreading::spread;

@@ -6,8 +6,8 @@ ghost use Rattle.session_core.specs.declared.mark.Close.{Close};
 ghost use Rattle.session_core.specs.declared.outlet.Push.{Push};
 ghost use Rattle.session_core.specs.Pushing.{MatchPush};
 ghost use Rattle.session_core.specs.SessionView.{last_place};
-ghost use Rattle.book_sessions.specs.MemberView.{MemberView, closed, is_open, listens, opened, renewed, rested, with_kept};
-ghost use Rattle.book_sessions.specs.Answering.{PutsAnswers, Inputs, MayAnswer, ended, put};
+ghost use Rattle.book_sessions.specs.MemberView.{MemberView, closed, is_open, listens, opened, renewed, rested, with_cutter, with_kept};
+ghost use Rattle.book_sessions.specs.Answering.{AnswersCut, IsCut, MayAnswer, PutsAnswers, ended, put};
 ghost use Rattle.book_sessions.specs.Roster.{shut_at};
 ghost use Rattle.book_sessions.specs.Spreading.{Spreads};
 ghost use Rattle.book_batch.specs.Lines.{line_for};
@@ -16,7 +16,7 @@ ghost use Rattle.book_batch.specs.Sharing.{AreNamed, row_of};
 use crate::spreading::report_all;
 use book_batch::Row;
 use book_replies::{ReplyData, answers, opening_reply};
-use gps_command::{CommandCutter, RawCommand};
+use gps_command::{CommandCutter, RawCommand, RequestCut};
 use gps_fixed::NoMemory;
 use gps_report::{Names, Policy, Report};
 use session_core::{Close, Item, Outlet, PlainOutlet, Push, Session, TwoEnded};
@@ -24,7 +24,7 @@ use std::alloc::Global;
 use std::marker::Model;
 use watch_policy::opening;
 
-/// So many requests of a session are answered.
+/// How many requests of a session are answered.
 const MOST_REQUESTS: u32 = 65_536;
 
 /// A session of a roster, with the cutter of its input.
@@ -116,6 +116,7 @@ impl<O: Outlet> Member<O> {
     pub(crate) fn new(alloc: Global, outlet: O, place: u64) -> Result<Member<O>, O>
         requires empty { O.kept outlet ≡ [] }
         requires cap { 1 ≤ O.cap outlet }
+        requires takes { O.takes outlet }
         ensures opened { IfOk result (λ m. m ≡ opened (O.name outlet) (O.cap outlet) place) }
         ensures outlet { IfErr result (λ back. back ≡ outlet) }
     {
@@ -257,26 +258,38 @@ impl<O: Outlet> Member<O> {
         }
     }
 
-    /// Answers each request that the piece ends, in order, until the session is closed. Whether it is watched for the first
-    /// time.
+    /// The requests that a piece of its input ends, and its cutter behind the piece. Nothing changes.
+    pub(crate) fn cut(&self, piece: &[u8]) -> Result<RequestCut, NoMemory>
+        ensures { IfOk result (λ cut. IsCut piece.now self.now cut.requests.items cut.cutter) }
+    {
+        self.cutter.cut(piece)
+    }
+
+    /// Puts a cutter in place behind a piece that ended no request.
+    pub(crate) fn go_on(&mut self, cut: RequestCut)
+        ensures { self.new ≡ with_cutter cut.cutter self.old }
+    {
+        let _requests = self.cutter.put(cut);
+    }
+
+    /// Answers each request that was cut, in order, until the session is closed. Whether it is watched for the first time.
     pub(crate) fn input(
         &mut self,
         alloc: Global,
         place: u64,
         known: &ReplyData,
         names: &Names,
-        piece: &[u8],
+        cut: RequestCut,
     ) -> Result<bool, NoMemory>
         requires open { self.old.session.closing ≡ None }
         requires after { last_place 0 self.old.session.marks ≤ place }
         requires named { length names.now ≡ length known.now.firsts }
-        ensures gains { OnOk result (Inputs O.exact known.now names.now place piece.now self.old self.new) }
+        ensures answers { OnOk result (AnswersCut O.exact known.now names.now place cut.requests.items cut.cutter self.old self.new) }
         ensures watched { IfOk result (λ more. self.new.watched ≡ (self.old.watched || more)) }
         ensures fresh { IfOk result (λ more. more ≡ true → self.old.watched ≡ false) }
         ensures err { OnErr result (self.new ≡ self.old) }
     {
         let before = self.watched;
-        let cut = self.cutter.cut(piece)?;
         let replies = replies_to(
             alloc,
             known,

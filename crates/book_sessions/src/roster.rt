@@ -8,28 +8,29 @@ ghost use Rattle.session_core.specs.Stretches.{answer_stretch};
 ghost use Rattle.book_replies.specs.Replies.{opening_reply};
 ghost use Rattle.book_batch.specs.Lines.{line_for};
 ghost use Rattle.book_batch.specs.Sharing.{AreNamed, SharesLines, shares_of};
-ghost use Rattle.book_sessions.specs.MemberView.{MemberView, is_open, opened, renewed, with_kept};
-ghost use Rattle.book_sessions.specs.Answering.{Inputs};
+ghost use Rattle.book_sessions.specs.MemberView.{MemberView, is_open, opened, renewed, with_cutter, with_kept};
+ghost use Rattle.book_sessions.specs.Answering.{AnswersCut, IsCut};
 ghost use Rattle.book_sessions.specs.Roster.{Changes, Closes, IsAfter, IsAfterAll, IsOpenAt, Refuses, Shuts, MemberTurns, listening_in, live_in, was_watched};
 ghost use Rattle.book_sessions.specs.Spreading.{Spreads};
 
 use crate::member::Member;
 use crate::walk::{
-    close_at, close_each, copy_of, input_at, keep_listening, keep_open, make_room, receive_each,
-    turn_each,
+    close_at, close_each, copy_of, go_on_at, input_at, keep_listening, keep_open, make_room,
+    receive_each, turn_each,
 };
 use book_batch::Batch;
 use book_replies::ReplyData;
+use gps_command::RequestCut;
 use gps_fixed::NoMemory;
 use gps_report::Names;
 use session_core::{Close, Item, Outlet, PlainOutlet, TwoEnded};
 use std::alloc::Global;
 use std::marker::Model;
 
-/// So many sessions are open at once.
+/// How many sessions may be open at once.
 const MOST_LIVE: u32 = 64;
 
-/// So many sessions are opened in one run.
+/// How many sessions may be opened in one run.
 const MOST_OPENED: u32 = 100_000;
 
 /// Why a roster does not admit a session.
@@ -155,6 +156,7 @@ impl<O: Outlet> Roster<O> {
     pub fn admit(&mut self, outlet: O, place: u64) -> Result<u32, (O, AdmitFault)>
         requires empty { O.kept outlet ≡ [] }
         requires cap { 1 ≤ O.cap outlet }
+        requires takes { O.takes outlet }
         ensures number { IfOk result (λ s. s ≡ length self.old) }
         ensures admitted { OnOk result (self.new ≡ self.old ++ opened (O.name outlet) (O.cap outlet) place ∷ []) }
         ensures few { OnOk result ((live_in self.old < 64) × (length self.old < 100000)) }
@@ -184,21 +186,38 @@ impl<O: Outlet> Roster<O> {
         }
     }
 
-    /// Answers, at one place, each request that the piece ends, in order, until the session is closed: by the 65,537th
-    /// request, or where its outlet is full. A refusal changes nothing.
+    /// The requests that a piece of a session's input ends, and its cutter behind the piece. Nothing changes.
+    pub fn cut(&self, s: u32, piece: &[u8]) -> Result<RequestCut, NoMemory>
+        requires { s < length self.now }
+        ensures { IfOk result (λ cut. (free : MemberView) → IsCut piece.now (slice_index_or self.now s free) cut.requests.items cut.cutter) }
+    {
+        self.members[s as usize].cut(piece)
+    }
+
+    /// Puts a session's cutter in place behind a piece that ended no request. Takes no memory.
+    pub fn go_on(&mut self, s: u32, cut: RequestCut)
+        requires exists { s < length self.old }
+        ensures goes_on { Changes s (λ a b. b ≡ with_cutter cut.cutter a) self.old self.new }
+        ensures after { (later : ℕ) → IsAfterAll later self.old → IsAfterAll later self.new }
+    {
+        go_on_at(&mut self.members, s as usize, cut);
+    }
+
+    /// Answers, at one place, each request that was cut of a session's input, in order, until the session is closed: by the
+    /// 65,537th request, or where its outlet is full. A refusal changes nothing.
     pub fn input(
         &mut self,
         s: u32,
         place: u64,
         known: &ReplyData,
         names: &Names,
-        piece: &[u8],
+        cut: RequestCut,
     ) -> Result<(), NoMemory>
         requires exists { s < length self.old }
         requires open { IsOpenAt s self.old }
         requires after { IsAfter place s self.old }
         requires named { length names.now ≡ length known.now.firsts }
-        ensures input { OnOk result (Changes s (Inputs O.exact known.now names.now place piece.now) self.old self.new) }
+        ensures answers { OnOk result (Changes s (AnswersCut O.exact known.now names.now place cut.requests.items cut.cutter) self.old self.new) }
         ensures after { (later : ℕ) → place ≤ later → IsAfterAll later self.old → IsAfterAll later self.new }
         ensures err { OnErr result (self.new ≡ self.old) }
     {
@@ -211,7 +230,7 @@ impl<O: Outlet> Roster<O> {
             place,
             known,
             names,
-            piece,
+            cut,
         )?;
         keep_open(&self.members, &mut self.live);
         keep_listening(&self.members, &mut listening);

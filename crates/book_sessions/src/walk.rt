@@ -5,8 +5,8 @@ ghost use Rattle.std.specs.Int.{from_bool};
 ghost use Rattle.std.specs.List.{All};
 ghost use Rattle.book_batch.specs.Lines.{line_for};
 ghost use Rattle.book_batch.specs.Sharing.{AreNamed, SharesLines, shares_of};
-ghost use Rattle.book_sessions.specs.MemberView.{MemberView, is_open, listens, renewed};
-ghost use Rattle.book_sessions.specs.Answering.{Inputs};
+ghost use Rattle.book_sessions.specs.MemberView.{MemberView, is_open, listens, renewed, with_cutter};
+ghost use Rattle.book_sessions.specs.Answering.{AnswersCut};
 ghost use Rattle.book_sessions.specs.Roster.{Changes, Closes, IsAfter, IsAfterAll, IsOpenAt, shut_at, was_watched};
 ghost use Rattle.book_sessions.specs.Spreading.{Spreads};
 ghost use Rattle.book_sessions.specs.Walks.{Walks, passes_at};
@@ -14,6 +14,7 @@ ghost use Rattle.book_sessions.specs.Walks.{Walks, passes_at};
 use crate::member::Member;
 use book_batch::Batch;
 use book_replies::ReplyData;
+use gps_command::RequestCut;
 use gps_fixed::NoMemory;
 use gps_report::Names;
 use session_core::{Close, Outlet};
@@ -78,6 +79,14 @@ pub(crate) fn make_room<O: Outlet>(
     Ok(())
 }
 
+pub(crate) fn go_on_at<O: Outlet>(members: &mut Vec<Member<O>>, s: usize, cut: RequestCut)
+    requires { s < length members.old.items }
+    ensures { Changes s (λ a b. b ≡ with_cutter cut.cutter a) members.old.items members.new.items }
+{
+    let member = &mut members[s];
+    member.go_on(cut);
+}
+
 /// Whether the session is watched for the first time.
 pub(crate) fn input_at<O: Outlet>(
     members: &mut Vec<Member<O>>,
@@ -86,18 +95,18 @@ pub(crate) fn input_at<O: Outlet>(
     place: u64,
     known: &ReplyData,
     names: &Names,
-    piece: &[u8],
+    cut: RequestCut,
 ) -> Result<bool, NoMemory>
     requires exists { s < length members.old.items }
     requires open { IsOpenAt s members.old.items }
     requires after { IsAfter place s members.old.items }
     requires named { length names.now ≡ length known.now.firsts }
-    ensures input { OnOk result (Changes s (Inputs O.exact known.now names.now place piece.now) members.old.items members.new.items) }
+    ensures answers { OnOk result (Changes s (AnswersCut O.exact known.now names.now place cut.requests.items cut.cutter) members.old.items members.new.items) }
     ensures watched { IfOk result (λ more. count_by was_watched members.new.items ≡ count_by was_watched members.old.items + from_bool more) }
     ensures err { OnErr result (members.new.items ≡ members.old.items) }
 {
     let member = &mut members[s];
-    member.input(alloc, place, known, names, piece)
+    member.input(alloc, place, known, names, cut)
 }
 
 pub(crate) fn close_at<O: Outlet>(

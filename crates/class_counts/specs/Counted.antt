@@ -26,7 +26,7 @@ Completed bytes source source' text =
 
 -- Which bytes were read, and what was written: all that was left, and the numbers of its lines; those before a fault, after which the rest may
 -- be lost, those before a thousand quiets, or as many as an input may have where more came, and nothing; those up to a refused line, and its
--- number; a part of what was due; or nothing for want of memory.
+-- number; a part of what was due; or, out of memory, nothing.
 abbrev pub Ends : CountOutcome → List ℕ → Option Stream → Option Stream → Option (List ℕ) → Option (List ℕ) → Type 0
 Ends Done bytes source source' sink sink' = Completed bytes source source' (λ values. Goes (Appends (summary values)) sink sink')
 Ends ReadFault bytes source source' sink sink' =
@@ -42,8 +42,8 @@ Ends WriteFault bytes source source' sink sink' =
 Ends NoMemory bytes source source' sink sink' =
     (HasReadSoFar bytes source source' ⊎ HasReadAll bytes source source') × (sink ≡ sink')
 
--- There are bytes that were read, and what is due of them was written. Of an object of the outside that does not tell its content nothing is
--- said here: then the bytes may be any.
+-- There are bytes that were read, and what is due of them was written. Of an object whose contents are not modelled nothing is said here:
+-- then the bytes may be any.
 pub record Counted (outcome : CountOutcome) (source source' : Option Stream) (sink sink' : Option (List ℕ)) : Type 0 where
   pub bytes : List ℕ
   pub ends : Ends outcome bytes source source' sink sink'

@@ -9,7 +9,7 @@ use Rattle.class_counts.specs.declared.outcome.CountOutcome.{CountOutcome}
 use Rattle.class_counts.specs.declared.outcome.CountOutcome.TheVariants.{Done, ReadFault, TooQuiet, WriteFault, Full, BadLine, NoMemory}
 use Rattle.class_counts.specs.Tallies.{bad_line, kept_number, numbers_text}
 
--- the text was written, with which the count was to end so; or a part of it, as the sink failed; or nothing for want of memory
+-- the text was written, with which the count was to end so; or a prefix of it, as the sink failed; or, out of memory, nothing
 abbrev pub Closes : CountOutcome → List ℕ → CountOutcome → Option (List ℕ) → Option (List ℕ) → Type 0
 Closes meant text outcome before after =
     ((outcome ≡ meant) × Goes (Appends text) before after)
@@ -25,11 +25,11 @@ WriteCause Full before after = ⊥
 WriteCause BadLine before after = Unit {0}
 WriteCause NoMemory before after = Unit {0}
 
--- the number of the line behind so many good ones
+-- the number of the line after n good ones
 abbrev pub bad_behind : ℕ → List ℕ
 bad_behind good = bad_line (kept_number (good + 1))
 
--- a count that stops at a bad line, or for want of memory
+-- a count that stops at a bad line, or out of memory
 abbrev pub StopsWith : Stop → ℕ → CountOutcome → Option (List ℕ) → Option (List ℕ) → Type 0
 StopsWith Bad good outcome before after = Closes BadLine (bad_behind good) outcome before after
 StopsWith NoMemoryStop good outcome before after = (outcome ≡ NoMemory) × (before ≡ after)

@@ -42,7 +42,7 @@ fn read(alloc: Global, line: &[u8]) -> Result<Line, Stop>
     }
 }
 
-/// What stands behind so many bytes of a piece.
+/// What follows the first `n` bytes of a piece.
 fn behind(piece: &[u8], used: usize) -> &[u8]
     requires { used ≤ length piece.now }
     ensures { result.now ≡ drop used piece.entry.now }
@@ -62,7 +62,7 @@ impl Count {
         }
     }
 
-    /// Goes on to the end of the next line of a piece, which uses so many of its bytes; or to the end of the piece.
+    /// Goes on to the end of the next line of a piece, after the given number of its bytes; or to the end of the piece.
     fn step(&mut self, alloc: Global, piece: &[u8]) -> Result<Option<usize>, Stop>
         ensures turn { (bytes : List ℕ) → CountStands self.old bytes → CountSteps result self.new bytes piece.now }
         ensures some { UsesSome result piece.now }

@@ -13,7 +13,7 @@ use crate::writing::{refuse, report};
 use gps_outside::{Sink, Source};
 use std::alloc::Global;
 
-/// Ends a count at its first bad line, or for want of memory.
+/// Ends a count at its first bad line, or when out of memory.
 fn stop<K: Sink>(alloc: Global, stop: Stop, good: u64, sink: &mut K) -> CountOutcome
     ensures closes { StopsWith stop good result (K.written sink.old) (K.written sink.new) }
     ensures cause { WriteCause result (K.faults sink.old) (K.faults sink.new) }

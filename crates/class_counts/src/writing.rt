@@ -9,7 +9,7 @@ use gps_fixed::{Bytes, NoMemory, push_decimal};
 use gps_outside::{Sink, write_all};
 use std::alloc::Global;
 
-/// `bad line N`, where so many lines before were good.
+/// `bad line N`, after the given number of good lines.
 #[tactic(auto, unfolding(crate::specs::Tallies::bad_line))]
 fn bad_line(alloc: Global, good: u64) -> Result<Bytes, NoMemory>
     ensures { IfOk result (λ text. text ≡ bad_line (kept_number (good + 1))) }

@@ -3,3 +3,4 @@ pub mod Toffs
 pub mod Taking
 pub mod Devices
 pub mod Decided
+pub mod Quiet

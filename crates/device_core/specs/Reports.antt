@@ -1,6 +1,7 @@
 -- The reports of a device's stream, symbol by symbol: each packet that a byte completes and then what its note causes, and the pulse of each
 -- edge that marks a second.
-use Rattle.std.specs.Prelude.{◌≡◌, List, [], ◌∷◌, ◌++◌, Option, Some, None, drop, length, option_map, option_to_list}
+use Rattle.std.specs.Prelude.{◌≡◌, Bool, true, false, List, [], ◌∷◌, ◌++◌, Option, Some, None, drop, length, option_map, option_to_list}
+use Rattle.std.specs.List.{filter}
 use Rattle.std.specs.Option.{option_or}
 use Rattle.gps_report.specs.declared.edge.Edge.{Edge}
 use Rattle.gps_report.specs.declared.edge.Symbol.{Symbol}
@@ -65,3 +66,14 @@ device_gain stream more = beyond (device_reports stream) (device_reports (stream
 -- these are the reports that a stream gains by more of it
 abbrev pub Gains : List Symbol → List Symbol → List Body → Type 0
 Gains stream more out = device_reports (stream ++ more) ≡ device_reports stream ++ out
+
+abbrev pub is_no_packet : Body → Bool
+is_no_packet (PacketBody packet) = false
+is_no_packet _ = true
+
+abbrev pub without_packets : List Body → List Body
+without_packets bodies = filter is_no_packet bodies
+
+-- these are the reports but packets that a stream gains by more of it
+abbrev pub GainsWithoutPackets : List Symbol → List Symbol → List Body → Type 0
+GainsWithoutPackets stream more out = (all : List Body) × (Gains stream more all × (out ≡ without_packets all))

@@ -1,16 +1,16 @@
 ghost use Rattle.std.specs.Prelude.{◌≡◌, ◌∷◌, ◌++◌, [], Some, None, true, List, IfOk, OnOk, OnErr, option_map, option_to_list, length, ◌+◌, ◌≤◌};
 ghost use Rattle.gps_report.specs.declared.edge.Symbol.{Symbol as SymbolValue};
 ghost use Rattle.device_core.specs.Stream.{piece};
-ghost use Rattle.device_core.specs.Reports.{Gains, device_close};
+ghost use Rattle.device_core.specs.Reports.{Gains, GainsWithoutPackets, device_close};
 ghost use Rattle.device_core.specs.Standing.{StandsFor, with_nothing_running};
 ghost use Rattle.device_core.specs.Drafts.{FitsBytes, FitsDraft, back_or, bytes_now, changed, edge_now, toff_now};
 
 use crate::draft::Draft;
-use crate::packets::take_packets;
+use crate::packets::{take_all_placed, take_packets};
 use epoch_core::Epochs;
 use gps_fixed::{NoMemory, Stamp};
 use gps_report::{Body, Edge, Pair, Symbol};
-use packet_cut::{Cutter, CutterChange, PacketCut};
+use packet_cut::{Cutter, CutterChange, PacketCut, PlacedCut};
 use pps_edges::Pulses;
 use std::alloc::Global;
 use std::marker::Model;
@@ -108,6 +108,42 @@ impl Device {
         }
     }
 
+    /// As [`Device::draft_feed`], without the packets.
+    fn draft_feed_without_packets(&mut self, at: Stamp, bytes: &[u8]) -> Result<Vec<Body>, NoMemory>
+        ensures gains { IfOk result (λ out. (stream : List SymbolValue) → StandsFor self.old.now stream
+            → GainsWithoutPackets stream (piece at bytes.now) out.items) }
+        ensures stands { OnOk result ((stream : List SymbolValue) → StandsFor self.old.now stream → StandsFor self.new.now (stream ++ piece at bytes.now)) }
+        ensures err { OnErr result (self.new ≡ record { now = self.old.now; back = None }) }
+    {
+        self.commit();
+        let PlacedCut {
+            bytes,
+            placed,
+            change,
+        } = self.cutter.place(at, bytes)?;
+        self.epochs.checkpoint();
+        match take_all_placed(
+            self.alloc,
+            &mut self.epochs,
+            bytes.as_slice(),
+            placed,
+            self.toff,
+        ) {
+            Ok((out, toff)) => {
+                self.draft = Some(Draft {
+                    change: Some(change),
+                    pulses: self.pulses,
+                    toff,
+                });
+                Ok(out)
+            }
+            Err(refused) => {
+                self.epochs.undo();
+                Err(refused)
+            }
+        }
+    }
+
     /// Takes an open draft back: the device is as it was before it. Takes no memory.
     pub fn undo(&mut self)
         ensures { self.new ≡ record { now = back_or self.old; back = None } }
@@ -176,6 +212,19 @@ impl Device {
         ensures err { OnErr result (self.new.now ≡ self.old.now) }
     {
         let out = self.draft_feed(at, bytes)?;
+        self.commit();
+        Ok(out)
+    }
+
+    /// As [`Device::feed`], without the packets: for those who want what packets cause alone. No packet is copied.
+    pub fn feed_without_packets(&mut self, at: Stamp, bytes: &[u8]) -> Result<Vec<Body>, NoMemory>
+        ensures gains { IfOk result (λ out. (stream : List SymbolValue) → StandsFor self.old.now stream
+            → GainsWithoutPackets stream (piece at bytes.now) out.items) }
+        ensures stands { OnOk result ((stream : List SymbolValue) → StandsFor self.old.now stream → StandsFor self.new.now (stream ++ piece at bytes.now)) }
+        ensures committed { self.new.back ≡ None }
+        ensures err { OnErr result (self.new.now ≡ self.old.now) }
+    {
+        let out = self.draft_feed_without_packets(at, bytes)?;
         self.commit();
         Ok(out)
     }

@@ -1,26 +1,36 @@
-ghost use Rattle.std.specs.Prelude.{◌≡◌, ◌∷◌, ◌++◌, ◌+◌, ◌*◌, ◌≤◌, IfOk, OnOk, fold, length};
+ghost use Rattle.std.specs.Prelude.{◌≡◌, ◌∷◌, ◌++◌, ◌+◌, ◌*◌, ◌≤◌, IfOk, OnOk, fold, length, map};
 ghost use Rattle.std.specs.Option.{option_or};
 ghost use Rattle.gps_report.specs.Fits.{Fits};
 ghost use Rattle.device_core.specs.Stream.{note_in};
 ghost use Rattle.device_core.specs.Reports.{last_toff as last_of, newer};
-ghost use Rattle.device_core.specs.Going.{TookAll, TookOne};
+ghost use Rattle.device_core.specs.Going.{TookAll, TookAllQuietly, TookOne, TookOneQuietly};
+ghost use Rattle.packet_cut.specs.Packets.{placed_packet};
 
 use epoch_core::Epochs;
 use gps_fixed::NoMemory;
 use gps_report::{Body, Note, Packet, PacketKind, Pair};
 use nmea_decode::note_of;
+use packet_cut::Placed;
 use std::alloc::Global;
 use ubx_decode::note_of_frame;
+
+/// What the bytes of a packet say.
+fn note_of_bytes(alloc: Global, kind: PacketKind, bytes: &[u8]) -> Result<Note, NoMemory>
+    ensures note { IfOk result (λ note. note ≡ note_in kind bytes.now) }
+    ensures fits { IfOk result Fits }
+{
+    match kind {
+        PacketKind::Nmea => note_of(alloc, bytes),
+        PacketKind::Ubx => note_of_frame(alloc, bytes),
+    }
+}
 
 /// What a packet says.
 fn note_of_packet(alloc: Global, packet: &Packet) -> Result<Note, NoMemory>
     ensures note { IfOk result (λ note. note ≡ note_in packet.now.kind packet.now.bytes) }
     ensures fits { IfOk result Fits }
 {
-    match packet.kind {
-        PacketKind::Nmea => note_of(alloc, packet.bytes.as_slice()),
-        PacketKind::Ubx => note_of_frame(alloc, packet.bytes.as_slice()),
-    }
+    note_of_bytes(alloc, packet.kind, packet.bytes.as_slice())
 }
 
 fn newer_toff(body: &Body, before: Option<Pair>) -> Option<Pair>
@@ -95,6 +105,50 @@ pub(crate) fn take_packets(
     let mut last = toff;
     'packets: for packet in packets {
         last = take_packet(alloc, epochs, packet, last, &mut out)?;
+    }
+    Ok((out, last))
+}
+
+/// Takes the packet at a place: what its note causes goes to the reports, and it does not.
+#[tactic(auto, using(crate::proofs::Quiet::took_one_quietly))]
+fn take_placed(
+    alloc: Global,
+    epochs: &mut Epochs,
+    bytes: &[u8],
+    placed: Placed,
+    toff: Option<Pair>,
+    out: &mut Vec<Body>,
+) -> Result<Option<Pair>, NoMemory>
+    ensures took { IfOk result (λ next. TookOneQuietly epochs.old.now epochs.new.now toff next (placed_packet bytes.now placed) out.old.items out.new.items) }
+    ensures back { epochs.new.back ≡ epochs.old.back }
+{
+    // A note is large: it is read where it was made.
+    let note = note_of_bytes(alloc, placed.kind, placed.part(bytes));
+    let mut caused = match &note {
+        Ok(note) => epochs.take(note, placed.at)?,
+        Err(_) => return Err(NoMemory),
+    };
+    let next = last_toff(caused.as_slice(), toff);
+    out.append(&mut caused)?;
+    Ok(next)
+}
+
+/// The same for all packets, in order: their reports without them, and the last serial time.
+#[tactic(auto, using(crate::proofs::Quiet::took_none_quietly, crate::proofs::Quiet::took_more_quietly))]
+pub(crate) fn take_all_placed(
+    alloc: Global,
+    epochs: &mut Epochs,
+    bytes: &[u8],
+    placed: Vec<Placed>,
+    toff: Option<Pair>,
+) -> Result<(Vec<Body>, Option<Pair>), NoMemory>
+    ensures took { IfOk result (λ r. TookAllQuietly epochs.old.now epochs.new.now toff r.1 (map (placed_packet bytes.now) placed.items) r.0.items) }
+    ensures back { epochs.new.back ≡ epochs.old.back }
+{
+    let mut out = Vec::new(alloc);
+    let mut last = toff;
+    'placed: for each in placed {
+        last = take_placed(alloc, epochs, bytes, each, last, &mut out)?;
     }
     Ok((out, last))
 }

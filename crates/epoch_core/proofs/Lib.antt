@@ -10,3 +10,4 @@ pub mod Low
 pub mod EpochLaws
 pub mod Slices
 pub mod Bounds
+pub mod Naming

@@ -21,7 +21,7 @@ all_fit_front fits (suc n) [] h = h
 all_fit_front fits (suc n) (x ∷ xs) h =
     let p = and_parts (fits x) (list_all fits xs) h in and_from (fits x) (list_all fits (take n xs)) p.0 (all_fit_front fits n xs p.1)
 
-any_same : {X : Type 0} (fits : X → Bool) (p q : X → Bool) → ((y : X) → fits y ≡ true → p y ≡ q y) → (xs : List X) → list_all fits xs ≡ true → list_any p xs ≡ list_any q xs
+pub any_same : {X : Type 0} (fits : X → Bool) (p q : X → Bool) → ((y : X) → fits y ≡ true → p y ≡ q y) → (xs : List X) → list_all fits xs ≡ true → list_any p xs ≡ list_any q xs
 any_same fits p q agree [] h = refl
 any_same fits p q agree (x ∷ xs) h =
     let f = and_parts (fits x) (list_all fits xs) h in
@@ -88,7 +88,7 @@ used_ids_apart p q i j a b c d e = let place : p ≡ q = omega arith in (place, 
 within_id : (n : ℕ) → is_id n ≡ true → (1 ≤ n) × (n ≤ 999)
 within_id n h = let p = and_parts (nat_le 1 n) (nat_le n 999) h in (leb-true 1 n p.0, leb-true n 999 p.1)
 
-used_ids_same : (a b : UsedId) → is_used_id a ≡ true → is_used_id b ≡ true → by_key used_id_key a b ≡ same_used_id a b
+pub used_ids_same : (a b : UsedId) → is_used_id a ≡ true → is_used_id b ≡ true → by_key used_id_key a b ≡ same_used_id a b
 unfolding used_id_key
 used_ids_same a b f g =
     let fa = and_parts (is_id a.id) (where_given is_named_system a.system) f in

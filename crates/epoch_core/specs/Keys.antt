@@ -31,7 +31,7 @@ satellite_key s =
 unfoldable pub used_id_key : UsedId → ℕ
 used_id_key a = system_place a.system * 999 + (a.id - 1)
 
--- up to so many elements are searched one by one
+-- a list of up to this length is searched one by one
 abbrev pub few : ℕ
 few = 64
 

@@ -13,6 +13,7 @@ mod grouped;
 mod heard;
 mod keys;
 mod laws;
+mod marks;
 mod once;
 mod point;
 mod running;

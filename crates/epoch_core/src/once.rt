@@ -18,10 +18,10 @@ pub trait Keyed: Copy {
         ensures { result ≡ key self.now };
 }
 
-/// The first element takes the room for so many.
+/// The room that the first element takes.
 const USUAL: usize = 16;
 
-/// So many elements are searched one by one; a longer list has a map of its places.
+/// A list of up to this length is searched one by one; a longer one has a map of its places.
 const FEW: usize = 64;
 
 /// A list that takes each key once, in the order in which they came.

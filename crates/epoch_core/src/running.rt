@@ -1,9 +1,9 @@
-ghost use Rattle.std.specs.Prelude.{◌≡◌, ◌∷◌, ◌++◌, ◌≤◌, ◌+◌, [], true, cond, is_some, is_none, ◌||◌, map, length, IfOk, OnOk, OnErr, List, None};
-ghost use Rattle.std.specs.List.{list_all, list_any};
-ghost use Rattle.gps_report.specs.Fits.{Fits, is_tod, is_id, is_satellite, is_named_system, where_given};
+ghost use Rattle.std.specs.Prelude.{◌≡◌, ◌∷◌, ◌++◌, ◌≤◌, ◌+◌, [], true, cond, map, length, IfOk, OnOk, OnErr, List, None};
+ghost use Rattle.std.specs.List.{list_all};
+ghost use Rattle.gps_report.specs.Fits.{Fits, is_satellite, where_given};
 ghost use Rattle.epoch_core.specs.Days.{is_known_day};
 ghost use Rattle.epoch_core.specs.Quantities.{serial_time as serial_time_of, breaks as breaks_from};
-ghost use Rattle.epoch_core.specs.Satellites.{is_used as used_by, marked as marked_by, speaks_of as speaks, is_gsa as gsa, used_id_by, used_ids_in, same_used_id, same_satellite, system_of as named_system, same_number as same_numbers};
+ghost use Rattle.epoch_core.specs.Satellites.{is_gsa as gsa, used_id_by, used_ids_in, same_used_id, same_satellite, system_of as named_system};
 ghost use Rattle.epoch_core.specs.Epochs.{is_eoe as eoe};
 ghost use Rattle.epoch_core.specs.Fixes.{fix_of as fix_made};
 ghost use Rattle.epoch_core.specs.Kept.{Ran};
@@ -13,6 +13,7 @@ ghost use Rattle.epoch_core.specs.Tidy.{is_used_id};
 ghost use Rattle.epoch_core.specs.Checkpoints.{point_of, ran_at};
 
 use crate::fixes::fix_of;
+use crate::marks::sky_sats;
 use crate::once::Once;
 use crate::point::Point;
 use crate::said::{Said, serial_time};
@@ -60,60 +61,6 @@ pub fn system_of(satellite: &Satellite) -> Option<u8>
         Some((system, _)) => Some(system),
         None => None,
     }
-}
-
-/// Where both name a system, it is the same.
-fn agree(one: Option<u8>, other: Option<u8>) -> bool
-    ensures { result ≡ (is_none one || is_none other || same_numbers one other) }
-{
-    match (one, other) {
-        (Some(one), Some(other)) => one == other,
-        _ => true,
-    }
-}
-
-/// The id is the satellite's, and where both name a system, it is the same.
-fn speaks_of(satellite: &Satellite, used_id: &UsedId) -> bool
-    ensures { result ≡ speaks satellite.now used_id.now }
-{
-    used_id.id == satellite.prn && agree(used_id.system, system_of(satellite))
-}
-
-fn is_named_used(satellite: &Satellite, used_ids: &[UsedId]) -> bool
-    ensures { result ≡ list_any (speaks satellite.now) used_ids.now }
-{
-    used_ids.iter().any(|a| speaks_of(satellite, a))
-}
-
-fn is_used(satellite: &Satellite, used_ids: &[UsedId]) -> bool
-    ensures { result ≡ used_by used_ids.now satellite.now }
-{
-    satellite.used || is_named_used(satellite, used_ids)
-}
-
-/// A satellite of the sky, with its mark.
-#[tactic(auto, unfolding(crate::specs::Satellites::marked))]
-fn marked(satellite: &Satellite, used_ids: &[UsedId]) -> Satellite
-    ensures { result ≡ marked_by used_ids.now satellite.now }
-{
-    Satellite {
-        used: is_used(satellite, used_ids),
-        ..*satellite
-    }
-}
-
-pub fn all_marked(
-    alloc: Global,
-    satellites: &[Satellite],
-    used_ids: &[UsedId],
-) -> Result<Vec<Satellite>, NoMemory>
-    ensures { IfOk result (λ v. v.items ≡ map (marked_by used_ids.now) satellites.now) }
-{
-    let all = satellites
-        .iter()
-        .map(|s| marked(s, used_ids))
-        .collect(alloc)?;
-    Ok(all)
 }
 
 /// The Toff of an epoch, where its next note is the first that has a serial time.
@@ -270,7 +217,7 @@ impl Running {
     fn sky(&self, alloc: Global) -> Result<Sky, NoMemory>
         ensures { IfOk result (λ sky. sky ≡ ran_sky self.now) }
     {
-        let sats = all_marked(alloc, self.sats.as_slice(), self.used_ids.as_slice())?;
+        let sats = sky_sats(alloc, self.sats.as_slice(), &self.used_ids)?;
         Ok(Sky {
             time: self.said.time,
             pdop: self.said.pdop,

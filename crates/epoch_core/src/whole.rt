@@ -13,7 +13,8 @@ ghost use Rattle.epoch_core.specs.Epochs.{begins as begins_after, closing, has_e
 
 use crate::dated_note::DatedNote;
 use crate::fixes::fix_of;
-use crate::running::{all_marked, is_eoe, is_gsa, system_of};
+use crate::marks::all_marked;
+use crate::running::{is_eoe, is_gsa, system_of};
 use crate::said::{Said, is_fix_kind, is_sky_kind, itow_tag, tod_tag};
 use crate::used_id::UsedId;
 use gps_fixed::{NoMemory, Stamp};

@@ -165,7 +165,7 @@ spread_behind (suc k) a n =
 pub digits_value : (k n : ℕ) → number (digits_in k n) ≡ n % 10 ^ k
 digits_value k n = spread_behind k 0 n ∙ (let e : 0 * 10 ^ k + n % 10 ^ k ≡ n % 10 ^ k = omega arith in e)
 
--- what stands before so many digits
+-- what stands before the last n digits
 pub fold_value : (ds : List ℕ) (a : ℕ) → list_all is_ascii_digit ds ≡ true → (r : ℕ) × (fold step a ds ≡ a * 10 ^ length ds + r) × (r < 10 ^ length ds)
 fold_value [] a all = (0, omega (arith, pow-zero 10), omega (arith, pow-zero 10))
 fold_value (c ∷ ds) a all =
@@ -184,7 +184,7 @@ front_of ds a all =
     let v = fold_value ds a all in
     ap (λ n. n / 10 ^ length ds) v.1 ∙ div-mul-add a (10 ^ length ds) v.0 v.2
 
--- so many digits are those of their number, whatever stands before them
+-- n digits are those of their number, whatever stands before them
 pub digits_of_all : (ds : List ℕ) (a : ℕ) → list_all is_ascii_digit ds ≡ true → digits_in (length ds) (fold step a ds) ≡ ds
 digits_of_all [] a all = refl
 digits_of_all (c ∷ ds) a all =

@@ -18,12 +18,14 @@ use Rattle.gps_fixed.proofs.NumeralLaws.{number_below, scaled_small}
 use Rattle.gps_fixed.proofs.ScaledTheorem.{scaled_exact}
 use Rattle.gps_report.specs.declared.note.Note.{Note}
 use Rattle.gps_report.specs.declared.note.NoteKind.{NoteKind}
-use Rattle.gps_report.specs.declared.note.NoteKind.TheVariants.{Gga, Rmc, Gll, Gsa, Gsv, Vtg, Zda, Pvt, Sat, Dop, Other}
+use Rattle.gps_report.specs.declared.note.NoteKind.TheVariants.{Pvt, Sat, Dop, Other}
 use Rattle.gps_report.specs.declared.satellite.Satellite.{Satellite}
 use Rattle.gps_report.specs.Fits.{Fits, is_satellite, where_given, is_id, is_named_system}
 use Rattle.gps_report.specs.Note.{empty_note}
 use Rattle.nmea_frame.specs.Sentence.{body_of}
-use Rattle.nmea_decode.specs.Notes.{body_note, gga, gll, gsa, gsv, note_of_kind, rmc, sentence_note, timed, vtg, where_valid, zda}
+use Rattle.nmea_decode.specs.Fields.{address_of, fields_of}
+use Rattle.nmea_decode.specs.Kinds.{is_address}
+use Rattle.nmea_decode.specs.Notes.{Said, body_note, gga, gll, gsa, gsv, plainly, rmc, said_at, said_by, sentence_note, timed, vtg, where_valid, zda}
 use Rattle.nmea_decode.specs.Places.{angle, both, latitude_of, longitude_of, on_side, position_of}
 use Rattle.nmea_decode.specs.Readings.{elevation_of, number_up_to, speed_of, track_of, up_to as upto, within_right_angle}
 use Rattle.nmea_decode.specs.Satellites.{satellite_of, satellites_in, satellites_of}
@@ -206,20 +208,52 @@ gsv_placed : (system : Option ℕ) (text : List ℕ) → AllByRecursion IsPlaced
 unfolding satellites_of
 gsv_placed system text = all_placed _ system _ text
 
-by_kind : (kind : NoteKind) (talker text : List ℕ) → IsRanged (note_of_kind kind talker text)
-unfolding gga rmc gll gsa gsv vtg zda timed
-by_kind Gga talker text = record { position_in = valid_ranged IsPlace _ _ (position_ranged _ _ _ _); alt_hae_in = tt; alt_msl_in = valid_ranged (HasNineDigits 3) _ _ (scaled_ranged 3 _); geoid_sep_in = valid_ranged (HasNineDigits 3) _ _ (scaled_ranged 3 _); track_in = tt; speed_in = tt; climb_in = tt; pdop_in = tt; hdop_in = valid_ranged IsU32 _ _ (small_number 9_999 2 _ (omega arith)); vdop_in = tt; sats_in = tt }
-by_kind Rmc talker text = record { position_in = valid_ranged IsPlace _ _ (position_ranged _ _ _ _); alt_hae_in = tt; alt_msl_in = tt; geoid_sep_in = tt; track_in = valid_ranged (HasNineDigits 4) _ _ (track_ranged _); speed_in = valid_ranged (HasNineDigits 3) _ _ (speed_ranged _); climb_in = tt; pdop_in = tt; hdop_in = tt; vdop_in = tt; sats_in = tt }
-by_kind Gll talker text = record { position_in = valid_ranged IsPlace _ _ (position_ranged _ _ _ _); alt_hae_in = tt; alt_msl_in = tt; geoid_sep_in = tt; track_in = tt; speed_in = tt; climb_in = tt; pdop_in = tt; hdop_in = tt; vdop_in = tt; sats_in = tt }
-by_kind Gsa talker text = record { position_in = tt; alt_hae_in = tt; alt_msl_in = tt; geoid_sep_in = tt; track_in = tt; speed_in = tt; climb_in = tt; pdop_in = small_number 9_999 2 _ (omega arith); hdop_in = small_number 9_999 2 _ (omega arith); vdop_in = small_number 9_999 2 _ (omega arith); sats_in = tt }
-by_kind Gsv talker text = record { position_in = tt; alt_hae_in = tt; alt_msl_in = tt; geoid_sep_in = tt; track_in = tt; speed_in = tt; climb_in = tt; pdop_in = tt; hdop_in = tt; vdop_in = tt; sats_in = gsv_placed _ _ }
-by_kind Vtg talker text = record { position_in = tt; alt_hae_in = tt; alt_msl_in = tt; geoid_sep_in = tt; track_in = track_ranged _; speed_in = speed_ranged _; climb_in = tt; pdop_in = tt; hdop_in = tt; vdop_in = tt; sats_in = tt }
-by_kind Zda talker text = record { position_in = tt; alt_hae_in = tt; alt_msl_in = tt; geoid_sep_in = tt; track_in = tt; speed_in = tt; climb_in = tt; pdop_in = tt; hdop_in = tt; vdop_in = tt; sats_in = tt }
-by_kind kind talker text = empty_ranged Other
+-- each row of the kinds of sentences is in range
+row_ranged : (b : Bool) (row rest : Said) → IsRanged row.note → IsRanged rest.note → IsRanged (cond b row rest).note
+row_ranged true row rest this others = this
+row_ranged false row rest this others = others
+
+rmc_ranged : (text : List ℕ) → IsRanged (rmc text)
+unfolding rmc timed
+rmc_ranged text = record { position_in = valid_ranged IsPlace _ _ (position_ranged _ _ _ _); alt_hae_in = tt; alt_msl_in = tt; geoid_sep_in = tt; track_in = valid_ranged (HasNineDigits 4) _ _ (track_ranged _); speed_in = valid_ranged (HasNineDigits 3) _ _ (speed_ranged _); climb_in = tt; pdop_in = tt; hdop_in = tt; vdop_in = tt; sats_in = tt }
+
+gga_ranged : (text : List ℕ) → IsRanged (gga text)
+unfolding gga timed
+gga_ranged text = record { position_in = valid_ranged IsPlace _ _ (position_ranged _ _ _ _); alt_hae_in = tt; alt_msl_in = valid_ranged (HasNineDigits 3) _ _ (scaled_ranged 3 _); geoid_sep_in = valid_ranged (HasNineDigits 3) _ _ (scaled_ranged 3 _); track_in = tt; speed_in = tt; climb_in = tt; pdop_in = tt; hdop_in = valid_ranged IsU32 _ _ (small_number 9_999 2 _ (omega arith)); vdop_in = tt; sats_in = tt }
+
+gsv_ranged : (talker text : List ℕ) → IsRanged (gsv talker text)
+unfolding gsv
+gsv_ranged talker text = record { position_in = tt; alt_hae_in = tt; alt_msl_in = tt; geoid_sep_in = tt; track_in = tt; speed_in = tt; climb_in = tt; pdop_in = tt; hdop_in = tt; vdop_in = tt; sats_in = gsv_placed _ _ }
+
+gsa_ranged : (text : List ℕ) → IsRanged (gsa text)
+unfolding gsa
+gsa_ranged text = record { position_in = tt; alt_hae_in = tt; alt_msl_in = tt; geoid_sep_in = tt; track_in = tt; speed_in = tt; climb_in = tt; pdop_in = small_number 9_999 2 _ (omega arith); hdop_in = small_number 9_999 2 _ (omega arith); vdop_in = small_number 9_999 2 _ (omega arith); sats_in = tt }
+
+vtg_ranged : (text : List ℕ) → IsRanged (vtg text)
+unfolding vtg
+vtg_ranged text = record { position_in = tt; alt_hae_in = tt; alt_msl_in = tt; geoid_sep_in = tt; track_in = track_ranged _; speed_in = speed_ranged _; climb_in = tt; pdop_in = tt; hdop_in = tt; vdop_in = tt; sats_in = tt }
+
+gll_ranged : (text : List ℕ) → IsRanged (gll text)
+unfolding gll timed
+gll_ranged text = record { position_in = valid_ranged IsPlace _ _ (position_ranged _ _ _ _); alt_hae_in = tt; alt_msl_in = tt; geoid_sep_in = tt; track_in = tt; speed_in = tt; climb_in = tt; pdop_in = tt; hdop_in = tt; vdop_in = tt; sats_in = tt }
+
+zda_ranged : (text : List ℕ) → IsRanged (zda text)
+unfolding zda timed
+zda_ranged text = record { position_in = tt; alt_hae_in = tt; alt_msl_in = tt; geoid_sep_in = tt; track_in = tt; speed_in = tt; climb_in = tt; pdop_in = tt; hdop_in = tt; vdop_in = tt; sats_in = tt }
+
+said_ranged : (name talker text : List ℕ) → IsRanged (said_by name talker text).note
+said_ranged name talker text =
+    row_ranged _ _ _ (rmc_ranged text) (row_ranged _ _ _ (gga_ranged text) (row_ranged _ _ _ (gsv_ranged talker text) (row_ranged _ _ _ (gsa_ranged text)
+    (row_ranged _ _ _ (vtg_ranged text) (row_ranged _ _ _ (gll_ranged text) (row_ranged _ _ _ (zda_ranged text) (empty_ranged Other)))))))
+
+ranged_at : (address text : List ℕ) → IsRanged (said_at address text).note
+ranged_at address text =
+    row_ranged (is_address address) (said_by (drop 2 address) (take 2 address) text) (plainly (empty_note Other))
+    (said_ranged (drop 2 address) (take 2 address) text) (empty_ranged Other)
 
 pub sentence_ranged : (sentence : List ℕ) → IsRanged (sentence_note sentence)
 unfolding sentence_note body_note
-sentence_ranged sentence = by_kind _ _ _
+sentence_ranged sentence = ranged_at (address_of (body_of sentence)) (fields_of (body_of sentence))
 
 pub sentence_fits : (sentence : List ℕ) → Fits (sentence_note sentence)
 unfolding sentence_note

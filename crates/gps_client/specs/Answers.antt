@@ -3,7 +3,7 @@ use Rattle.std.specs.Prelude.{◌≡◌, ℕ, List, Option, Some, None, Result, 
 use Rattle.gps_client.specs.declared.fault.LineFault.{LineFault}
 use Rattle.gps_client.specs.declared.fault.LineFault.TheVariants as fault
 
--- want of memory says nothing
+-- out of memory, nothing is known
 abbrev pub Fails : {Y : Type 0} → LineFault → Option Y → Type 0
 Fails fault.NotALine read = read ≡ None
 Fails fault.NoMemory read = Unit {0}

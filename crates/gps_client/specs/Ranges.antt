@@ -17,7 +17,7 @@ use Rattle.gps_client.specs.declared.line.Polled.{Polled}
 abbrev pub IsName : List ℕ → Type 0
 IsName name = is_name name ≡ true
 
--- at most nine digits before the point of a number with so many decimals
+-- at most nine digits before the point of a number with the given number of decimals
 abbrev pub HasNineDigits : ℕ → ℤ → Type 0
 HasNineDigits decimals v = unsigned_abs v < 10 ^ (9 + decimals)
 

@@ -91,7 +91,7 @@ negated_at None text = made (λ n. pos n) (up_to 2_147_483_647) text
 unfoldable pub signed_at : Reading ℤ
 signed_at text = negated_at (behind (codes "-") text) text
 
--- a number with so many decimals, written as it must be
+-- a number with the given number of decimals, written as it must be
 abbrev pub is_number_byte : ℕ → Bool
 is_number_byte c = is_ascii_digit c || (c == 45) || (c == 46)
 
@@ -162,7 +162,7 @@ or_at None other text = other text
 unfoldable pub truth_at : Reading Bool
 truth_at text = or_at (word_at (codes "true") true text) (word_at (codes "false") false) text
 
--- at most so many items, each behind a comma, and the bracket behind them
+-- at most n items, each behind a comma, and the bracket behind them
 abbrev pub next_at : {X : Type 0} → Option (List ℕ) → Reading X → Reading (List X) → Reading (List X)
 next_at (Some rest) item more text = made (λ p. p.0 ∷ p.1) (item then more) rest
 next_at None item more text = word_at (codes "]") [] text

@@ -27,7 +27,7 @@ fn line_in(alloc: Global, text: &[u8]) -> Result<Line, LineFault>
 
 /// The value whose line this is, the CR LF at its end included.
 ///
-/// `NotALine` comes exactly where the line is that of no value in range, want of memory apart.
+/// `NotALine` comes only if the line is that of no value in range; the only other answer to such a line is `NoMemory`.
 #[tactic(auto, using(crate::proofs::Theorem::refuses))]
 pub fn read_line(alloc: Global, line: &[u8]) -> Result<Line, LineFault>
     ensures ok { (v : Value) → result ≡ Ok v → IsLineOf v line.now }

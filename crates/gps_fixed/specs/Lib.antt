@@ -1,5 +1,6 @@
 pub mod Civil
 pub mod Fields
+pub mod Hexadecimal
 pub mod Iso
 pub mod Moment
 pub mod Numeral

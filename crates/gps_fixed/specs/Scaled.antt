@@ -42,14 +42,14 @@ without_minus (c ∷ text) = if c == 45 then text else c ∷ text
 unfoldable pub scaled : ℕ → List ℕ → Option ℤ
 scaled k text = option_map (signed (has_minus text)) (magnitude k (without_minus text))
 
--- a text of exactly so many digits, optionally with a point and at least one digit behind it
+-- a text of exactly n digits, optionally with a point and at least one digit behind it
 abbrev pub has_whole : ℕ → Numeral → Bool
 has_whole count n = (n.before == count) && nat_lt 0 (unwrap_or n.behind 1)
 
 unfoldable pub digits_of : ℕ → ℕ → List ℕ → Option ℕ
 digits_of count k text = option_and_then (λ n. magnitude_if (has_whole count n) n) (numeral k text)
 
--- a text of exactly so many digits and nothing else
+-- a text of exactly n digits and nothing else
 abbrev pub is_whole : ℕ → Numeral → Bool
 is_whole count n = (n.before == count) && is_none n.behind
 

@@ -7,6 +7,7 @@
 mod bytes;
 mod civil;
 mod fields;
+mod hexadecimal;
 mod iso;
 mod iso_reading;
 mod no_memory;
@@ -20,6 +21,7 @@ mod utc;
 pub use bytes::Bytes;
 pub use civil::day_of;
 pub use fields::{le_i32, le_u16, le_u32};
+pub use hexadecimal::{lower_hex_digit, upper_hex_digit};
 pub use iso::{iso_text, push_iso};
 pub use iso_reading::stamp_of_iso;
 pub use no_memory::NoMemory;

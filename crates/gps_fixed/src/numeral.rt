@@ -173,14 +173,14 @@ impl Numeral {
         self.before > 0 || self.behind.unwrap_or(0) > 0
     }
 
-    /// So many digits stand before the point, and a digit behind it where there is a point.
+    /// This number of digits before the point, and a digit behind it if there is a point.
     pub fn has_whole(self, count: usize) -> bool
         ensures { result ≡ has_whole count self }
     {
         self.before == count && self.behind.unwrap_or(1) > 0
     }
 
-    /// So many digits stand before the point, and there is no point.
+    /// This number of digits, and no point.
     pub fn is_whole(self, count: usize) -> bool
         ensures { result ≡ is_whole count self }
     {

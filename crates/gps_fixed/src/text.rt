@@ -54,7 +54,7 @@ fn push_some_of_nine(out: &mut Bytes, n: u32, count: u8) -> Result<(), NoMemory>
     out.extend_from_slice(&nine[9 - count as usize..])
 }
 
-/// Adds `value / 10^decimals` with exactly so many decimals, 1 to 9: `-` only for a value below zero, no leading zeros.
+/// Adds `value / 10^decimals` with exactly `decimals` decimals, 1 to 9: `-` only for a value below zero, no leading zeros.
 pub fn push_scaled(out: &mut Bytes, value: i64, decimals: u8) -> Result<(), NoMemory>
     requires from { 1 ≤ decimals }
     requires to { decimals ≤ 9 }

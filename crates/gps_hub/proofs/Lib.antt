@@ -1,2 +1,3 @@
+pub mod Told
 pub mod Pumps
 pub mod Opening

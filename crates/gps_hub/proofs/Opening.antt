@@ -72,7 +72,7 @@ not_refused X O I o now x same refused = by_fault now (subst (λ (t : Option Boo
     by_fault (Some found) again = absurd (cc (again.1))
     by_fault None again = tt
 
--- so many live sessions, or so many that were opened, are at least 64
+-- if the number of live sessions or of opened ones is at its limit, at least 64 were opened
 many : (live opened : ℕ) → live ≤ opened → nat_eq live most_live || nat_eq opened most_opened ≡ true → 64 ≤ opened
 many live opened few is = by_live (nat_eq live most_live) refl is
   where

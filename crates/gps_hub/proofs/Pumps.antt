@@ -2,6 +2,7 @@
 use Rattle.std.proofs.Common.{◌≡◌, ◌<◌, ◌≤◌, ℕ, zero, suc, Bool, true, false, List, [], ◌∷◌, ◌++◌, length, get_or, set, Option, Some, None, refl, sym, ap, ◌∙◌, subst, inl, inr, ◌⊎◌, ⊎_elim, arith, get_or-set_same, get_or-set_other}
 use Rattle.std.specs.Prelude.{is_some, option_map, IfNone, MatchOption}
 use Rattle.std.proofs.lemmas.List.{get_or_default, set-get_or}
+use Rattle.book_log.specs.Entries.{Entry}
 use Rattle.book_sessions.specs.MemberView.{MemberView}
 use Rattle.book_sessions.specs.Roster.{IsOpenAt}
 use Rattle.gps_lane.specs.Ends.{Taking}
@@ -12,11 +13,13 @@ use Rattle.session_core.specs.declared.mark.Close.TheVariants.{NoMemory as Close
 use Rattle.serve_pieces.specs.declared.piece.Piece.{Piece}
 use Rattle.hub_promise.specs.declared.ends.DeviceEnd.{DeviceEnd}
 use Rattle.hub_promise.specs.DaemonHub.{MayGoOn}
+use Rattle.hub_promise.specs.Keeping.{DeviceKeeps, Lasts}
 use Rattle.hub_promise.specs.Parts.{HubView, InletsView, names_of, parts_of}
 use Rattle.hub_promise.specs.Steps.{with_bytes, with_edge, with_got}
 use Rattle.gps_hub.specs.declared.pumped.Pumped.{Pumped}
 use Rattle.gps_hub.specs.declared.pumped.Pumped.TheVariants.{Fed, Empty, Waiting, Done, Refused}
-use Rattle.gps_hub.specs.Pumping.{ClosedBy, DevicePumped, GetsInput, DeviceGoesOn, GotOne, KeepsOtherInputs, KeepsOthers, Looked, LookedAt, SessionPumped, TookInput}
+use Rattle.gps_hub.specs.Pumping.{ClosedBy, DevicePumped, GetsInput, DeviceGoesOn, GotOne, KeepsOtherInputs, KeepsOthers, Looked, LookedAt, SessionPumped, TakesOne, TookInput, end_told}
+use Rattle.gps_hub.proofs.Told.{told_by_bytes, told_by_line}
 
 pub none_of : {X : Type 0} (o : Option X) → false ≡ is_some o → o ≡ None
 none_of None e = refl
@@ -42,12 +45,16 @@ one_names x y one =
     ⊎_elim (λ (e : y ≡ with_bytes one.0 x). ap names_of e)
     (λ (e : y ≡ with_edge one.0 x). ap names_of e ∙ (λ i. record { bytes = x.bytes.lane; edges = edge_names one.0 x.edges i })) one.1
 
-pub looked_names : (r : Pumped) (x y : InletsView) (end : Option DeviceEnd) → Looked r x y end → names_of y ≡ names_of x
-looked_names Fed x y end looked = one_names x y looked
-looked_names Empty x y end looked = ap names_of looked
-looked_names (Waiting watched) x y end looked = absurd looked
-looked_names Done x y end looked = absurd looked
-looked_names (Refused fault) x y end looked = one_names x y looked.0
+got_one : (d : ℕ) (x y : InletsView) (lasts : Lasts) (end : Option DeviceEnd) (old new : BookView) → Looked Fed d x y lasts end old new → GotOne x y
+got_one d x y lasts end old new (piece, inl (is, took)) = (piece, inl is)
+got_one d x y lasts end old new (piece, inr ((is, lane), took)) = (piece, inr is)
+
+pub looked_names : (r : Pumped) (d : ℕ) (x y : InletsView) (lasts : Lasts) (end : Option DeviceEnd) (old new : BookView) → Looked r d x y lasts end old new → names_of y ≡ names_of x
+looked_names Fed d x y lasts end old new looked = one_names x y (got_one d x y lasts end old new looked)
+looked_names Empty d x y lasts end old new looked = ap names_of looked
+looked_names (Waiting watched) d x y lasts end old new looked = absurd looked
+looked_names Done d x y lasts end old new looked = absurd looked
+looked_names (Refused fault) d x y lasts end old new looked = one_names x y looked.0
 
 set_at : {A : Type 0} (xs : List A) (d : ℕ) (x y : A) → get_or xs d x ≡ x → y ≡ x → set xs d y ≡ xs
 set_at xs d x y here same = ap (set xs d) (same ∙ sym here) ∙ set-get_or xs d x
@@ -60,9 +67,27 @@ module _ (h : HubView) (d : ℕ) (book : BookView) (x y : InletsView) (was end :
   got_there one free =
       subst (λ (t : InletsView × InletsView). GotOne t.0 t.1) (λ i. ((sym here ∙ get_or_default h.inlets d x free lt) i, sym (get_or-set_same h.inlets d y free lt) i)) one
 
-  pub device_pumped : (r : Pumped) → DeviceGoesOn h d → Looked r x y end → (r ≡ Empty → (book ≡ h.book) × (end ≡ was)) → DevicePumped r d h after
-  device_pumped Fed goes looked empty = (goes, got_there looked)
-  device_pumped Empty goes looked empty =
+  took_one : (log : List Entry) (lasts : Lasts) → DeviceKeeps log d x None lasts → Looked Fed d x y lasts end h.book book → TakesOne d x y end h.book book
+  took_one log lasts k (piece, inl (is, (moves, stop))) = record {
+    piece = piece;
+    gets = inl (is, moves);
+    ends = told_by_bytes log d x lasts k piece end stop ∙ ap end_told (sym is);
+  }
+  took_one log lasts k (piece, inr ((is, (lane, has)), (moves, stop))) = record {
+    piece = piece;
+    gets = inr ((is, (lane, has)), moves);
+    ends = told_by_line log d x lasts k piece lane end has stop ∙ ap end_told (sym is);
+  }
+
+  took_there : TakesOne d x y end h.book book → (free : InletsView) → TakesOne d (get_or h.inlets d free) (get_or (set h.inlets d y) d free) (get_or (set h.ends d end) d None) h.book book
+  took_there one free =
+      subst (λ (t : InletsView × InletsView × Option DeviceEnd). TakesOne d t.0 t.1 t.2 h.book book)
+      (λ i. ((sym here ∙ get_or_default h.inlets d x free lt) i, sym (get_or-set_same h.inlets d y free lt) i, sym (get_or-set_same h.ends d end None ends_lt) i)) one
+
+  pub device_pumped : (r : Pumped) (log : List Entry) (lasts : Lasts) → DeviceKeeps log d x None lasts → DeviceGoesOn h d → Looked r d x y lasts end h.book book
+      → (r ≡ Empty → (book ≡ h.book) × (end ≡ was)) → DevicePumped r d h after
+  device_pumped Fed log lasts k goes looked empty = (goes, took_there (took_one log lasts k looked))
+  device_pumped Empty log lasts k goes looked empty =
       let still = empty refl in (
         goes,
         (λ i. record {
@@ -75,9 +100,9 @@ module _ (h : HubView) (d : ℕ) (book : BookView) (x y : InletsView) (was end :
           is_shut = h.is_shut;
         }),
       )
-  device_pumped (Waiting watched) goes looked empty = absurd looked
-  device_pumped Done goes looked empty = absurd looked
-  device_pumped (Refused fault) goes looked empty =
+  device_pumped (Waiting watched) log lasts k goes looked empty = absurd looked
+  device_pumped Done log lasts k goes looked empty = absurd looked
+  device_pumped (Refused fault) log lasts k goes looked empty =
       (goes, got_there looked.0, looked.1, get_or-set_same h.ends d end None ends_lt ∙ looked.2)
 
   pub other_devices : KeepsOthers d h after

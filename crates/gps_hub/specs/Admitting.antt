@@ -17,12 +17,12 @@ ShutIf true old new = ShutsAll old new
 abbrev pub AdmitsAs : SessionLanes → Bool → BookView → BookView → Type 0
 AdmitsAs link is_shut old new = (mid : BookView) × Admits (of_table link.outlet) link.cap old mid × ShutIf is_shut mid new
 
--- this fault, where there is one, and else want of memory
+-- this fault, if there is one, and else out of memory
 abbrev pub fault_or_memory : Option BookFault → BookFault
 fault_or_memory (Some fault) = fault
 fault_or_memory None = NoMemory
 
--- refused by this fault, where there is one, and else by nothing but want of memory; what was handed over comes back
+-- refused by this fault, if there is one, and else only out of memory; what was handed over comes back
 abbrev pub RefusesLink : {X O I : Type 0} → Option BookFault → Result X (O × I × BookFault) → Type 0
 RefusesLink (Some fault) result = (outlet : _) × (input : _) × (result ≡ Err (outlet, input, fault))
 RefusesLink None result = IfErr result (λ refusal. refusal.2 ≡ NoMemory)

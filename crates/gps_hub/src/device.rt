@@ -11,7 +11,7 @@ ghost use Rattle.hub_promise.specs.Given.{end_by, end_of as end_value};
 ghost use Rattle.hub_promise.specs.Keeping.{Lasts as LastsView};
 ghost use Rattle.hub_promise.specs.Parts.{InletsView};
 ghost use Rattle.hub_promise.specs.Steps.{DeviceStep, MovesOn, stop_entries, with_bytes, with_edge};
-ghost use Rattle.gps_hub.specs.Pumping.{Looked, TookDevice};
+ghost use Rattle.gps_hub.specs.Pumping.{Looked, TookBytes, TookLine};
 ghost use Rattle.pps_edges.specs.Scan.{edge_in};
 
 use crate::inlets::{Inlets, Lasts, Next};
@@ -69,6 +69,7 @@ fn refuse<R: Wait + Copy>(
     ensures earns { Earns book.old book.new (lost d) }
     ensures end { end.new ≡ Some DeviceEnd.NoMemory }
     ensures answer { result ≡ Pumped.Refused fault }
+    ensures memory { fault ≡ BookNoMemory }
 {
     lose(book, d);
     *end = Some(DeviceEnd::NoMemory);
@@ -135,7 +136,7 @@ fn feed<R: Wait + Copy>(
     requires runs { device_fault book.old d ≡ None }
     requires going { end.old ≡ None }
     ensures step { (x : InletsView) (lasts : LastsView) → DeviceStep d book.old book.new x (with_bytes (Bytes at bytes.now) x) end.old end.new lasts lasts }
-    ensures answer { TookDevice result end.new }
+    ensures answer { (lasts : LastsView) → TookBytes result d (Bytes at bytes.now) lasts end.new book.old book.new }
 {
     book.show();
     match book.feed(d, at, bytes.as_slice()) {
@@ -154,7 +155,7 @@ fn bytes_end<R: Wait + Copy>(
     requires runs { device_fault book.old d ≡ None }
     requires going { end.old ≡ None }
     ensures step { (x : InletsView) → DeviceStep d book.old book.new x (with_bytes (Last ending) x) end.old end.new lasts.old lasts.new }
-    ensures answer { TookDevice result end.new }
+    ensures answer { TookBytes result d (Last ending) lasts.old end.new book.old book.new }
 {
     match stop(book, d, Some(ending), lasts.edges) {
         Ok(stopped) => {
@@ -177,7 +178,7 @@ fn take_bytes<R: Wait + Copy>(
     requires runs { device_fault book.old d ≡ None }
     requires going { end.old ≡ None }
     ensures step { (x : InletsView) → DeviceStep d book.old book.new x (with_bytes piece x) end.old end.new lasts.old lasts.new }
-    ensures answer { TookDevice result end.new }
+    ensures answer { TookBytes result d piece lasts.old end.new book.old book.new }
 {
     match piece {
         Piece::Bytes { at, bytes } => feed(book, end, d, at, &bytes),
@@ -197,7 +198,7 @@ fn edge<R: Wait + Copy>(
     requires going { end.old ≡ None }
     ensures step { (line : List ℕ) (x : InletsView) (lane : Taking Piece) (lasts : LastsView) → Some edge ≡ edge_in line → x.edges ≡ Some lane
         → DeviceStep d book.old book.new x (with_edge (Line line) x) end.old end.new lasts lasts }
-    ensures answer { TookDevice result end.new }
+    ensures answer { (line : List ℕ) (lasts : LastsView) → Some edge ≡ edge_in line → TookLine result d (Line line) lasts end.new book.old book.new }
 {
     book.show();
     match book.edge(d, edge) {
@@ -224,7 +225,7 @@ fn edges_end<R: Wait + Copy>(
     requires going { end.old ≡ None }
     ensures step { (x : InletsView) (lane : Taking Piece) → x.edges ≡ Some lane
         → DeviceStep d book.old book.new x (with_edge (Last ending) x) end.old end.new lasts.old lasts.new }
-    ensures answer { TookDevice result end.new }
+    ensures answer { TookLine result d (Last ending) lasts.old end.new book.old book.new }
 {
     match stop(book, d, lasts.bytes, Some(ending)) {
         Ok(stopped) => {
@@ -246,7 +247,7 @@ fn line<R: Wait + Copy>(
     requires going { end.old ≡ None }
     ensures step { (x : InletsView) (lane : Taking Piece) (lasts : LastsView) → x.edges ≡ Some lane
         → DeviceStep d book.old book.new x (with_edge (Line line.now) x) end.old end.new lasts lasts }
-    ensures answer { TookDevice result end.new }
+    ensures answer { (lasts : LastsView) → TookLine result d (Line line.now) lasts end.new book.old book.new }
 {
     match read_edge(line) {
         Some(found) => edge(book, end, d, found),
@@ -266,7 +267,7 @@ fn take_edge<R: Wait + Copy>(
     requires going { end.old ≡ None }
     ensures step { (x : InletsView) (lane : Taking Piece) → x.edges ≡ Some lane
         → DeviceStep d book.old book.new x (with_edge piece x) end.old end.new lasts.old lasts.new }
-    ensures answer { TookDevice result end.new }
+    ensures answer { TookLine result d piece lasts.old end.new book.old book.new }
 {
     match piece {
         Piece::Line(text) => line(book, end, d, &text),
@@ -287,7 +288,7 @@ pub(crate) fn pump<R: Wait + Copy>(
     requires runs { device_fault book.old d ≡ None }
     requires going { end.old ≡ None }
     ensures step { DeviceStep d book.old book.new inlets.old inlets.new end.old end.new lasts.old lasts.new }
-    ensures answer { Looked result inlets.old inlets.new end.new }
+    ensures answer { Looked result d inlets.old inlets.new lasts.old end.new book.old book.new }
     ensures empty { result ≡ Pumped.Empty → (book.new ≡ book.old) × (end.new ≡ end.old) }
 {
     match inlets.next(lasts) {

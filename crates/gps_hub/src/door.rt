@@ -39,6 +39,7 @@ pub(crate) fn open<R: Wait + Copy>(
     is_shut: bool,
 ) -> Result<u32, (Tx<Item, R>, BookFault)>
     requires empty { outlet.put ≡ [] }
+    requires open { outlet.is_open ≡ true }
     requires ended { is_shut ≡ true → list_all (λ line. has_stopped line.stage) book.old.log.present.lines ≡ true }
     ensures number { IfOk result (λ s. s ≡ length book.old.sessions) }
     ensures admits { IfOk result (λ _. (mid : BookView) × BookHolds mid × Admits (of_table outlet.lane) outlet.cap book.old mid × ShutIf is_shut mid book.new) }
@@ -79,7 +80,7 @@ pub(crate) fn take_room<R>(
     open_sessions.reserve()
 }
 
-/// Why no session may be admitted now: by the numbers of the book, or for want of memory.
+/// Why no session may be admitted now: by the numbers of the book, or as it is out of memory.
 pub(crate) fn refusal_of<R: Wait + Copy>(book: &Book<Tx<Item, R>>) -> BookFault
     ensures { result ≡ fault_or_memory (crowd_fault book.now) }
 {

@@ -77,7 +77,7 @@ fn publish_unit<R: Wait + Copy>(book: &mut Book<Tx<Item, R>>, u: u8) -> UnitStep
 }
 
 impl<J: HubNaming, R: Wait + Copy> Hub<J, R> {
-    /// A hub over a new book, with the lanes of its devices; and the token of the door's worker. The devices wait until so many sessions
+    /// A hub over a new book, with the lanes of its devices; and the token of the door's worker. The devices wait until `wait` sessions
     /// have watched, or the door has closed or failed.
     pub fn new(
         alloc: Global,
@@ -202,6 +202,7 @@ impl<J: HubNaming, R: Wait + Copy> Hub<J, R> {
         input: Rx<Piece, R>,
     ) -> Result<u32, (Tx<Item, R>, Rx<Piece, R>, BookFault)>
         requires outlet { outlet.put ≡ [] }
+        requires open { outlet.is_open ≡ true }
         requires input { input.got ≡ [] }
         ensures number { IfOk result (λ s. s ≡ length door.old.links) }
         ensures door { OnOk result (door.new ≡ admitting (link_of outlet.lane outlet.cap input.lane) door.old) }
@@ -280,8 +281,8 @@ impl<J: HubNaming, R: Wait + Copy> Hub<J, R> {
         }
     }
 
-    /// Lets both ends of a closed session's input lane meet: pieces that it still holds are got, and no request of them is answered. Nothing
-    /// changes where the session is not closed.
+    /// Lets both ends of a closed session's input lane meet: pieces that it still holds are got, and no request of them is answered. Then the
+    /// lane may be closed, so that nothing can be put into it any more. Nothing changes where the session is not closed.
     pub fn settle_input(&mut self, door: &mut DoorSeat<J>, s: u32, pieces: &mut Tx<Piece, R>)
         requires there { s < length door.old.links }
         requires input { (free : SessionLanes) → pieces.old.lane ≡ (get_or door.old.links s free).input }
@@ -289,7 +290,7 @@ impl<J: HubNaming, R: Wait + Copy> Hub<J, R> {
         ensures hub { self.new ≡ record self.old { inputs = self.new.inputs } }
         ensures others { KeepsOtherInputs s self.old self.new }
         ensures door { door.new ≡ door.old }
-        ensures pieces { pieces.new ≡ pieces.old }
+        ensures pieces { pieces.new ≡ record pieces.old { is_open = pieces.new.is_open } }
     {
         if self.book.closing(s).is_none() {
             return;

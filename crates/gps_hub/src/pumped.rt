@@ -7,7 +7,7 @@ pub enum Pumped {
     Fed,
     /// The lanes held nothing.
     Empty,
-    /// Devices wait until more sessions watch, or the door has closed or failed; so many have watched.
+    /// Devices wait until more sessions watch, or the door has closed or failed; `watched` have.
     Waiting { watched: u32 },
     /// The device has stopped, or the session is closed.
     Done,

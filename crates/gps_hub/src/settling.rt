@@ -7,7 +7,7 @@ ghost use Rattle.hub_promise.specs.Given.{TellsOnce};
 ghost use Rattle.hub_promise.specs.Steps.{GetsMore};
 ghost use Rattle.gps_hub.specs.Emptied.{GotAll};
 
-use gps_lane::{Rx, Tx, settle};
+use gps_lane::{Rx, Tx, settle_or_close};
 use report_book::Book;
 use serve_pieces::Piece;
 use session_core::Item;
@@ -39,20 +39,20 @@ pub(crate) fn next_item<R: Wait + Copy>(
 fn drop_piece<R: Wait + Copy>(pieces: &mut Tx<Piece, R>, input: &mut Rx<Piece, R>) -> bool
     requires one_lane { input.old.lane ≡ pieces.old.lane }
     requires once { TellsOnce pieces.old.put }
-    ensures pieces { pieces.new ≡ pieces.old }
+    ensures pieces { pieces.new ≡ record pieces.old { is_open = result } }
     ensures input { GetsMore input.old input.new }
 {
-    settle(pieces, input).is_some()
+    settle_or_close(pieces, input).is_some()
 }
 
-/// Gets what a closed session's input lane still holds, and drops it. Its getting end has left.
+/// Gets what a closed session's input lane still holds, and drops it. Then the lane is closed.
+#[tactic(auto, using(gps_lane::proofs::Closing::still_same))]
 pub(crate) fn empty<R: Wait + Copy>(pieces: &mut Tx<Piece, R>, input: &mut Rx<Piece, R>)
     requires one_lane { input.old.lane ≡ pieces.old.lane }
     requires once { TellsOnce pieces.old.put }
-    ensures pieces { pieces.new ≡ pieces.old }
+    ensures pieces { pieces.new ≡ record pieces.old { is_open = pieces.new.is_open } }
     ensures input { GetsMore input.old input.new }
 {
-    input.leave();
     'pieces: for _ in 0..=PIECES {
         if !drop_piece(pieces, input) {
             return;

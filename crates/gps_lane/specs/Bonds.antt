@@ -1,4 +1,4 @@
--- What both ends of a lane know of it in common: which queue it goes through, and once they have let go of this queue, all that went through
+-- What both ends of a lane know of it in common: which queue it goes through, and once they have dropped this queue, all that went through
 -- it. Each end has a seat of one table, by which the two agree.
 use Rattle.std.specs.Prelude.{◌≡◌, ℕ, true, false, List, [], Option, Some, None}
 use Rattle.atomic_table.specs.Seated.{TableId}
@@ -19,7 +19,7 @@ open_over queue = record { queue = table_name queue; all = None }
 abbrev pub let_go : {T : Type 0} → TableId → List T → Bond T
 let_go queue all = record { queue = table_name queue; all = Some all }
 
--- what both ends know, where they still have a queue or have let go of it
+-- what both ends know, where they still have a queue or have dropped it
 abbrev pub bond_by : {Q T : Type 0} → Option Q → TableId → List T → Bond T
 bond_by (Some queue) id all = open_over id
 bond_by None id all = let_go id all

@@ -28,6 +28,6 @@ EndsWith {T} last all = (front : List T) × (all ≡ front ++ last)
 abbrev pub BeginsWith : {T : Type 0} → List T → List T → Type 0
 BeginsWith {T} first all = (rest : List T) × (all ≡ first ++ rest)
 
--- so many items were put at least: these are the last of them
+-- at least n items were put: these are the last of them
 abbrev pub PutAtLeast : {T : Type 0} → ℕ → List T → Type 0
 PutAtLeast {T} n put = (held : List T) × (length held ≡ n) × EndsWith held put

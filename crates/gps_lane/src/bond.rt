@@ -14,7 +14,7 @@ use std::marker::{Brand, PhantomData};
 pub struct Bond<T> {
     /// The queue through which it goes, or went.
     pub queue: TableName,
-    /// All that went through it, once they have let go of the queue.
+    /// All that went through it, once they have dropped the queue.
     pub all: Option<LinkedList<T>>,
 }
 
@@ -109,7 +109,7 @@ fn tie<T>(table: &BondTable<T>, seat: &mut BondSeat<T>, pass: &LanePass<T>)
     store::<T, Brand>(table, seat, pass);
 }
 
-/// The ends let go of the queue of this pass. What the pass knows to be put is then all that went through it.
+/// The ends drop the queue of this pass. What the pass knows to be put is then all that went through it.
 pub(crate) fn untie<T>(table: &BondTable<T>, seat: &mut BondSeat<T>, pass: &LanePass<T>)
     requires one { table.now.shared.table_id.words ≡ 1 }
     requires seat { IsSeat table.now.shared.table_id seat.old.table_id seat.old.me (both_ends seat.old.me.0.put seat.old.me.0.got) }

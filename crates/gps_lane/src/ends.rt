@@ -1,4 +1,4 @@
-ghost use Rattle.std.specs.Prelude.{◌≡◌, ◌≤◌, List, [], ◌∷◌, ◌++◌, IfOk, IfNone, true, false};
+ghost use Rattle.std.specs.Prelude.{◌≡◌, ◌≤◌, List, [], ◌∷◌, ◌++◌, IfOk, IfNone, IfSome, is_some, true, false};
 ghost use Rattle.std.specs.Option.{option_to_list};
 ghost use Rattle.crossbeam_queue.specs.Passes.{IsPassOf};
 ghost use Rattle.gps_lane.specs.Lane.{BeginsWith, PutAtLeast, log};
@@ -10,7 +10,6 @@ use gps_fixed::NoMemory;
 use std::alloc::Global;
 use std::marker::Model;
 use std::sync::{Arc, Wait};
-use std::thread::Parker;
 
 /// What a push into a lane answers.
 #[derive(Drop)]
@@ -24,7 +23,7 @@ pub enum Pushed<T> {
 #[derive(Drop)]
 pub struct Tx<T, R> {
     rt: R,
-    // None where both ends have let go of it.
+    // None once the lane is closed.
     queue: Option<Arc<Queue<T>>>,
     pass: LanePass<T>,
     cap: u32,
@@ -33,7 +32,7 @@ pub struct Tx<T, R> {
 }
 
 impl<T, R> Model for Tx<T, R> {
-    ghost use Rattle.std.specs.Prelude.{◌≡◌, ◌≤◌, true, false, [], IfSome};
+    ghost use Rattle.std.specs.Prelude.{◌≡◌, ◌≤◌, true, false, [], IfSome, is_some};
     ghost use Rattle.std.specs.Arc.{arc_value};
     ghost use Rattle.crossbeam_queue.specs.Passes.{IsPassOf, ruled_capacity};
     ghost use Rattle.gps_lane.specs.Bonds.{IsSeat, bond_by, putting};
@@ -42,7 +41,7 @@ impl<T, R> Model for Tx<T, R> {
 
     ghost Value = { Putting T };
 
-    ghost view = { λ s. record { lane = s.table.shared.table_id; cap = s.cap; put = s.pass.me.0.client.put } };
+    ghost view = { λ s. record { lane = s.table.shared.table_id; cap = s.cap; put = s.pass.me.0.client.put; is_open = is_some s.queue } };
 
     ghost invariant = { λ s. (s.pass.me.0.client ≡ log true false s.pass.me.0.client.put [])
         × (1 ≤ s.cap)
@@ -55,11 +54,10 @@ impl<T, R> Model for Tx<T, R> {
 #[derive(Drop)]
 pub struct Rx<T, R> {
     rt: R,
-    // None where both ends have let go of it.
+    // None once the lane is closed.
     queue: Option<Arc<Queue<T>>>,
     pass: LanePass<T>,
     seat: BondSeat<T>,
-    has_left: bool,
 }
 
 impl<T, R> Model for Rx<T, R> {
@@ -90,6 +88,7 @@ pub fn lane<T: Drop, R: Wait + Copy>(
     ensures cap { IfOk result (λ ends. ends.0.cap ≡ cap) }
     ensures put { IfOk result (λ ends. ends.0.put ≡ []) }
     ensures got { IfOk result (λ ends. ends.1.got ≡ []) }
+    ensures open { IfOk result (λ ends. ends.0.is_open ≡ true) }
     ensures one_lane { IfOk result (λ ends. ends.1.lane ≡ ends.0.lane) }
 {
     let (queue, mut pass) = Queue::<T>::ruled(alloc, cap as usize)?;
@@ -110,33 +109,22 @@ pub fn lane<T: Drop, R: Wait + Copy>(
         queue: Some(other),
         pass: theirs,
         seat: their_seat,
-        has_left: false,
     };
     Ok((tx, rx))
 }
 
-/// Waits for what never comes.
-fn wait_for_ever<T, R: Wait>(rt: &R) -> T
-    ensures { ⊥ }
-{
-    let parker = Parker::new();
-    for _ in rt.forever() {
-        parker.park(rt);
-    }
-    unreachable!()
-}
-
 impl<T: Drop, R: Wait + Copy> Tx<T, R> {
-    /// Puts an item. Full comes where the lane held as many items as it may at one moment of the call; the clause says that so many were put.
+    /// Puts an item. Full comes where the lane held as many items as it may at one moment of the call; the clause says that this number was put.
     ///
-    /// Takes no memory. It may wait for a step of the other end inside the queue. Nothing can be put any more once both ends have let go of
-    /// the queue ([`settle`]): such a push never returns.
+    /// Takes no memory. It may wait for a step of the other end inside the queue. A lane that is closed ([`settle_or_close`]) takes no item:
+    /// neither answer would be true of it.
     pub fn push(&mut self, item: T) -> Pushed<T>
+        requires open { self.old.is_open ≡ true }
         ensures done { MatchPushed result (self.new ≡ record self.old { put = self.old.put ++ item ∷ [] }) (λ back. (back ≡ item) × (self.new ≡ self.old)) }
         ensures full { MatchPushed result (Unit {0}) (λ _. PutAtLeast self.old.cap self.old.put) }
     {
         let Some(queue) = &self.queue else {
-            return wait_for_ever(&self.rt);
+            unreachable!()
         };
         match queue.push_as::<Puts, R>(&self.rt, &mut self.pass, item) {
             Ok(()) => Pushed::Done,
@@ -164,14 +152,6 @@ impl<T: Drop, R: Wait + Copy> Rx<T, R> {
             Some(queue) => queue.pop_as::<Gets, R>(&self.rt, &mut self.pass),
             None => None,
         }
-    }
-
-    /// Says that this end has no more use for the lane: from now on a [`settle`] that finds nothing lets both ends go of their queue. Nothing
-    /// may be put into the lane after that, as such a push would never return.
-    pub fn leave(&mut self)
-        ensures { self.new ≡ self.old }
-    {
-        self.has_left = true;
     }
 }
 
@@ -202,12 +182,10 @@ fn next<T: Drop, R: Wait + Copy>(
 
 /// Gets the next item where both ends of a lane are at hand. What was got is then a prefix of what was put, and all of
 /// it where there was none to get. Takes no memory.
-///
-/// Where there was none and the end that gets has left ([`Rx::leave`]), both ends let go of the queue. So a lane of which no more use is made
-/// keeps one word, and can still be settled. No clause speaks of this.
 pub fn settle<T: Drop, R: Wait + Copy>(tx: &mut Tx<T, R>, rx: &mut Rx<T, R>) -> Option<T>
     requires { rx.old.lane ≡ tx.old.lane }
     ensures tx { tx.new ≡ tx.old }
+    ensures open { IfSome result (λ _. tx.old.is_open ≡ true) }
     ensures rx { rx.new ≡ record rx.old { got = rx.old.got ++ option_to_list result } }
     ensures prefix { (rest : List T) × (tx.new.put ≡ rx.new.got ++ rest) }
     ensures all { IfNone result (rx.new.got ≡ tx.new.put) }
@@ -217,11 +195,35 @@ pub fn settle<T: Drop, R: Wait + Copy>(tx: &mut Tx<T, R>, rx: &mut Rx<T, R>) -> 
         Some(queue) => next(&tx.rt, queue, &mut tx.pass, &mut rx.pass),
         None => None,
     };
-    if item.is_none() && rx.has_left {
-        untie(&tx.table, &mut tx.seat, &tx.pass);
-        tx.queue = None;
-        rx.queue = None;
-    }
     rx.seat = part(&tx.table, &mut tx.seat);
+    item
+}
+
+/// Closes a lane that holds nothing: its two ends drop the queue. Each keeps the one word of the lane's table, so that they can still be settled.
+fn close<T: Drop, R: Wait + Copy>(tx: &mut Tx<T, R>, rx: &mut Rx<T, R>)
+    requires one_lane { rx.old.lane ≡ tx.old.lane }
+    requires all { rx.old.got ≡ tx.old.put }
+    ensures tx { tx.new ≡ record tx.old { is_open = false } }
+    ensures rx { rx.new ≡ rx.old }
+{
+    meet(&tx.table, &mut tx.seat, &mut rx.seat);
+    untie(&tx.table, &mut tx.seat, &tx.pass);
+    tx.queue = None;
+    rx.queue = None;
+    rx.seat = part(&tx.table, &mut tx.seat);
+}
+
+/// As [`settle`], and closes the lane if there was none to get: nothing can be put any more, and its queue needs no memory from then on.
+pub fn settle_or_close<T: Drop, R: Wait + Copy>(tx: &mut Tx<T, R>, rx: &mut Rx<T, R>) -> Option<T>
+    requires { rx.old.lane ≡ tx.old.lane }
+    ensures tx { tx.new ≡ record tx.old { is_open = is_some result } }
+    ensures rx { rx.new ≡ record rx.old { got = rx.old.got ++ option_to_list result } }
+    ensures prefix { (rest : List T) × (tx.new.put ≡ rx.new.got ++ rest) }
+    ensures all { IfNone result (rx.new.got ≡ tx.new.put) }
+{
+    let item = settle(tx, rx);
+    if item.is_none() {
+        close(tx, rx);
+    }
     item
 }

@@ -12,5 +12,5 @@ mod table_name;
 mod tests;
 
 pub use bell::Bell;
-pub use ends::{Pushed, Rx, Tx, lane, settle};
+pub use ends::{Pushed, Rx, Tx, lane, settle, settle_or_close};
 pub use table_name::TableName;

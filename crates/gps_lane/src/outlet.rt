@@ -1,9 +1,9 @@
-use crate::{Pushed, Rx, Tx, settle};
+use crate::{Pushed, Rx, Tx, settle, settle_or_close};
 use session_core::{Item, Outlet, Push, TwoEnded};
 use std::sync::Wait;
 
 impl<R: Wait + Copy> Outlet for Tx<Item, R> {
-    ghost use Rattle.std.specs.Prelude.{false};
+    ghost use Rattle.std.specs.Prelude.{◌≡◌, true, false};
     ghost use Rattle.session_core.specs.Naming.{OutletName, of_table};
 
     ghost kept = { λ s. s.put };
@@ -13,6 +13,8 @@ impl<R: Wait + Copy> Outlet for Tx<Item, R> {
     ghost name = { λ s. OutletName.of_table s.lane };
 
     ghost exact = { false };
+
+    ghost takes = { λ s. s.is_open ≡ true };
 
     fn push(&mut self, item: Item) -> Push {
         match Tx::push(self, item) {
@@ -34,7 +36,11 @@ impl<R: Wait + Copy> TwoEnded for Tx<Item, R> {
 
     ghost belongs = { λ far near. far ≡ near };
 
-    fn settle(&mut self, far: &mut Rx<Item, R>) -> Option<Item> {
-        settle(self, far)
+    fn settle(&mut self, far: &mut Rx<Item, R>, is_end: bool) -> Option<Item> {
+        if is_end {
+            settle_or_close(self, far)
+        } else {
+            settle(self, far)
+        }
     }
 }

@@ -1,4 +1,6 @@
-use crate::{Bell, Pushed, Rx, Tx, lane, settle};
+ghost use Rattle.std.specs.Prelude.{◌≡◌, true};
+
+use crate::{Bell, Pushed, Rx, Tx, lane, settle, settle_or_close};
 use std::sync::Wait;
 use std::test::Fail;
 use std::thread;
@@ -12,22 +14,23 @@ fn back_of(pushed: Pushed<u32>) -> Option<u32> {
 }
 
 #[test]
-fn a_lane_of_two_is_full_after_two(rt: HostRuntime) -> Result<(), Fail> {
+fn a_lane_of_two_has_room_again_once_two_were_received(rt: HostRuntime) -> Result<(), Fail> {
     let (mut tx, mut rx) = lane(rt, rt.alloc(), 2)?;
-    for (item, back) in [(1, None), (2, None), (3, Some(3))] {
-        assert_eq!(rt; back_of(tx.push(item)), back);
-    }
-    assert_eq!(rt; rx.pop(), Some(1));
-    assert_eq!(rt; back_of(tx.push(4)), None);
-    for got in [Some(2), Some(4), None] {
+    assert_eq!(rt; back_of(tx.push(1)), None);
+    assert_eq!(rt; back_of(tx.push(2)), None);
+    assert_eq!(rt; back_of(tx.push(3)), Some(3));
+    for got in [Some(1), Some(2), None] {
         assert_eq!(rt; rx.pop(), got);
     }
-    assert_eq!(rt; settle(&mut tx, &mut rx), None);
+    assert_eq!(rt; back_of(tx.push(4)), None);
+    assert_eq!(rt; back_of(tx.push(5)), None);
+    assert_eq!(rt; back_of(tx.push(6)), Some(6));
+    assert_eq!(rt; settle(&mut tx, &mut rx), Some(4));
     Ok(())
 }
 
 #[test]
-fn a_lane_whose_ends_stay_goes_on_after_it_was_empty(rt: HostRuntime) -> Result<(), Fail> {
+fn a_lane_that_is_not_closed_goes_on_after_it_was_empty(rt: HostRuntime) -> Result<(), Fail> {
     let (mut tx, mut rx) = lane(rt, rt.alloc(), 2)?;
     assert_eq!(rt; settle(&mut tx, &mut rx), None);
     assert_eq!(rt; back_of(tx.push(1)), None);
@@ -36,12 +39,11 @@ fn a_lane_whose_ends_stay_goes_on_after_it_was_empty(rt: HostRuntime) -> Result<
 }
 
 #[test]
-fn ends_that_have_left_can_still_be_settled(rt: HostRuntime) -> Result<(), Fail> {
+fn the_ends_of_a_closed_lane_can_still_be_settled(rt: HostRuntime) -> Result<(), Fail> {
     let (mut tx, mut rx) = lane(rt, rt.alloc(), 2)?;
     assert_eq!(rt; back_of(tx.push(1)), None);
-    rx.leave();
-    assert_eq!(rt; settle(&mut tx, &mut rx), Some(1));
-    assert_eq!(rt; settle(&mut tx, &mut rx), None);
+    assert_eq!(rt; settle_or_close(&mut tx, &mut rx), Some(1));
+    assert_eq!(rt; settle_or_close(&mut tx, &mut rx), None);
     assert_eq!(rt; rx.pop(), None);
     assert_eq!(rt; settle(&mut tx, &mut rx), None);
     Ok(())
@@ -56,7 +58,9 @@ struct Bells {
 
 const NUMBERS: u32 = 1_000_000;
 
-fn put_numbers<R: Wait + Copy>(rt: &R, tx: &mut Tx<u32, R>, bells: &Bells) {
+fn put_numbers<R: Wait + Copy>(rt: &R, tx: &mut Tx<u32, R>, bells: &Bells)
+    requires { tx.old.is_open ≡ true }
+{
     for number in 0..NUMBERS {
         let mut next = number;
         for _ in rt.forever() {

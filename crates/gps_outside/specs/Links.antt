@@ -20,6 +20,13 @@ Admits Quiet before after = Goes Stays before after
 Admits Closed before after = Goes HasNoLink before after
 Admits Failed before after = Goes Stays before after
 
+-- a door's faults rise only where it answers Failed
+abbrev pub FailsOnly : {I O : Type 0} → DoorStep I O → ℕ → ℕ → Type 0
+FailsOnly (Link source sink) before after = after ≡ before
+FailsOnly Quiet before after = after ≡ before
+FailsOnly Closed before after = after ≡ before
+FailsOnly Failed before after = Unit {0}
+
 -- nothing was taken from a source, where it tells that, and it counted nothing
 pub record IsUnread (content : Option Stream) (faults quiets : ℕ) : Type 0 where
   pub nothing : IfSome content (λ stream. stream.taken ≡ [])

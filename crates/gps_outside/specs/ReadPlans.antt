@@ -22,7 +22,7 @@ abbrev pub at_its_end : AtEnd → ReadStep
 at_its_end EndsByEnd = End
 at_its_end EndsByQuiet = Quiet
 
--- at most so many of the bytes left, but one at least
+-- at most n of the bytes left, but one at least
 abbrev pub given : ℕ → List ℕ → AtEnd → ReadStep
 given most [] at_end = at_its_end at_end
 given most (byte ∷ left) at_end = Got (min (max 1 most) (length (byte ∷ left)))

@@ -18,7 +18,7 @@ pub trait Door: Drop {
     ghost use Rattle.std.specs.Prelude.{◌≡◌, ℕ, ◌≤◌, List, Option};
     ghost use Rattle.gps_outside.specs.declared.door.DoorStep.{DoorStep};
     ghost use Rattle.gps_outside.specs.Counts.{Rose};
-    ghost use Rattle.gps_outside.specs.Links.{Admits, IfLink, IsUnread, IsUnwritten};
+    ghost use Rattle.gps_outside.specs.Links.{Admits, FailsOnly, IfLink, IsUnread, IsUnwritten};
 
     type In: Source;
 
@@ -42,6 +42,7 @@ pub trait Door: Drop {
         ensures faults_stay { faults self.old ≤ faults self.new }
         ensures quiets_stay { quiets self.old ≤ quiets self.new }
         ensures failed { result ≡ DoorStep.Failed → Rose (faults self.old) (faults self.new) }
+        ensures only { FailsOnly result (faults self.old) (faults self.new) }
         ensures quiet { result ≡ DoorStep.Quiet → Rose (quiets self.old) (quiets self.new) };
 
     /// What closes it from another thread; none where no call of it waits for long.

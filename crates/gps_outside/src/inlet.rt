@@ -13,7 +13,7 @@ use std::rt::Files;
 use std::str;
 use std::time::{Clock, Duration};
 
-/// So many bytes are asked of a file or of standard input at once.
+/// How many bytes one read asks of a file or of standard input.
 pub(crate) const AHEAD: usize = 32_768;
 
 /// How many seconds a read of a host waits for bytes.

@@ -13,11 +13,11 @@ const LAST_QUIET: u32 = 1_000;
 /// What one step of a reading hands on, or how the reading ends.
 #[derive(Clone, Copy, Debug, PartialEq, Eq)]
 pub enum IntakeStep {
-    /// So many bytes, at least one, stand at the head of the buffer; the reading goes on.
+    /// This number of bytes, at least one, stands at the head of the buffer; the reading goes on.
     Piece(usize),
     /// Nothing came this time; the reading goes on.
     Quiet,
-    /// The limit is passed: so many bytes at the head of the buffer, perhaps none, are the last within it, and what came
+    /// The limit is passed: this number of bytes at the head of the buffer, perhaps none, is the last within it, and what came
     /// behind them was dropped. The reading is over.
     Last(usize),
     /// Nothing is left in the source. The reading is over.

@@ -1,6 +1,6 @@
 //! The outside of gpsrelay: where bytes come from, where they go, what time it is, and who comes.
 //!
-//! A source, a sink, a clock and a door each have a form in memory, which follows a plan and tells its content, and an
+//! A source, a sink, a clock and a door each have a form in memory, which follows a plan and has modelled contents, and an
 //! adapter over std, which tells none. Faults and quiets are counted, so that an answer can show its cause.
 #![tactic(auto)]
 
@@ -11,6 +11,7 @@ mod door;
 mod idle_timer;
 mod inlet;
 mod intake;
+mod link_sink;
 mod memory_clock;
 mod memory_door;
 mod memory_sink;
@@ -32,6 +33,7 @@ pub use connecting::connect;
 pub use door::{Door, DoorStep};
 pub use inlet::Awaited;
 pub use intake::{Intake, IntakeStep};
+pub use link_sink::LinkSink;
 pub use memory_clock::MemoryClock;
 pub use memory_door::MemoryDoor;
 pub use memory_sink::MemorySink;

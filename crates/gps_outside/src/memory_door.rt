@@ -66,7 +66,7 @@ impl<I: Source, K: Sink> Door for MemoryDoor<I, K> {
     ghost use Rattle.std.specs.Prelude.{◌≡◌, ◌≤◌, Some};
     ghost use Rattle.gps_outside.specs.declared.door.DoorStep.{DoorStep};
     ghost use Rattle.gps_outside.specs.Counts.{Rose};
-    ghost use Rattle.gps_outside.specs.Links.{Admits, IfLink, IsUnread, IsUnwritten};
+    ghost use Rattle.gps_outside.specs.Links.{Admits, FailsOnly, IfLink, IsUnread, IsUnwritten};
     ghost use Rattle.gps_outside.specs.DoorPlans.{answer_of, gate_after, links_of};
 
     type In = I;
@@ -86,6 +86,7 @@ impl<I: Source, K: Sink> Door for MemoryDoor<I, K> {
         ensures faults_stay { self.old.faults ≤ self.new.faults }
         ensures quiets_stay { self.old.quiets ≤ self.new.quiets }
         ensures failed { result ≡ DoorStep.Failed → Rose self.old.faults self.new.faults }
+        ensures only { FailsOnly result self.old.faults self.new.faults }
         ensures quiet { result ≡ DoorStep.Quiet → Rose self.old.quiets self.new.quiets }
         ensures answer { result ≡ answer_of self.old }
         ensures after { self.new ≡ gate_after result self.old }

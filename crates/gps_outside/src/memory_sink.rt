@@ -106,7 +106,7 @@ fn answer_by(entry: Option<WritePlan>, len: usize, space: usize) -> WriteStep
     }
 }
 
-/// At most so many of the piece's bytes, but one at least, as far as the space goes.
+/// At most `n` of the piece's bytes, but one at least, as far as the space goes.
 fn taken_of(most: usize, len: usize, space: usize) -> WriteStep
     ensures { result ≡ taken most len space }
 {

@@ -148,7 +148,7 @@ fn answer_by(entry: Option<ReadPlan>, room: usize, left: &[u8], at_end: AtEnd) -
     }
 }
 
-/// At most so many of the bytes left, but one at least.
+/// At most `n` of the bytes left, but one at least.
 fn given_of(most: usize, left: &[u8], at_end: AtEnd) -> ReadStep
     ensures { result ≡ given most left.now at_end }
 {

@@ -7,7 +7,7 @@ use std::vec::IntoIter;
 /// What the next read of a source in memory does.
 #[derive(Clone, Copy, Debug, PartialEq, Eq)]
 pub enum ReadPlan {
-    /// Gives at most so many bytes; 0 counts as 1.
+    /// Gives at most this number of bytes; 0 counts as 1.
     Give(usize),
     Quiet,
     Fail,
@@ -23,7 +23,7 @@ pub enum AtEnd {
 /// What the next write to a sink in memory does.
 #[derive(Clone, Copy, Debug, PartialEq, Eq)]
 pub enum WritePlan {
-    /// Takes at most so many bytes; 0 counts as 1.
+    /// Takes at most this number of bytes; 0 counts as 1.
     Take(usize),
     Fail,
 }

@@ -1,7 +1,8 @@
 ghost use Rattle.std.specs.Prelude.{◌≡◌, IfOk};
 
+use crate::link_sink::STEP;
 use crate::reader_source::is_quiet;
-use crate::{Closer, Door, DoorStep, RealSink, RealSource};
+use crate::{Closer, Door, DoorStep, LinkSink, RealSource};
 use std::fs::File;
 use std::io::{self, ErrorKind};
 use std::marker::Model;
@@ -17,11 +18,8 @@ const ACCEPT_WAIT: u64 = 5_000;
 /// How many milliseconds a door rests where no file or room is left for a link.
 const REST: u64 = 100;
 
-/// How many milliseconds the first read of a link waits for bytes. It may be made by the door's own thread.
+/// How many milliseconds the first read of a link waits for bytes.
 const READ_WAIT: u64 = 500;
-
-/// How many milliseconds one write to a link waits for room.
-const WRITE_WAIT: u64 = 1_000;
 
 /// What accept(2) of Linux answers where the socket was shut down (EINVAL).
 const SHUT: i32 = 22;
@@ -44,21 +42,21 @@ fn is_shut(error: &io::Error) -> bool {
     error.raw_os_error() == Some(SHUT)
 }
 
-/// Both directions of a client's link. Small pieces are sent at once, and a write that waits for a second is a fault, so no
-/// client holds the thread that serves it.
-fn link_of<R: time::Clock + Drop>(
+/// Both directions of a client's link. Small pieces are sent at once, and a client that takes nothing for a second is a fault, so none holds
+/// the thread that serves it.
+fn link_of<R: time::Clock + Copy>(
     machine: R,
     stream: TcpStream,
-) -> io::Result<(RealSource<R>, RealSink)>
+) -> io::Result<(RealSource<R>, LinkSink<R>)>
     ensures { IfOk result (λ link. (link.0 ≡ record { faults = 0; quiets = 0 }) × (link.1 ≡ 0)) }
 {
     let wait = Duration::from_millis(READ_WAIT);
     stream.set_nodelay(true)?;
     stream.set_read_timeout(Some(wait))?;
-    stream.set_write_timeout(Some(Duration::from_millis(WRITE_WAIT)))?;
+    stream.set_write_timeout(Some(Duration::from_millis(STEP)))?;
     let other = stream.try_clone()?;
     let source = RealSource::of_link(machine, stream, wait)?;
-    Ok((source, RealSink::of_stream(other)))
+    Ok((source, LinkSink::of_stream(machine, other)))
 }
 
 /// A TCP listener as a door. It counts its faults and quiets, and tells no links.
@@ -105,7 +103,7 @@ impl<R: time::Clock + Copy> RealDoor<R> {
         self.listener.local_addr()
     }
 
-    fn next_link(&self) -> io::Result<(RealSource<R>, RealSink)>
+    fn next_link(&self) -> io::Result<(RealSource<R>, LinkSink<R>)>
         ensures { IfOk result (λ link. (link.0 ≡ record { faults = 0; quiets = 0 }) × (link.1 ≡ 0)) }
     {
         let (stream, _) = self.listener.accept()?;
@@ -124,7 +122,7 @@ where
 
     type In = RealSource<R>;
 
-    type Out = RealSink;
+    type Out = LinkSink<R>;
 
     ghost faults = { λ s. s.faults };
 
@@ -132,7 +130,7 @@ where
 
     ghost links = { λ _. None };
 
-    fn accept(&mut self) -> DoorStep<RealSource<R>, RealSink> {
+    fn accept(&mut self) -> DoorStep<RealSource<R>, LinkSink<R>> {
         match self.next_link() {
             Ok((source, sink)) => DoorStep::Link(source, sink),
             Err(error) if is_shut(&error) => DoorStep::Closed,

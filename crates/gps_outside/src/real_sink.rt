@@ -97,7 +97,7 @@ impl Sink for RealSink {
         }
     }
 
-    /// A stream is shut down on both sides, so that a read of it that waits ends at once, and let go of.
+    /// A stream is shut down on both sides, so that a read of it that waits ends at once, and dropped.
     fn finish(&mut self) {
         if let Outlet::Stream(stream) = &self.outlet {
             let _ = stream.shutdown(Shutdown::Both);

@@ -1,7 +1,7 @@
 /// What one write to a sink answers.
 #[derive(Clone, Copy, Debug, PartialEq, Eq)]
 pub enum WriteStep {
-    /// So many bytes from the head of the piece, at least one, were written.
+    /// This number of bytes from the head of the piece, at least one, was written.
     Wrote(usize),
     /// Nothing was written; the faults rose.
     Failed,
@@ -29,7 +29,13 @@ pub trait Sink: Drop {
         ensures faults_stay { faults self.old ≤ faults self.new }
         ensures failed { result ≡ WriteStep.Failed → Rose (faults self.old) (faults self.new) };
 
-    /// Says that nothing follows, so that what stands behind the sink may be let go of.
+    /// Says that what is still to be written is bounded, as when a session was closed, so that the sink may give it a bounded time.
+    fn end_soon(&mut self)
+        ensures bytes { written self.new ≡ written self.old }
+        ensures faults { faults self.new ≡ faults self.old }
+    {}
+
+    /// Says that nothing follows, so that what stands behind the sink may be closed.
     fn finish(&mut self)
         ensures bytes { Goes Stays (written self.old) (written self.new) }
         ensures faults_stay { faults self.old ≤ faults self.new }

@@ -1,7 +1,7 @@
 /// What one read of a source answers.
 #[derive(Clone, Copy, Debug, PartialEq, Eq)]
 pub enum ReadStep {
-    /// So many bytes, at least one, stand at the head of the buffer.
+    /// This number of bytes, at least one, stands at the head of the buffer.
     Got(usize),
     /// Nothing is left.
     End,

@@ -36,7 +36,7 @@ HasOne s = s ≡ record new_state { names = (97 ∷ []) ∷ [] }
 abbrev pub HasTwo : State → Type 0
 HasTwo s = s ≡ record new_state { names = two }
 
--- so many sessions have been opened, and nothing came of a receiver
+-- n sessions have been opened, and nothing came of a receiver
 pub record Opened (count : ℕ) (s : State) : Type 0 where
   pub names : s.names ≡ two
   pub log : s.log ≡ []

@@ -73,7 +73,7 @@ caused Full script most after sink sink' sunk sunk' is played cause seed size fe
 caused BadLine script most after sink sink' sunk sunk' is played cause seed size few of = none_refused script after most sink sink' is played seed size few of
 caused NoMemory script most after sink sink' sunk sunk' is played cause seed size few of = tt
 
--- want of memory before the first line
+-- out of memory before the first line
 pub nothing_played : (seed size : ℕ) (sink : Option (List ℕ)) → Generated NoMemory seed size sink sink
 unfolding lines open_line
 nothing_played seed size sink = record {

@@ -17,7 +17,8 @@ use Rattle.replay_script.specs.Words.{halves, number_and_count, number_between, 
 use Rattle.replay_script.specs.Events.{bytes_event, device_in, event_in, input_in, monitor_in, number_event, open_in}
 use Rattle.replay_player.specs.Effects.{EventEffect, effect}
 use Rattle.replay_player.specs.States.{State}
-use Rattle.replay_workload.specs.Sentences.{fraction, gga, gll, gsa, gsv, place, quality, rmc, sentence, time, upper_digit, vtg}
+use Rattle.gps_fixed.specs.Hexadecimal.{upper_digit}
+use Rattle.replay_workload.specs.Sentences.{fraction, gga, gll, gsa, gsv, place, quality, rmc, sentence, time, vtg}
 use Rattle.replay_workload.specs.Workload.{decimals_at, edge_end, edge_line, edge_number, head, receiver_lines, second_lines, seconds, steps, text_line, line_cut, whole_second, workload_of}
 use Rattle.gps_replay.specs.Closings.{closing_rules, silent}
 use Rattle.gps_replay.specs.Generated.{default_queue}

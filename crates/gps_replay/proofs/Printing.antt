@@ -19,7 +19,7 @@ use Rattle.line_cut.proofs.Texts.{strip_append}
 abbrev pub prints : ℕ → Bool
 prints c = nat_le 32 c
 
--- at most so many printing bytes
+-- at most n printing bytes
 pub record IsPlain (most : ℕ) (text : List ℕ) : Type 0 where
   pub plain : list_all prints text ≡ true
   pub few : length text ≤ most

@@ -19,7 +19,7 @@ of_line e = record { state = e.state; written = e.written }
 abbrev pub effect_of : ℕ → State → List ℕ → Option (LineEffect State)
 effect_of queue state text = option_map of_line (option_and_then (effect queue state) (event_in text))
 
--- a script's lines, without their line ends, where an outlet keeps so many items if no line says another number
+-- a script's lines, without their line ends, where an outlet keeps `queue` items if no line says another number
 abbrev pub rules_of : ℕ → Rules State
 rules_of queue = record { limit = Text most_in_line; start = new_state; effect = effect_of queue; end_writes = written_at_end }
 

@@ -1,18 +1,16 @@
-ghost use Rattle.std.specs.Prelude.{◌≡◌, ◌≤◌, ℕ};
+ghost use Rattle.std.specs.Prelude.{◌≡◌, ◌≤◌, ℕ, length};
 ghost use Rattle.replay_workload.specs.Workload.{workload_of};
 ghost use Rattle.gps_replay.specs.Generated.{Generated, GeneratedCause};
 
 use crate::held::HeldScript;
 use crate::quiet::Quiet;
+use crate::replaying::MOST_IN_LINE;
 use gps_fixed::{Bytes, NoMemory};
 use gps_outside::Sink;
 use line_cut::Limit;
 use line_player::{PlayOutcome, play};
 use replay_workload::workload;
 use std::alloc::Global;
-
-/// The bytes of a line without its line end.
-const MOST_IN_LINE: usize = 4_096;
 
 /// How many symbols a generation holds, and how many items the outlet of a session keeps.
 const LIMIT: u32 = 16_777_216;
@@ -22,6 +20,7 @@ const QUEUE: u32 = 4_096;
 /// Plays a made script, and writes its closing lines.
 #[tactic(auto, using(crate::proofs::Making::generated, crate::proofs::Making::caused, crate::proofs::Making::nothing_played))]
 fn play_made<K: Sink>(alloc: Global, script: Bytes, sink: &mut K) -> PlayOutcome
+    requires short { length script ≤ 4_294_967_295 }
     ensures generated { (seed size : ℕ) → script ≡ workload_of seed size → Generated result seed size (K.written sink.old) (K.written sink.new) }
     ensures cause { (seed size : ℕ) → size ≤ 10000 → script ≡ workload_of seed size → GeneratedCause result (K.faults sink.old) (K.faults sink.new) }
     ensures faults_stay { K.faults sink.old ≤ K.faults sink.new }
@@ -39,7 +38,7 @@ fn play_made<K: Sink>(alloc: Global, script: Bytes, sink: &mut K) -> PlayOutcome
                 sink,
             )
         }
-        Err(_) => PlayOutcome::NoMemory,
+        Err(_) => unreachable!(),
     }
 }
 

@@ -11,7 +11,7 @@ use line_player::{PlayOutcome, play};
 use std::alloc::Global;
 
 /// The bytes of a line without its line end.
-const MOST_IN_LINE: usize = 4_096;
+pub(crate) const MOST_IN_LINE: usize = 4_096;
 
 /// The bytes of a script.
 const MOST_BYTES: u32 = 1_073_741_824;

@@ -1,6 +1,6 @@
 -- What the counts of the outside say once the threads have ended.
-use Rattle.std.proofs.Common.{◌≡◌, ℕ, ◌<◌, ◌⊎◌, inl, inr, Bool, true, false, ◌||◌, List, [], ◌∷◌, ◌++◌, refl, sym, ◌∙◌, subst, arith}
-use Rattle.serve_end_settling.specs.Failing.{SomeFailed}
+use Rattle.std.proofs.Common.{◌≡◌, ℕ, ◌<◌, ◌⊎◌, inl, inr, Bool, true, false, ◌||◌, List, [], ◌∷◌, ◌++◌, Option, Some, None, refl, sym, ◌∙◌, subst, arith}
+use Rattle.serve_end_settling.specs.Failing.{SomeFailed, SourceFailed}
 use Rattle.serve_end_settling.proofs.Causes.{failed_front, failed_last}
 use Rattle.std.specs.Prelude.{Result, Err}
 use Rattle.gps_outside.specs.Counts.{Rose}
@@ -24,7 +24,28 @@ failed_more P before now failed xs xs' x so one is more e =
 pub gate_cause : (failed : Bool) (before now : ℕ) → FailsBy failed before now → failed ≡ true → 0 < now
 gate_cause failed before now fails is = let rose = fails.cause is in omega (arith, rose)
 
--- where nothing was served, something could not be opened, or memory was wanting
+-- a door that had no fault before, and did not fail, has none
+pub gate_sound : (failed : Bool) (before now : ℕ) → FailsBy failed before now → before ≡ 0 → failed ≡ false → now ≡ 0
+gate_sound failed before now fails none is = fails.still is ∙ none
+
+-- a door that failed gives 8, unless a source failed
+pub door_first : {G : Type 0} (faults : G → ℕ) (gate : G) (given : Option G) (failed : Bool) (status : ℕ) → given ≡ Some gate → (failed ≡ false → faults gate ≡ 0)
+    → (failed ≡ true → (status ≡ 3) ⊎ (status ≡ 8)) → SourceFailed faults given → (status ≡ 3) ⊎ (status ≡ 8)
+door_first {G} faults gate given failed status is sound first some = by failed refl
+  where
+    rose : 0 < faults gate
+    rose = subst (SourceFailed faults) is some
+
+    by : (b : Bool) → failed ≡ b → (status ≡ 3) ⊎ (status ≡ 8)
+    by true e = first e
+    by false e = let none = sound e in absurd (omega (arith, rose, none))
+
+-- where no door is handed back, none failed
+pub no_gate : {G : Type 0} (faults : G → ℕ) (given : Option G) (status : ℕ) → given ≡ None → SourceFailed faults given → (status ≡ 3) ⊎ (status ≡ 8)
+no_gate faults None status none some = absurd some
+no_gate faults (Some gate) status none some = absurd (cc)
+
+-- where nothing was served, something could not be opened, or it was out of memory
 pub none_of : (X : Type 0) {W : Type 0} (input listen : W → ℕ) (world world' world'' : W) (stop : Stop) (status : ℕ)
     → OpeningHasCause {X = X} (Err stop) (world_faults (input world) (listen world)) (world_faults (input world') (listen world'))
     → ((status ≡ 3) × (stop ≡ Input)) ⊎ ((status ≡ 8) × (stop ≡ Listen)) ⊎ (status ≡ 7) → world'' ≡ world'

@@ -22,7 +22,7 @@ use Rattle.serve_end_settling.specs.Runs.{SourceFacts}
 use Rattle.serve_threads.specs.declared.monitors.ReadingsDone.{ReadingsDone}
 use Rattle.serve_threads.specs.declared.monitors.MonitorStart.{MonitorStart}
 use Rattle.serve_threads.specs.Segments.{segments_of}
-use Rattle.gps_serve.specs.declared.lanes.DeviceStart.{DeviceStart}
+use Rattle.gps_serve.specs.declared.starts.DeviceStart.{DeviceStart}
 use Rattle.serve_threads.specs.declared.session.SessionLink.{SessionLink}
 use Rattle.gps_serve.specs.AtEnd.{AtEnd, DeviceServed, GateFacts, GateServed, MonitorServed, SinkFacts, settings_of, watched_units}
 use Rattle.gps_serve.specs.Doors.{Way, lanes_of}
@@ -102,7 +102,7 @@ pub at_end_of : {G S K R : Type 0} (terms : Terms) (queue tries : ℕ) (may : Op
     → b' ≡ b → AllServed sources sinks b.sessions inputs sessions
     → b'' ≡ b' → AllZip (MonitorServed tries no_memory) (watched_units tries b'.units) monitors
     → map (λ (m : MonitorDone). m.unit) monitors ≡ range_with_len 0 (length monitors) → (lacks ≡ false → no_memory ≡ false)
-    → GateServed sources gates links full lacks seat.done sessions gate
+    → GateServed sources sinks gates links full lacks seat.done sessions gate
     → AtEnd (settings_of terms queue tries) may sources sinks gates links full lacks b'' devices sessions monitors (Some gate)
 at_end_of {G} {S} {K} {R} terms queue tries may sources sinks gates links full no_memory lacks seat ways gate b b' b'' inlets inputs ends devices sessions monitors same hub admitted lanes keeps
     rests zeros closed stopped served ends_are is sessions_are is' monitors_are numbers so door =

@@ -17,7 +17,7 @@ use Rattle.serve_end_settling.specs.Failing.{EdgeFailed, SaysFailed, SomeFailed}
 use Rattle.serve_end_settling.specs.Lanes.{tx_of}
 use Rattle.serve_end_settling.specs.Runs.{EachRun, EdgesRan, SourceFacts}
 use Rattle.serve_end_settling.proofs.Causes.{each_run_more}
-use Rattle.gps_serve.specs.declared.lanes.EdgeStart.{EdgeStart}
+use Rattle.gps_serve.specs.declared.starts.EdgeStart.{EdgeStart}
 use Rattle.gps_serve.specs.Runs.{DeviceReady}
 use Rattle.gps_serve.specs.Starts.{IsFreshEdge, edge_start_of}
 use Rattle.gps_serve.specs.Statuses.{TellsFault, TellsNoFault, WasLostByFault}

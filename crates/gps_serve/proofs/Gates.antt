@@ -14,12 +14,12 @@ use Rattle.serve_end_settling.specs.Runs.{SourceFacts}
 use Rattle.serve_threads.specs.declared.session.SessionLink.{SessionLink}
 use Rattle.serve_threads.specs.declared.session.LinkDone.{LinkDone}
 use Rattle.serve_threads.specs.Sessions.{SessionRuns}
-use Rattle.gps_serve.specs.AtEnd.{AreOfQueue, GateFacts, GateServed, ReadsLink, SinkFacts}
+use Rattle.gps_serve.specs.AtEnd.{AreOfQueue, GateFacts, GateServed, ServesLink, SinkFacts}
 use Rattle.gps_serve.specs.Doors.{DoorNow, IsNewLink, Tended, Way, door_now, lanes_of, way_of}
 use Rattle.gps_serve.specs.Lost.{IsNotCut, IsNotLost, NoneLost}
-use Rattle.gps_serve.specs.Readies.{IsSourceOf}
+use Rattle.gps_serve.specs.Readies.{IsLeftOfLink}
 use Rattle.gps_serve.proofs.Devices.{zip_length}
-use Rattle.gps_serve.proofs.Taking.{links_read}
+use Rattle.gps_serve.proofs.Taking.{links_served}
 
 map_length : {A B : Type 0} (f : A → B) (xs : List A) → length (map f xs) ≡ length xs
 map_length f [] = refl
@@ -30,11 +30,11 @@ pub gate_served : {G S K R : Type 0} (sources : SourceFacts S) (sinks : SinkFact
     → Tended (IsNewLink sources.content sources.faults sources.quiets sinks.written sinks.faults)
     (SessionRuns sources.content sources.faults sources.quiets sinks.written sinks.faults) queue told
     (door_now (gates.links gate) (gates.faults gate) (gates.quiets gate) full no_memory) seat runs
-    → AllZip IsSourceOf runs sessions → (lacks ≡ false → no_memory ≡ false)
-    → GateServed sources gates told full lacks seat.done sessions gate
+    → AllZip (IsLeftOfLink sources sinks) runs sessions → (lacks ≡ false → no_memory ≡ false)
+    → GateServed sources sinks gates told full lacks seat.done sessions gate
 gate_served {G} {S} {K} {R} sources sinks gates queue told gate full no_memory lacks seat runs sessions tended are so =
     let ran = zip_length (SessionRuns sources.content sources.faults sources.quiets sinks.written sinks.faults) tended.links runs tended.ran in
-    let left = zip_length IsSourceOf runs sessions are in
+    let left = zip_length (IsLeftOfLink sources sinks) runs sessions are in
     let ways = map_length way_of tended.links in
     let same : length (map way_of tended.links) ≡ length sessions = omega (arith, ran, left, ways) in
     let takes = tended.tends.takes in
@@ -45,8 +45,8 @@ gate_served {G} {S} {K} {R} sources sinks gates queue told gate full no_memory l
       count = λ (e : lacks ≡ false) (f : full < 2 ^ 64 - 1). takes.count (so e) f ∙ ap (λ n. n + full) same;
       none_early = λ (f : length sessions < 64). takes.full (subst (λ n. n < 64) (sym same) f);
       each = λ (e : length tended.tends.taken ≡ length sessions).
-          subst (λ (l : List (Way S K)). AllZip (ReadsLink sources) l sessions) (takes.each (e ∙ sym same))
-          (links_read sources sinks.written sinks.faults tended.links runs sessions tended.ran are);
+          subst (λ (l : List (Way S K)). AllZip (ServesLink sources sinks) l sessions) (takes.each (e ∙ sym same))
+          (links_served sources sinks tended.links runs sessions tended.seated.unused tended.ran are);
       asked = elim tended.tends.asked [ inl never ↦ absurd (cc never) | inr was ↦ was ];
       closed = tended.tends.closed;
     }
@@ -59,7 +59,7 @@ module _ {S K R : Type 0} (queue : ℕ) where
   caps_are (link ∷ links) (a ∷ sessions) same zero d there = cc same
   caps_are (link ∷ links) (a ∷ sessions) same (suc k) d there = caps_are links sessions (cc same) k d (omega arith)
 
-  -- so many items may wait for each session that was admitted
+  -- how many items may wait for each session that was admitted
   pub of_queue : (seat : Admissions) (links : List (SessionLink S K R)) (sessions : List MemberView) (inputs : List (Taking Piece)) → map (lanes_of queue) links ≡ seat.links
       → AreAdmitted seat.links sessions inputs → AreOfQueue queue sessions
   of_queue seat links sessions inputs same admitted =
@@ -77,7 +77,7 @@ each_end {S} {R} P devices ends are all k d there =
     by (x ∷ devices) zero d there all = all zero d.end (omega arith)
     by (x ∷ devices) (suc k) d there all = by devices k d (omega arith) (λ j e there. all (suc j) e (omega arith))
 
--- no device was lost, and no session of the book closed, for want of memory
+-- no device was lost, and no session of the book closed, because it was out of memory
 pub none_lost_in : {S R : Type 0} (b b' b'' : BookView) (devices : List (DeviceDone S R)) (ends : List (Option DeviceEnd)) → b' ≡ b → b'' ≡ b'
     → map (λ (d : DeviceDone S R). d.end) devices ≡ ends → All IsNotLost ends → All (λ (a : MemberView). IsNotCut a.session.closing) b.sessions
     → NoneLost b'' devices

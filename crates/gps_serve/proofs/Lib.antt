@@ -17,3 +17,4 @@ pub mod Returned
 pub mod Lost
 pub mod Released
 pub mod First
+pub mod Logged

@@ -1,4 +1,4 @@
--- Where want of memory was not met, no device was lost and no session closed for it.
+-- Unless it was out of memory, no device was lost and no session closed for that.
 use Rattle.std.proofs.Common.{◌≡◌, ◌<◌, ◌≤◌, ◌+◌, ◌||◌, inl, inr, ℕ, Bool, true, false, zero, suc, List, [], ◌∷◌, length, get_or, slice_get, Option, Some, None, refl, sym, ◌∙◌, ap, subst, arith}
 use Rattle.std.specs.Prelude.{not}
 use Rattle.std.specs.List.{All, list_any}
@@ -43,7 +43,7 @@ closing_at [] k a there = absurd (omega arith)
 closing_at (one ∷ sessions) zero a there = refl
 closing_at (one ∷ sessions) (suc k) a there = closing_at sessions k a (omega arith)
 
--- no session before this number was closed for want of memory
+-- no session before this number was closed because it was out of memory
 abbrev pub NoneCut : ℕ → List MemberView → Type 0
 NoneCut n sessions = (k : ℕ) (a : MemberView) → k < n → k < length sessions → IsNotCut (get_or sessions k a).session.closing
 

@@ -1,5 +1,6 @@
 -- The lanes of a session that has ended.
-use Rattle.std.proofs.Common.{◌≡◌, ℕ, ◌<◌, ◌≤◌, zero, suc, Bool, true, false, List, [], ◌∷◌, ◌++◌, length, map, get_or, slice_index_or, append-nil, Option, Some, None, refl, sym, ◌∙◌, ap, subst, arith}
+use Rattle.std.proofs.Common.{◌≡◌, ℕ, ◌<◌, ◌≤◌, zero, suc, Bool, true, false, List, [], ◌∷◌, ◌++◌, length, map, get_or, slice_index_or, append_assoc, append-nil, Option, Some, None, refl, sym, ◌∙◌, ap, subst, arith}
+use Rattle.std.specs.Option.{option_to_list}
 use Rattle.gps_lane.specs.Ends.{Putting, Taking}
 use Rattle.gps_outside.specs.Counts.{Rose}
 use Rattle.gps_outside.specs.Told.{Stream}
@@ -22,7 +23,7 @@ use Rattle.serve_end_settling.proofs.Emptying.{wrote_item, wrote_less, wrote_non
 use Rattle.serve_end_settling.proofs.Endings.{sessions_tell_last}
 use Rattle.gps_serve.specs.declared.seated.Seated.{Seated}
 use Rattle.gps_serve.specs.Doors.{AreSeated, EachLink, HaveLanes, IsUnused, lanes_of, link_at, links_at}
-use Rattle.gps_serve.specs.Released.{AreEndsOf, WritesItem, WritesOn}
+use Rattle.gps_serve.specs.Released.{AreEndsOf, GotMore, WritesItem, WritesOn}
 
 -- ---- which lanes are a session's
 
@@ -100,7 +101,50 @@ item_skipped item end between faults is = record {
       (subst (λ (e : WriterEnd). Wrote e rx mid before between first faults) is so) refl;
 }
 
+-- ---- items that are dropped
+
+pub got_none : (now : Taking (List ℕ)) → GotMore now now
+got_none now = record { more = []; lane = refl; gets = sym (append-nil now.got) }
+
+pub got_item : (was now : Taking (List ℕ)) (item : Option (List ℕ)) → now ≡ record was { got = was.got ++ option_to_list item } → GotMore was now
+got_item was now item is = record {
+  more = option_to_list item;
+  lane = ap (λ (x : Taking (List ℕ)). x.lane) is;
+  gets = ap (λ (x : Taking (List ℕ)). x.got) is;
+}
+
+pub got_on : (was mid now : Taking (List ℕ)) → GotMore was mid → GotMore mid now → GotMore was now
+got_on was mid now one two = record {
+  more = one.more ++ two.more;
+  lane = two.lane ∙ one.lane;
+  gets = two.gets ∙ ap (λ l. l ++ two.more) one.gets ∙ append_assoc was.got one.more two.more;
+}
+
+-- a writer whose sink has failed gets items that it does not write
+less_more : (rx mid : Taking (List ℕ)) (before between : Option (List ℕ)) (first faults : ℕ) (more : List (List ℕ))
+    → Wrote WriteFault rx mid before between first faults → Wrote WriteFault rx (record mid { got = mid.got ++ more }) before between first faults
+less_more rx mid before between first faults [] so =
+    subst (λ l. Wrote WriteFault rx (record mid { got = l }) before between first faults) (sym (append-nil mid.got)) so
+less_more rx mid before between first faults (item ∷ more) so =
+    let next : Taking (List ℕ) = record mid { got = mid.got ++ item ∷ [] } in
+    subst (λ l. Wrote WriteFault rx (record mid { got = l }) before between first faults) (append_assoc mid.got (item ∷ []) more)
+    (less_more rx next before between first faults more (wrote_less rx mid next (Some item) before between first faults so refl))
+
 module _ {K R : Type 0} (written : K → Option (List ℕ)) (faults : K → ℕ) where
+  pub skipped_on : (was now : WriterDone K R) → was.end ≡ WriteFault → GotMore was.items now.items → now.end ≡ was.end → now.sink ≡ was.sink → WritesOn written faults was now
+  skipped_on was now failed got end sink = record {
+    lane = got.lane;
+    wrote = λ rx before first so.
+        let P : Taking (List ℕ) → Type 0 = λ x. Wrote WriteFault rx x before (written was.sink) first (faults was.sink) in
+        let failing : P was.items = subst (λ (e : WriterEnd). Wrote e rx was.items before (written was.sink) first (faults was.sink)) failed so in
+        let more : P (record was.items { got = was.items.got ++ got.more }) = less_more rx was.items before (written was.sink) first (faults was.sink) got.more failing in
+        let here : P (record { lane = now.items.lane; got = was.items.got ++ got.more }) =
+        subst (λ n. P (record { lane = n; got = was.items.got ++ got.more })) (sym got.lane) more in
+        let all : P now.items = subst (λ l. P (record { lane = now.items.lane; got = l })) (sym got.gets) here in
+        subst (λ (k : K). Wrote now.end rx now.items before (written k) first (faults k)) (sym sink)
+        (subst (λ (e : WriterEnd). Wrote e rx now.items before (written was.sink) first (faults was.sink)) (sym (end ∙ failed)) all);
+  }
+
   pub on_none : (was : WriterDone K R) → WritesOn written faults was was
   on_none was = record { lane = refl; wrote = λ rx before first so. so }
 
@@ -141,14 +185,19 @@ module _ {S K R : Type 0} (content : S → Option Stream) (faults quiets : S →
     input = λ free. ap (λ (x : Putting Piece). x.lane) runs.reads.lane ∙ ends.input free;
   }
 
-  -- its reader's end met the other end, its writer's end left, and the writing went on
-  pub runs_on : (pieces : Putting Piece) (items : Taking (List ℕ)) (writer : WriterDone K R) → pieces ≡ run.reader.pieces → items ≡ run.writer.items
-      → WritesOn written sink_faults (record run.writer { items = items }) writer → SessionRuns content faults quiets written sink_faults link run
+  -- its reader's end met the other end, whereby the lane may have been closed, and the writing went on
+  pub runs_on : (pieces : Putting Piece) (writer : WriterDone K R) → pieces ≡ record run.reader.pieces { is_open = pieces.is_open }
+      → WritesOn written sink_faults run.writer writer → SessionRuns content faults quiets written sink_faults link run
       → SessionRuns content faults quiets written sink_faults link (record { reader = record run.reader { pieces = pieces }; writer = writer })
-  runs_on pieces items writer same left on runs =
+  runs_on pieces writer same on runs =
       let P : Putting Piece → Type 0 = λ p.
       Reads input_part IsInputPiece run.reader.ending link.pieces p (content link.source) (content run.reader.source) (counts (faults link.source) (quiets link.source))
       (counts (faults run.reader.source) (quiets run.reader.source)) in
-      let Q : Taking (List ℕ) → Type 0 = λ x.
-      Wrote run.writer.end link.items x (written link.sink) (written run.writer.sink) (sink_faults link.sink) (sink_faults run.writer.sink) in
-      record { reads = subst P (sym same) runs.reads; wrote = on.wrote link.items (written link.sink) (sink_faults link.sink) (subst Q (sym left) runs.wrote) }
+      let reads : P (record run.reader.pieces { is_open = pieces.is_open }) = record {
+        hands = runs.reads.hands;
+        lane = ap (λ (p : Putting Piece). record p { is_open = pieces.is_open }) runs.reads.lane;
+        faults_stay = runs.reads.faults_stay;
+        quiets_stay = runs.reads.quiets_stay;
+        failed = runs.reads.failed;
+      } in
+      record { reads = subst P (sym same) reads; read = runs.read; wrote = on.wrote link.items (written link.sink) (sink_faults link.sink) runs.wrote }

@@ -7,46 +7,20 @@ use Rattle.book_log.specs.Entries.{Entry}
 use Rattle.book_sessions.specs.MemberView.{MemberView}
 use Rattle.gps_lane.specs.Ends.{Taking}
 use Rattle.hub_promise.specs.declared.ends.DeviceEnd.{DeviceEnd}
-use Rattle.hub_promise.specs.DaemonHub.{ClosesFor, DaemonHub, DaemonHubOver, SessionFits}
-use Rattle.hub_promise.specs.Given.{ending_of}
+use Rattle.hub_promise.proofs.Sessions.{cause_on}
+use Rattle.hub_promise.specs.DaemonHub.{DaemonHub, DaemonHubOver, SessionFits}
 use Rattle.hub_promise.specs.Keeping.{IsClosed}
 use Rattle.hub_promise.specs.Parts.{InletsView}
 use Rattle.report_book.specs.BookView.{BookView}
 use Rattle.serve_end_parts.specs.declared.done.SessionDone.{SessionDone}
 use Rattle.serve_pieces.specs.Carried.{input_bytes, input_part}
-use Rattle.serve_pieces.specs.declared.piece.Ending.{Ending}
-use Rattle.serve_pieces.specs.declared.piece.Ending.TheVariants as ending
 use Rattle.serve_pieces.specs.declared.piece.Piece.{Piece}
 use Rattle.serve_end_settling.specs.Lanes.{OneMoreAtMost}
 use Rattle.serve_end_settling.specs.Runs.{SourceFacts}
-use Rattle.session_core.specs.declared.mark.Close.{Close}
-use Rattle.session_core.specs.declared.mark.Close.TheVariants.{HungUp, ReadFault, DaemonEnd, TooManyRequests, Overrun, NoMemory}
-use Rattle.session_core.specs.SessionView.{SessionView}
 use Rattle.session_runs.specs.Accounts.{Account}
 use Rattle.session_runs.proofs.Accounting.{closed_hears}
 use Rattle.gps_serve.specs.AtEnd.{InputServed}
 use Rattle.gps_serve.specs.Readies.{InputLeft}
-
--- the cause of a closing, where the lane had told nothing of its source's end
-cause_still : (count : ℕ) (log : List Entry) (x y : Taking Piece) (s : SessionView) (closing : Option (ℕ × Close)) → ending_of x.got ≡ None → ClosesFor count log x s closing
-    → ClosesFor count log y s closing
-cause_still count log x y s None untold cause = tt
-cause_still count log x y s (Some (place, HungUp)) untold cause = absurd (cc (untold, cause))
-cause_still count log x y s (Some (place, ReadFault)) untold cause = absurd (cc (untold, cause))
-cause_still count log x y s (Some (place, DaemonEnd)) untold cause = cause
-cause_still count log x y s (Some (place, TooManyRequests)) untold cause = cause
-cause_still count log x y s (Some (place, Overrun)) untold cause = cause
-cause_still count log x y s (Some (place, NoMemory)) untold cause = tt
-
-cause_same : (count : ℕ) (log : List Entry) (x y : Taking Piece) (s : SessionView) (closing : Option (ℕ × Close)) → y.got ≡ x.got → ClosesFor count log x s closing
-    → ClosesFor count log y s closing
-cause_same count log x y s None same cause = tt
-cause_same count log x y s (Some (place, HungUp)) same cause = ap ending_of same ∙ cause
-cause_same count log x y s (Some (place, ReadFault)) same cause = ap ending_of same ∙ cause
-cause_same count log x y s (Some (place, DaemonEnd)) same cause = cause
-cause_same count log x y s (Some (place, TooManyRequests)) same cause = cause
-cause_same count log x y s (Some (place, Overrun)) same cause = cause
-cause_same count log x y s (Some (place, NoMemory)) same cause = tt
 
 fits_still : (names : List (List ℕ)) (before log : List Entry) (a : MemberView) (x y : Taking Piece) → IsClosed a → OneMoreAtMost x y → SessionFits names before log a x
     → SessionFits names before log a y
@@ -54,7 +28,7 @@ fits_still names before log a x y closed more fits = elim more [
   | inl same ↦ record {
     run = fits.run;
     account = subst (λ bytes. Account names before log a fits.run [] bytes) (ap input_bytes (sym same)) fits.account;
-    cause = cause_same (length names) (before ++ log) x y a.session a.session.closing same fits.cause;
+    cause = cause_on fits.run.closing (length names) (before ++ log) x y a.session [] (same ∙ sym (append-nil x.got)) (λ told. refl) fits.cause;
   }
   | inr one ↦
       let bytes : input_bytes y.got ≡ input_bytes x.got ++ input_bytes (one.0 ∷ []) = ap input_bytes one.1 ∙ flat_map-append input_part x.got (one.0 ∷ []) in
@@ -62,7 +36,7 @@ fits_still names before log a x y closed more fits = elim more [
         run = fits.run;
         account = subst (λ b. Account names before log a fits.run [] b) (sym bytes)
             (closed_hears names before log a fits.run [] (input_bytes x.got) (input_bytes (one.0 ∷ [])) closed fits.account);
-        cause = cause_still (length names) (before ++ log) x y a.session a.session.closing one.2 fits.cause;
+        cause = cause_on fits.run.closing (length names) (before ++ log) x y a.session (one.0 ∷ []) one.1 (λ told. let not = ap is_some one.2 in absurd (cc (not, told))) fits.cause;
       }
 ]
 

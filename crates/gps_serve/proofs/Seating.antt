@@ -40,17 +40,18 @@ pub tended : {S K R Run : Type 0} (P : SessionLink S K R → Type 0) (Runs : Ses
 tended P Runs queue links told now seat runs seated ran tends = record { links = links; seated = seated; ran = ran; tends = tends }
 
 pub fails_none : (faults : ℕ) → FailsBy false faults faults
-fails_none faults = record { faults_stay = omega arith; cause = λ (e : false ≡ true). absurd cc }
+fails_none faults = record { faults_stay = omega arith; cause = λ (e : false ≡ true). absurd cc; still = λ none. refl }
 
 -- after one more question
 pub fails_more : (failed failed' : Bool) (first before after : ℕ) → FailsBy failed first before → before ≤ after
-    → (failed' ≡ true → (failed ≡ true) ⊎ Rose before after) → FailsBy failed' first after
-fails_more failed failed' first before after so stay more = record {
+    → (failed' ≡ true → (failed ≡ true) ⊎ Rose before after) → (failed' ≡ false → (failed ≡ false) × (after ≡ before)) → FailsBy failed' first after
+fails_more failed failed' first before after so stay more none = record {
   faults_stay = let p = so.faults_stay in omega arith;
   cause = λ (e : failed' ≡ true). elim (more e) [
     | inl was ↦ let r = so.cause was in omega (arith, r)
     | inr rose ↦ let p = so.faults_stay in omega (arith, rose)
   ];
+  still = λ (e : failed' ≡ false). (none e).1 ∙ so.still (none e).0;
 }
 
 -- where the door and what is said of it are the same

@@ -85,7 +85,7 @@ module _ {S K R : Type 0} (sources : SourceFacts S) (sinks : SinkFacts K) where
               (subst (λ (t : Putting Piece). HandsOn input_part IsInputPiece run.reader.ending [] t.put (sources.content link.source) (sources.content run.reader.source)) (sym tx) hands);
           failed = subst (λ (s : S). run.reader.ending ≡ Some Failed → 0 < sources.faults s) (sym source)
               (λ (e : run.reader.ending ≡ Some Failed). let rose = ready.ran.reads.failed e in omega (arith, rose));
-          read = subst (λ (s : S). Goes (WasRead (sources.faults s) (sources.quiets s)) (sources.content link.source) (sources.content s)) (sym source) ready.ran.reads.read;
+          read = subst (λ (s : S). Goes (WasRead (sources.faults s) (sources.quiets s)) (sources.content link.source) (sources.content s)) (sym source) ready.ran.read;
           one = subst (λ (t : Putting Piece). done.input_rx.lane ≡ t.lane) (sym tx) settles.one;
           begins = subst (λ (t : Putting Piece). BeginsWith done.input_rx.got t.put) (sym tx) settles.begins;
         };

@@ -13,6 +13,7 @@ use Rattle.hub_promise.specs.declared.ends.DeviceEnd.{DeviceEnd}
 use Rattle.hub_promise.specs.declared.ends.DeviceEnd.TheVariants.{Ended}
 use Rattle.hub_promise.specs.Given.{ending_of}
 use Rattle.hub_promise.specs.Parts.{InletsView}
+use Rattle.output_lines.specs.declared.closing.SessionEnd.TheVariants.{WriteFault}
 use Rattle.world_opening.specs.Opening.{IsEdgeHeld, IsHeld}
 use Rattle.serve_end_parts.specs.declared.done.DeviceDone.{DeviceDone}
 use Rattle.serve_end_parts.specs.declared.done.SessionDone.{SessionDone}
@@ -23,6 +24,7 @@ use Rattle.serve_pieces.specs.declared.piece.Piece.{Piece}
 use Rattle.serve_end_settling.specs.declared.device.DeviceRun.{DeviceRun}
 use Rattle.serve_end_settling.specs.Failing.{source_of}
 use Rattle.serve_end_settling.specs.Lanes.{tx_of}
+use Rattle.serve_end_settling.specs.Outlets.{writer_end}
 use Rattle.serve_end_settling.specs.Runs.{EdgesRan, SourceFacts}
 use Rattle.serve_threads.specs.declared.reading.ReaderDone.{ReaderDone}
 use Rattle.serve_threads.specs.declared.session.SessionLink.{SessionLink}
@@ -30,11 +32,12 @@ use Rattle.serve_threads.specs.declared.session.LinkDone.{LinkDone}
 use Rattle.serve_threads.specs.Sessions.{SessionRuns}
 use Rattle.serve_workers.specs.EdgeLines.{TookLines}
 use Rattle.serve_workers.specs.Readings.{IsDevicePiece, IsInputPiece, TakesMore, Took}
-use Rattle.gps_serve.specs.declared.lanes.DeviceStart.{DeviceStart}
-use Rattle.gps_serve.specs.declared.lanes.EdgeStart.{EdgeStart}
-use Rattle.gps_serve.specs.AtEnd.{BytesHeld, EdgesHeld, IsFirstOf, ReadsLink, SourceHeld, TakesFirst}
-use Rattle.gps_serve.specs.Doors.{Way, way_of}
-use Rattle.gps_serve.specs.Readies.{IsSourceOf}
+use Rattle.serve_workers.specs.Writing.{Writes}
+use Rattle.gps_serve.specs.declared.starts.DeviceStart.{DeviceStart}
+use Rattle.gps_serve.specs.declared.starts.EdgeStart.{EdgeStart}
+use Rattle.gps_serve.specs.AtEnd.{BytesHeld, EdgesHeld, IsFirstOf, ServesLink, SinkFacts, SourceHeld, TakesFirst}
+use Rattle.gps_serve.specs.Doors.{EachLink, IsUnused, way_of}
+use Rattle.gps_serve.specs.Readies.{IsLeftOfLink}
 use Rattle.gps_serve.specs.Runs.{DeviceReads, EdgesRead, IsLeftOf, RanOn, TakesBy}
 use Rattle.gps_serve.specs.Starts.{IsFreshDevice, IsFreshEdge, edge_source_of, edge_start_of, edges_at, sources_at}
 use Rattle.gps_serve.specs.Whole.{IsWhole, TakesWhole}
@@ -199,17 +202,22 @@ module _ {S R : Type 0} (facts : SourceFacts S) where
       ap (λ (b : Bool). b ∷ map (λ (d : DeviceDone S R). is_some d.edges) devices) (edge_there facts d.end (edge_source_of start.edges) d.edges reads.0.edges)
       ∙ ap (λ l. is_some (edge_source_of start.edges) ∷ l) (edges_there starts devices reads.1)
 
--- the same of sessions
-pub links_read : {S K R : Type 0} (facts : SourceFacts S) (written : K → Option (List ℕ)) (sink_faults : K → ℕ) (links : List (SessionLink S K R)) (runs : List (LinkDone S K R))
-    (sessions : List (SessionDone S K R)) → AllZip (SessionRuns facts.content facts.faults facts.quiets written sink_faults) links runs → AllZip IsSourceOf runs sessions
-    → AllZip (ReadsLink facts) (map way_of links) sessions
-links_read facts written sink_faults [] [] [] ran are = tt
-links_read facts written sink_faults [] [] (s ∷ sessions) ran are = absurd are
-links_read facts written sink_faults [] (run ∷ runs) sessions ran are = absurd ran
-links_read facts written sink_faults (link ∷ links) [] sessions ran are = absurd ran
-links_read facts written sink_faults (link ∷ links) (run ∷ runs) [] ran are = absurd are
-links_read {S} facts written sink_faults (link ∷ links) (run ∷ runs) (s ∷ sessions) ran are = (
-  subst (λ (x : S). Goes TakesFirst (facts.content link.source) (facts.content x)) (sym are.0)
-      (took_first run.reader.ending (flat_map input_part ran.0.reads.hands.pieces) (facts.content link.source) (facts.content run.reader.source) ran.0.reads.hands.took),
-  links_read facts written sink_faults links runs sessions ran.1 are.1,
-)
+-- the same of sessions, and what was written to their sinks
+pub links_served : {S K R : Type 0} (sources : SourceFacts S) (sinks : SinkFacts K) (links : List (SessionLink S K R)) (runs : List (LinkDone S K R)) (sessions : List (SessionDone S K R))
+    → EachLink IsUnused links → AllZip (SessionRuns sources.content sources.faults sources.quiets sinks.written sinks.faults) links runs
+    → AllZip (IsLeftOfLink sources sinks) runs sessions → AllZip (ServesLink sources sinks) (map way_of links) sessions
+links_served sources sinks [] [] [] unused ran are = tt
+links_served sources sinks [] [] (s ∷ sessions) unused ran are = absurd are
+links_served sources sinks [] (run ∷ runs) sessions unused ran are = absurd ran
+links_served sources sinks (link ∷ links) [] sessions unused ran are = absurd ran
+links_served sources sinks (link ∷ links) (run ∷ runs) [] unused ran are = absurd are
+links_served {S} sources sinks (link ∷ links) (run ∷ runs) (s ∷ sessions) unused ran are =
+    let wrote = are.0.sink link ran.0 in (
+      record {
+        reads = subst (λ (x : S). Goes TakesFirst (sources.content link.source) (sources.content x)) (sym are.0.source)
+            (took_first run.reader.ending (flat_map input_part ran.0.reads.hands.pieces) (sources.content link.source) (sources.content run.reader.source) ran.0.reads.hands.took);
+        writes = subst (λ got. Writes (writer_end s.end) got s.items_rx.got (sinks.written link.sink) (sinks.written s.sink)) unused.0.0 wrote.writes;
+        failed = λ (e : s.end ≡ WriteFault). wrote.failed (ap writer_end e);
+      },
+      links_served sources sinks links runs sessions unused.1 ran.1 are.1,
+    )

@@ -32,12 +32,12 @@ use Rattle.gps_serve.specs.Doors.{Way}
 use Rattle.gps_serve.specs.Whole.{BytesWhole, CameWhole, EdgesWhole, IsOver, IsWhole, LeavesNone, LinesWhole}
 
 -- both lanes of a device, as the hub left them, have told how their sources ended
-record TellEnds (x : InletsView) (end : Option DeviceEnd) : Type 0 where
-  bytes_ending : Ending
-  edges_ending : Ending
-  bytes : ending_of x.bytes.got ≡ Some bytes_ending
-  edges : edge_ending x.edges (got_of x.edges) ≡ Some edges_ending
-  end_is : end ≡ Some (end_of bytes_ending edges_ending)
+pub record TellEnds (x : InletsView) (end : Option DeviceEnd) : Type 0 where
+  pub bytes_ending : Ending
+  pub edges_ending : Ending
+  pub bytes : ending_of x.bytes.got ≡ Some bytes_ending
+  pub edges : edge_ending x.edges (got_of x.edges) ≡ Some edges_ending
+  pub end_is : end ≡ Some (end_of bytes_ending edges_ending)
 
 none_of_both : (xs ys : List Piece) → xs ++ ys ≡ [] → (xs ≡ []) × (ys ≡ [])
 none_of_both [] ys e = (refl, e)
@@ -64,7 +64,7 @@ tell_both x [] (Some bytes) None end over is bytes_are edges_are = absurd (is_th
 tell_both x [] (Some bytes) (Some edges) end over is bytes_are edges_are =
     record { bytes_ending = bytes; edges_ending = edges; bytes = bytes_are refl; edges = edges_are refl; end_is = is }
 
-tell_ends : (log : List Entry) (d : ℕ) (x : InletsView) (end : Option DeviceEnd) → DeviceFits log d x end → IsOver end → TellEnds x end
+pub tell_ends : (log : List Entry) (d : ℕ) (x : InletsView) (end : Option DeviceEnd) → DeviceFits log d x end → IsOver end → TellEnds x end
 tell_ends log d x end fits over =
     tell_both x (fits.refused ++ fits.refused_lines) (ending_of fits.taken) (edge_ending x.edges fits.lines) end over fits.ends
     (λ none. ap ending_of (fits.lane ∙ ap (λ (l : List Piece). fits.taken ++ l) (none_of_both fits.refused fits.refused_lines none).0 ∙ append-nil fits.taken))
@@ -186,7 +186,7 @@ module _ {S : Type 0} (facts : SourceFacts S) where
   edges_whole None None None (Some source) ending served told = absurd served
 
 module _ {S R : Type 0} (may : Option (List Moment)) (facts : SourceFacts S) where
-  device_whole : (x : InletsView) (d : DeviceDone S R) → DeviceServed may facts x d → (IsOver d.end → TellEnds x d.end) → IsWhole may facts d
+  pub device_whole : (x : InletsView) (d : DeviceDone S R) → DeviceServed may facts x d → (IsOver d.end → TellEnds x d.end) → IsWhole may facts d
   device_whole x d served tell over =
       let told = tell over in
       record {
@@ -224,7 +224,7 @@ whole_at_end {G} {S} {K} {R} told may sources sinks gates links full no_memory (
     (hub.devices k x end (omega (arith, there, count))))
 
 -- a device that has ended did so as both of its sources came to their ends
-both_end : (bytes edges : Ending) (end : Option DeviceEnd) → end ≡ Some (end_of bytes edges) → end ≡ Some Ended → (bytes ≡ End) × (edges ≡ End)
+pub both_end : (bytes edges : Ending) (end : Option DeviceEnd) → end ≡ Some (end_of bytes edges) → end ≡ Some Ended → (bytes ≡ End) × (edges ≡ End)
 both_end NoMemory edges end is ended = absurd (cc (is, ended))
 both_end End End end is ended = (refl, refl)
 both_end End Failed end is ended = absurd (cc (is, ended))

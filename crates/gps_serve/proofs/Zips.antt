@@ -6,7 +6,7 @@ use Rattle.gps_fixed.specs.Moment.{Moment}
 use Rattle.serve_threads.specs.declared.monitors.ReadingsDone.{ReadingsDone}
 use Rattle.serve_threads.specs.declared.monitors.MonitorStart.{MonitorStart}
 use Rattle.serve_threads.specs.declared.monitors.MonitorPromise.{MonitorPromise}
-use Rattle.gps_serve.specs.declared.lanes.DeviceStart.{DeviceStart}
+use Rattle.gps_serve.specs.declared.starts.DeviceStart.{DeviceStart}
 use Rattle.serve_end_settling.specs.declared.device.DeviceRun.{DeviceRun}
 use Rattle.serve_end_settling.specs.Runs.{SourceFacts}
 use Rattle.gps_serve.specs.declared.readers.DeviceWork.{DeviceWork}

@@ -137,22 +137,25 @@ pub record GateFacts (G S K : Type 0) : Type 0 where
 abbrev pub gate_facts : {G S K : Type 0} → (G → Option (List (Way S K))) → (G → ℕ) → (G → ℕ) → GateFacts G S K
 gate_facts links faults quiets = record { links = links; faults = faults; quiets = quiets }
 
--- the bytes taken from a session's source are the first of those of the link
-abbrev pub ReadsLink : {S K R : Type 0} → SourceFacts S → Way S K → SessionDone S K R → Type 0
-ReadsLink facts way done = Goes TakesFirst (facts.content way.0) (facts.content done.source)
+-- A session's source and sink are those of the link: the bytes taken from the source are the first of those of the link's, and the bytes of the items
+-- that were got of the session's outlet were written behind what was written to the link's sink.
+pub record ServesLink {S K R : Type 0} (sources : SourceFacts S) (sinks : SinkFacts K) (way : Way S K) (done : SessionDone S K R) : Type 0 where
+  pub reads : Goes TakesFirst (sources.content way.0) (sources.content done.source)
+  pub writes : Writes (writer_end done.end) [] done.items_rx.got (sinks.written way.1) (sinks.written done.sink)
+  pub failed : done.end ≡ WriteFault → Rose (sinks.faults way.1) (sinks.faults done.sink)
 
--- What is left of the door. The links that were taken are the next of those that it told, and no fewer than the sessions; where memory was not wanting
+-- What is left of the door. The links that were taken are the next of those that it told, and no fewer than the sessions; unless it was out of memory
 -- and the count of dropped ones did not reach its greatest value, they are as many as the sessions and those that were dropped; and none was dropped
 -- because too many were there before 64 were admitted. Where none was dropped, session k has the k-th. It was asked; and it is said to have closed or
 -- failed only where no link is left or its faults rose.
-pub record GateServed {G S K R : Type 0} (sources : SourceFacts S) (gates : GateFacts G S K) (told : Option (List (Way S K))) (full : ℕ) (no_memory done : Bool)
+pub record GateServed {G S K R : Type 0} (sources : SourceFacts S) (sinks : SinkFacts K) (gates : GateFacts G S K) (told : Option (List (Way S K))) (full : ℕ) (no_memory done : Bool)
     (sessions : List (SessionDone S K R)) (gate : G) : Type 0 where
   pub taken : List (Way S K)
   pub passed : Goes (PassLinks taken) told (gates.links gate)
   pub few : length sessions ≤ length taken
   pub count : no_memory ≡ false → full < 2 ^ 64 - 1 → length taken ≡ length sessions + full
   pub none_early : length sessions < 64 → full ≡ 0
-  pub each : length taken ≡ length sessions → AllZip (ReadsLink sources) taken sessions
+  pub each : length taken ≡ length sessions → AllZip (ServesLink sources sinks) taken sessions
   pub asked : (0 < length taken) ⊎ (0 < gates.quiets gate) ⊎ (0 < gates.faults gate) ⊎ NoneLeft told (gates.links gate)
   pub closed : done ≡ true → NoneLeft told (gates.links gate) ⊎ (0 < gates.faults gate)
 
@@ -198,7 +201,7 @@ settings_in plan = record { names = plan.names; limit = plan.limit; wait = plan.
 abbrev pub watched_units : ℕ → List UnitView → List UnitView
 watched_units tries units = if tries == 0 then [] else units
 
--- so many items may wait for each session
+-- how many items may wait for each session
 abbrev pub AreOfQueue : ℕ → List MemberView → Type 0
 AreOfQueue queue sessions = All (λ (a : MemberView). a.session.cap ≡ queue) sessions
 
@@ -225,4 +228,4 @@ pub record AtEnd {G S K R : Type 0} (told : DaemonSettings) (may : Option (List 
   pub monitors_are : AllZip (MonitorServed told.tries no_memory) (watched_units told.tries b.units) monitors
   pub gate : G
   pub gate_is : given ≡ Some gate
-  pub door : GateServed sources gates links full no_memory done sessions gate
+  pub door : GateServed sources sinks gates links full no_memory done sessions gate

@@ -45,10 +45,11 @@ pub record HaveLanes {S K R : Type 0} (links : List (SessionLink S K R)) (seat :
   pub lanes : map (lanes_of queue) links ≡ seat.links
   pub unused : EachLink IsUnused links
 
--- The door's faults do not fall, and it says that the door failed only where they rose.
+-- The door's faults do not fall, and it says that the door failed exactly where they rose.
 pub record FailsBy (failed : Bool) (faults faults' : ℕ) : Type 0 where
   pub faults_stay : faults ≤ faults'
   pub cause : failed ≡ true → Rose faults faults'
+  pub still : failed ≡ false → faults' ≡ faults
 
 -- the door's side of a link: where its bytes come from, and where bytes to it go
 abbrev pub Way : Type 0 → Type 0 → Type 0
@@ -58,7 +59,7 @@ abbrev pub way_of : {S K R : Type 0} → SessionLink S K R → Way S K
 way_of link = (link.source, link.sink)
 
 -- the door as it stands: the links that are left, where it tells them, and its counts; and how many links were dropped because too many sessions
--- were there, and whether want of memory was met
+-- were there, live or not yet released, and whether it was out of memory
 pub record DoorNow (S K : Type 0) : Type 0 where
   pub left : Option (List (Way S K))
   pub faults : ℕ
@@ -77,7 +78,7 @@ NoneLeft told left = Goes (λ before after. after ≡ []) told left
 abbrev pub WasAsked : {S K : Type 0} → Option (List (Way S K)) → List (Way S K) → DoorNow S K → Type 0
 WasAsked told taken now = (0 < length taken) ⊎ (0 < now.quiets) ⊎ (0 < now.faults) ⊎ NoneLeft told now.left
 
--- The links that were taken are the next of those that the door had, in order. Each is that of a session, or was dropped: for want of memory, or
+-- The links that were taken are the next of those that the door had, in order. Each is that of a session, or was dropped: out of memory, or
 -- because too many sessions were there, and then at least 64 were admitted. Where none was dropped, the k-th is that of session k.
 pub record Taken {S K : Type 0} (told : Option (List (Way S K))) (now : DoorNow S K) (sessions : List (Way S K)) (taken : List (Way S K)) : Type 0 where
   pub passed : Goes (PassLinks taken) told now.left
@@ -94,7 +95,7 @@ pub record Tends {S K : Type 0} (told : Option (List (Way S K))) (now : DoorNow 
   pub asked : (to_ask ≡ true) ⊎ WasAsked told taken now
   pub closed : done ≡ true → NoneLeft told now.left ⊎ (0 < now.faults)
 
--- What came of a link: it is that of the next session, or it was dropped, because too many sessions were there or for want of memory.
+-- What came of a link: it is that of the next session, or it was dropped, because too many sessions were there or it was out of memory.
 abbrev pub Deals : {S K : Type 0} → Way S K → List (Way S K) → List (Way S K) → ℕ → ℕ → Bool → Bool → Type 0
 Deals way old new full full' no_memory no_memory' =
     ((new ≡ old ++ way ∷ []) × (full' ≡ full) × (no_memory' ≡ no_memory))

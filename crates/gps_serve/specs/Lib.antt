@@ -10,3 +10,4 @@ pub mod Whole
 pub mod Scopes
 pub mod Lost
 pub mod Released
+pub mod Logged

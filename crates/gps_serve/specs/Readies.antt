@@ -14,10 +14,11 @@ use Rattle.serve_threads.specs.declared.monitors.ReadingsDone.{ReadingsDone}
 use Rattle.serve_threads.specs.declared.session.SessionLink.{SessionLink}
 use Rattle.serve_threads.specs.declared.session.LinkDone.{LinkDone}
 use Rattle.serve_threads.specs.Monitors.{MonitorRan}
-use Rattle.serve_threads.specs.Sessions.{SessionRuns}
+use Rattle.serve_threads.specs.Sessions.{SessionRuns, Wrote}
 use Rattle.gps_serve.specs.AtEnd.{InputServed, MonitorServed, OutletServed, SinkFacts}
 use Rattle.gps_serve.specs.Doors.{IsUnused}
 use Rattle.serve_end_settling.specs.Lanes.{OneMoreAtMost}
+use Rattle.serve_end_settling.specs.Outlets.{writer_end}
 use Rattle.serve_end_settling.specs.Runs.{SourceFacts}
 use Rattle.gps_serve.specs.Starts.{IsUnreadBy}
 
@@ -44,9 +45,11 @@ pub record InputLeft {S K R : Type 0} (sources : SourceFacts S) (x : Taking Piec
   pub served : InputServed sources done
   pub settled : OneMoreAtMost x done.input_rx
 
--- the session has the source that its reader hands back
-abbrev pub IsSourceOf : {S K R : Type 0} → LinkDone S K R → SessionDone S K R → Type 0
-IsSourceOf run done = done.source ≡ run.reader.source
+-- The session has the source that its reader hands back, and its sink is that of the link on which its writer worked, whichever that was.
+pub record IsLeftOfLink {S K R : Type 0} (sources : SourceFacts S) (sinks : SinkFacts K) (run : LinkDone S K R) (done : SessionDone S K R) : Type 0 where
+  pub source : done.source ≡ run.reader.source
+  pub sink : (link : SessionLink S K R) → SessionRuns sources.content sources.faults sources.quiets sinks.written sinks.faults link run
+      → Wrote (writer_end done.end) link.items done.items_rx (sinks.written link.sink) (sinks.written done.sink) (sinks.faults link.sink) (sinks.faults done.sink)
 
 -- these sessions are put together, and those are left
 pub record SessionsSoFar {S K R : Type 0} (sources : SourceFacts S) (sinks : SinkFacts K) (sessions : List MemberView) (inputs left : List (Taking Piece))
@@ -73,7 +76,7 @@ pub record AllServed {S K R : Type 0} (sources : SourceFacts S) (sinks : SinkFac
   pub outlets_are : AllZip (OutletServed sinks) sessions done
   pub numbers : map (λ (s : SessionDone S K R). s.number) done ≡ range_with_len 0 (length sessions)
 
--- a unit's monitor did its work; where memory was not wanting, all of it
+-- a unit's monitor did its work; unless out of memory, all of it
 pub record MonitorReady (tries : ℕ) (no_memory : Bool) (u : UnitView) (watch : ReadingsDone) : Type 0 where
   pub segment : arc_value watch.segment ≡ segment_of u
   pub watched : MonitorRan (segment_of u) tries watch.whole watch.monitor watch.taken.items

@@ -13,6 +13,12 @@ pub record AreEndsOf (seat : Admissions) (number : ℕ) (items : Taking (List �
   pub outlet : (free : SessionLanes) → items.lane ≡ (get_or seat.links number free).outlet
   pub input : (free : SessionLanes) → pieces.lane ≡ (get_or seat.links number free).input
 
+-- items were got
+pub record GotMore (was now : Taking (List ℕ)) : Type 0 where
+  pub more : List (List ℕ)
+  pub lane : now.lane ≡ was.lane
+  pub gets : now.got ≡ was.got ++ more
+
 -- what was written of what was got is still as the writer says, with one item more that was got
 pub record WritesItem (item : List ℕ) (end end' : WriterEnd) (between after : Option (List ℕ)) (faults faults' : ℕ) : Type 0 where
   pub wrote : (rx mid : Taking (List ℕ)) (before : Option (List ℕ)) (first : ℕ)

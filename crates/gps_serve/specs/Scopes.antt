@@ -11,7 +11,7 @@ use Rattle.hub_door.specs.declared.naming.DoorNaming.{Ghosts as DoorNamingGhosts
 use Rattle.serve_end_settling.specs.Runs.{EachRun, RunCause, SourceFacts}
 use Rattle.serve_threads.specs.declared.monitors.MonitorStart.{MonitorStart}
 use Rattle.serve_threads.specs.Sessions.{SessionRuns}
-use Rattle.gps_serve.specs.declared.lanes.DeviceStart.{DeviceStart}
+use Rattle.gps_serve.specs.declared.starts.DeviceStart.{DeviceStart}
 use Rattle.gps_serve.specs.declared.scope.Ended.{Ended}
 use Rattle.gps_serve.specs.AtEnd.{GateFacts, SinkFacts}
 use Rattle.gps_serve.specs.Doors.{FailsBy, IsNewLink, Tended, door_now}
@@ -46,7 +46,7 @@ abbrev pub WatchedIf : {S K G J R : Type 0} {s : SourceGhosts S} {k : SinkGhosts
 WatchedIf tries watchers None = Unit {0}
 WatchedIf tries watchers (Some ended) = AllZip (WatchedBy tries) watchers ended.watched.items
 
--- there is one result for each of so many devices, and for each of so many monitors
+-- there is one result for each device, and for each monitor
 abbrev pub CountsIf : {S K G J R : Type 0} {s : SourceGhosts S} {k : SinkGhosts K} {g : DoorGhosts G S K} {j : HubGhosts J} {d : DoorNamingGhosts J} → ℕ → ℕ → Option (Ended S K G J R s k g j d) → Type 0
 CountsIf devices monitors None = Unit {0}
 CountsIf devices monitors (Some ended) = (vec_len ended.runs ≡ devices) × (vec_len ended.watched ≡ monitors)

@@ -5,8 +5,8 @@ use Rattle.gps_outside.specs.Links.{IsUnread}
 use Rattle.serve_pieces.specs.declared.piece.Piece.{Piece}
 use Rattle.hub_promise.specs.Parts.{InletsView}
 use Rattle.serve_end_settling.specs.Runs.{ReaderStart, ReaderStarts, SourceFacts}
-use Rattle.gps_serve.specs.declared.lanes.DeviceStart.{DeviceStart}
-use Rattle.gps_serve.specs.declared.lanes.EdgeStart.{EdgeStart}
+use Rattle.gps_serve.specs.declared.starts.DeviceStart.{DeviceStart}
+use Rattle.gps_serve.specs.declared.starts.EdgeStart.{EdgeStart}
 
 -- nothing was taken from the source, where it tells that, and it counted nothing
 abbrev pub IsUnreadBy : {S : Type 0} → SourceFacts S → S → Type 0

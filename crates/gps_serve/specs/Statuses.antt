@@ -1,4 +1,4 @@
--- When want of memory was met, and when a device was lost by a fault.
+-- When the daemon was out of memory, and when a device was lost by a fault.
 use Rattle.std.specs.Prelude.{◌≡◌, Bool, true, not, ◌&&◌, ◌||◌, is_some, List, Option, Some, None}
 use Rattle.std.specs.List.{list_all}
 use Rattle.gps_lane.specs.Ends.{Putting}

@@ -18,7 +18,7 @@ pub record IsAtRest (u : UnitView) : Type 0 where
 abbrev pub IsAtRestIn : ℕ → List UnitView → Type 0
 IsAtRestIn unit units = (free : UnitView) → IsAtRest (slice_index_or units unit free)
 
--- the first so many units
+-- the first n units
 abbrev pub AreAtRest : ℕ → List UnitView → Type 0
 AreAtRest count units = (unit : ℕ) → unit < count → IsAtRestIn unit units
 

@@ -16,7 +16,7 @@ use Rattle.serve_workers.specs.EdgeLines.{HandsLines}
 use Rattle.serve_workers.specs.Readings.{HandsOn, IsDevicePiece}
 use Rattle.gps_serve.specs.Starts.{IsUnreadBy}
 
--- the device has ended, or was lost by a fault of a source and not for want of memory
+-- the device has ended, or was lost by a fault of a source and not out of memory
 abbrev pub IsOver : Option DeviceEnd → Type 0
 IsOver end = (end ≡ Some Ended) ⊎ (end ≡ Some ReadFault)
 

@@ -11,8 +11,8 @@ use Rattle.serve_threads.specs.declared.monitors.MonitorStart.{MonitorStart}
 use Rattle.serve_threads.specs.declared.monitors.MonitorPromise.{MonitorPromise}
 use Rattle.serve_threads.specs.Monitors.{MonitorRan}
 use Rattle.serve_threads.specs.Segments.{segments_of}
-use Rattle.gps_serve.specs.declared.lanes.DeviceStart.{DeviceStart}
-use Rattle.gps_serve.specs.declared.lanes.EdgeStart.{EdgeStart}
+use Rattle.gps_serve.specs.declared.starts.DeviceStart.{DeviceStart}
+use Rattle.gps_serve.specs.declared.starts.EdgeStart.{EdgeStart}
 use Rattle.serve_end_settling.specs.declared.device.DeviceRun.{DeviceRun}
 use Rattle.serve_end_settling.specs.Runs.{SourceFacts}
 use Rattle.gps_serve.specs.declared.readers.DeviceWork.{DeviceWork}
@@ -34,7 +34,7 @@ pub record ReadersAre {S R D : Type 0} (start : DeviceStart S R) (work : DeviceW
   pub bytes : BytesAre start work.bytes
   pub edges : EdgesAre start.edges work.edges
 
--- a unit's monitor works on its segment, with so many readings
+-- a unit's monitor works on its segment, with the given number of readings
 pub record WatchesFor (tries : ℕ) (watcher : MonitorStart) (work : MonitorPromise) : Type 0 where
   pub segment : work.segment.value ≡ watcher.segment
   pub tries_are : work.tries ≡ tries

@@ -151,6 +151,10 @@ impl<S: Source, K: Sink, G: Door<In = S, Out = K>, J: HubNaming, R: Wait + Copy>
         ensures deals { Deals (source, sink) (map way_of (links_at self.old.sessions.seated.items))
             (map way_of (links_at self.new.sessions.seated.items)) self.old.full self.new.full self.old.no_memory self.new.no_memory }
     {
+        if self.sessions.is_full() {
+            self.full = self.full.saturating_add(1);
+            return;
+        }
         let Ok(places) = make_places(rt, alloc, queue) else {
             self.no_memory = true;
             return;
@@ -239,6 +243,7 @@ impl<S: Source, K: Sink, G: Door<In = S, Out = K>, J: HubNaming, R: Wait + Copy>
         ensures seated { AreSeated (IsNewLink S.content S.faults S.quiets K.written K.faults) queue (links_at self.new.sessions.seated.items) self.new.seat }
         ensures faults_stay { G.faults self.old.gate ≤ G.faults self.new.gate }
         ensures failed { self.new.failed ≡ true → (self.old.failed ≡ true) ⊎ Rose (G.faults self.old.gate) (G.faults self.new.gate) }
+        ensures still { self.new.failed ≡ false → (self.old.failed ≡ false) × (G.faults self.new.gate ≡ G.faults self.old.gate) }
         ensures tends { (told : Option (List (Way S K)))
             → Tends told (door_now (G.links self.old.gate) (G.faults self.old.gate) (G.quiets self.old.gate) self.old.full self.old.no_memory)
             (map way_of (links_at self.old.sessions.seated.items)) self.old.seat.done true

@@ -25,7 +25,10 @@ impl<S: Source, K: Sink, G: Door<In = S, Out = K>, J: HubNaming, R: Wait + Copy>
     ghost use Rattle.serve_threads.specs.Sessions.{SessionRuns};
     ghost use Rattle.gps_serve.specs.Doors.{FailsBy, IsNewLink, Tended, door_now};
 
-    ghost kept_by = { λ p r. Tended (IsNewLink S.content S.faults S.quiets K.written K.faults) (SessionRuns S.content S.faults S.quiets K.written K.faults) p.queue (G.links p.gate.value) (door_now (G.links r.gate) (G.faults r.gate) (G.quiets r.gate) r.full r.no_memory) r.seat r.runs.items × FailsBy r.failed (G.faults p.gate.value) (G.faults r.gate) };
+    ghost kept_by = { λ p r. Tended (IsNewLink S.content S.faults S.quiets K.written K.faults)
+        (SessionRuns S.content S.faults S.quiets K.written K.faults) p.queue (G.links p.gate.value)
+        (door_now (G.links r.gate) (G.faults r.gate) (G.quiets r.gate) r.full r.no_memory) r.seat r.runs.items
+        × FailsBy r.failed (G.faults p.gate.value) (G.faults r.gate) };
 }
 
 /// Starts the door worker, where there is a thread for it.

@@ -16,14 +16,14 @@ use serve_threads::SessionBells;
 use session_core::Item;
 use std::sync::{Arc, Wait};
 
-/// How many pieces of a device one burst takes at most.
-const PIECES_A_BURST: u32 = 32;
+/// How many pieces of a device one burst takes at most. The lock is held for a burst, and the writers are rung at its end; so it is short.
+const PIECES_A_BURST: u32 = 4;
 
 /// More sessions than may have news at once.
 const LOOKS: u32 = 200_000;
 
-/// The steps of 512 samples, which is more than one burst brings to a unit.
-const STEPS: u16 = 6_656;
+/// The steps of 128 samples. One burst brings no more to a unit: it takes 2,048 bytes of a device, and a time needs sixteen.
+const STEPS: u16 = 1_664;
 
 /// What a burst did.
 #[derive(Clone, Copy, Debug, PartialEq, Eq)]
@@ -156,7 +156,7 @@ impl<J: HubNaming, R: Wait + Copy> Floor<J, R> {
         }
     }
 
-    /// Stores the samples of a unit that wait, so many at most. False where there is none to store.
+    /// Stores at most the given number of the samples that wait for a unit. False if there is none to store.
     fn store_some(&mut self, unit: u8) -> bool
         requires { unit < length J.terms.segments }
         ensures sessions { self.new.hub.book.sessions ≡ self.old.hub.book.sessions }
@@ -174,7 +174,7 @@ impl<J: HubNaming, R: Wait + Copy> Floor<J, R> {
         true
     }
 
-    /// Stores the samples of each unit that wait, so many at most. False where there is none to store.
+    /// Stores at most the given number of the samples that wait for each unit. False if there is none to store.
     pub(crate) fn publish(&mut self) -> bool
         ensures sessions { self.new.hub.book.sessions ≡ self.old.hub.book.sessions }
         ensures ends { self.new.hub.ends ≡ self.old.hub.ends }
@@ -202,6 +202,7 @@ impl<J: HubNaming, R: Wait + Copy> Floor<J, R> {
         bells: Arc<SessionBells>,
     ) -> Result<u32, BookFault>
         requires outlet { outlet.put ≡ [] }
+        requires open { outlet.is_open ≡ true }
         requires input { input.got ≡ [] }
         ensures number { IfOk result (λ s. s ≡ length door.old.links) }
         ensures door { OnOk result (door.new ≡ admitting (link_of outlet.lane outlet.cap input.lane) door.old) }

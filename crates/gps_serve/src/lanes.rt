@@ -7,29 +7,15 @@ ghost use Rattle.serve_end_settling.specs.Runs.{source_facts};
 ghost use Rattle.gps_serve.specs.Starts.{IsFreshDevice, IsFreshEdge, IsUnreadBy, edge_source_of, edges_at, sources_at};
 
 use crate::places::PIECES;
+use crate::starts::{DeviceStart, EdgeStart};
 use gps_fixed::NoMemory;
 use gps_hub::Inlets;
-use gps_lane::{Rx, Tx, lane};
+use gps_lane::{Rx, lane};
 use gps_outside::Source;
 use serve_pieces::Piece;
 use std::alloc::Global;
 use std::sync::Wait;
 use std::vec::IntoIter;
-
-/// What the reader of a device's edges begins with.
-#[derive(Drop)]
-pub(crate) struct EdgeStart<S: Source, R> {
-    pub(crate) source: S,
-    pub(crate) lines: Tx<Piece, R>,
-}
-
-/// What the readers of a device begin with.
-#[derive(Drop)]
-pub(crate) struct DeviceStart<S: Source, R> {
-    pub(crate) source: S,
-    pub(crate) bytes: Tx<Piece, R>,
-    pub(crate) edges: Option<EdgeStart<S, R>>,
-}
 
 /// A device's lanes: the ends that put, with their sources, and the ends that get.
 #[derive(Drop)]

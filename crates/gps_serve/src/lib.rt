@@ -11,6 +11,7 @@ mod door_thread;
 mod floor;
 mod ground;
 mod lanes;
+mod laws;
 mod places;
 mod pump;
 mod readers;
@@ -19,8 +20,10 @@ mod scope;
 mod seated;
 mod served;
 mod settling;
+mod starts;
 mod status;
 
+pub use laws::ended_devices_are_logged_whole;
 pub use serve_end_parts::{
     DeviceDone, DeviceEnd, MonitorDone, Plan, Served, SessionDone, SessionEnd,
 };

@@ -1,4 +1,4 @@
-ghost use Rattle.std.specs.Prelude.{◌≡◌, ◌≤◌, [], IfOk};
+ghost use Rattle.std.specs.Prelude.{◌≡◌, ◌≤◌, [], true, IfOk};
 
 use gps_fixed::NoMemory;
 use gps_lane::{Rx, Tx, lane};
@@ -54,6 +54,7 @@ pub(crate) fn make_places<R: Wait + Copy>(
     ensures outlet { IfOk result (λ p. (p.outlet.put ≡ []) × (p.outlet.cap ≡ queue)) }
     ensures items { IfOk result (λ p. (p.items.lane ≡ p.outlet.lane) × (p.items.got ≡ [])) }
     ensures input { IfOk result (λ p. (p.input.got ≡ []) × (p.input.lane ≡ p.pieces.lane) × (p.pieces.put ≡ [])) }
+    ensures open { IfOk result (λ p. (p.outlet.is_open ≡ true) × (p.pieces.is_open ≡ true)) }
 {
     let (outlet, items) = lane(rt, alloc, queue)?;
     let (pieces, input) = lane(rt, alloc, PIECES)?;

@@ -4,7 +4,7 @@ ghost use Rattle.gps_serve.specs.Starts.{edge_start_of};
 ghost use Rattle.gps_serve.specs.Works.{BytesAre, EdgesAre, JoinsDevice, ReadersAre};
 
 use crate::floor::Floor;
-use crate::lanes::{DeviceStart, EdgeStart};
+use crate::starts::{DeviceStart, EdgeStart};
 use gps_lane::Bell;
 use gps_outside::{Clock, Source};
 use serve_end_settling::DeviceRun;

@@ -4,16 +4,75 @@ ghost use Rattle.hub_door.specs.Admissions.{SessionLanes};
 ghost use Rattle.hub_promise.specs.Given.{TellsOnce};
 ghost use Rattle.serve_threads.specs.declared.session.SessionLink.{SessionLink};
 ghost use Rattle.serve_threads.specs.Sessions.{SessionRuns};
-ghost use Rattle.gps_serve.specs.Released.{AreEndsOf, WritesItem, WritesOn};
+ghost use Rattle.serve_workers.specs.declared.writer.WriterEnd.{WriterEnd};
+ghost use Rattle.gps_serve.specs.Released.{AreEndsOf, GotMore, WritesItem, WritesOn};
 
 use crate::floor::Floor;
-use gps_hub::{DoorSeat, HubNaming};
+use gps_hub::{DoorSeat, Hub, HubNaming};
 use gps_lane::Rx;
 use gps_outside::{Sink, Source, write_all};
 use serve_threads::{LinkDone, WriterDone};
 use serve_workers::WriterEnd;
 use session_core::Item;
 use std::sync::{Mutex, Wait};
+
+/// How many items are dropped under one lock at most.
+const BATCH: u32 = 256;
+
+/// Gets the next item of a closed session's outlet, and drops it. False where there is none.
+#[tactic(auto, using(crate::proofs::Released::got_item))]
+fn drop_item<J: HubNaming, R: Wait + Copy>(
+    hub: &mut Hub<J, R>,
+    seat: &mut DoorSeat<J>,
+    number: u32,
+    items: &mut Rx<Item, R>,
+) -> bool
+    requires there { number < length seat.old.links }
+    requires outlet { (free : SessionLanes) → items.old.lane ≡ (get_or seat.old.links number free).outlet }
+    ensures seat { seat.new ≡ seat.old }
+    ensures items { GotMore items.old items.new }
+{
+    hub.settle_outlet(seat, number, items).is_some()
+}
+
+/// Gets at most `BATCH` of the next items of a closed session's outlet, and drops them. False if none is left.
+#[tactic(auto, using(crate::proofs::Released::got_none, crate::proofs::Released::got_on, crate::proofs::Released::outlet_still))]
+fn drop_items<J: HubNaming, R: Wait + Copy>(
+    hub: &mut Hub<J, R>,
+    seat: &mut DoorSeat<J>,
+    number: u32,
+    items: &mut Rx<Item, R>,
+) -> bool
+    requires there { number < length seat.old.links }
+    requires outlet { (free : SessionLanes) → items.old.lane ≡ (get_or seat.old.links number free).outlet }
+    ensures seat { seat.new ≡ seat.old }
+    ensures items { GotMore items.old items.new }
+{
+    'items: for _ in 0..BATCH {
+        if !drop_item(hub, seat, number, items) {
+            return false;
+        }
+    }
+    true
+}
+
+/// Gets the next items of a closed session whose sink has failed, under one lock. False where none is left.
+#[tactic(auto, using(crate::proofs::Released::skipped_on))]
+fn skip_items<K: Sink, J: HubNaming, R: Wait + Copy>(
+    rt: &R,
+    floor: &Mutex<Floor<J, R>>,
+    seat: &mut DoorSeat<J>,
+    number: u32,
+    writer: &mut WriterDone<K, R>,
+) -> bool
+    requires there { number < length seat.old.links }
+    requires outlet { (free : SessionLanes) → writer.old.items.lane ≡ (get_or seat.old.links number free).outlet }
+    requires failed { writer.old.end ≡ WriterEnd.WriteFault }
+    ensures seat { seat.new ≡ seat.old }
+    ensures on { WritesOn K.written K.faults writer.old writer.new }
+{
+    drop_items(&mut floor.lock(rt).hub, seat, number, &mut writer.items)
+}
 
 /// Gets the next item of a closed session's outlet, where there is one.
 fn next_item<J: HubNaming, R: Wait + Copy>(
@@ -67,6 +126,25 @@ fn write_next<K: Sink, J: HubNaming, R: Wait + Copy>(
     true
 }
 
+/// Gets the next item of a closed session's outlet, and writes it; or the next ones, where its sink has failed. False where none is left.
+fn get_next<K: Sink, J: HubNaming, R: Wait + Copy>(
+    rt: &R,
+    floor: &Mutex<Floor<J, R>>,
+    seat: &mut DoorSeat<J>,
+    number: u32,
+    writer: &mut WriterDone<K, R>,
+) -> bool
+    requires there { number < length seat.old.links }
+    requires outlet { (free : SessionLanes) → writer.old.items.lane ≡ (get_or seat.old.links number free).outlet }
+    ensures seat { seat.new ≡ seat.old }
+    ensures on { WritesOn K.written K.faults writer.old writer.new }
+{
+    match writer.end {
+        WriterEnd::WriteFault => skip_items(rt, floor, seat, number, writer),
+        WriterEnd::Drained => write_next(rt, floor, seat, number, writer),
+    }
+}
+
 /// Gets the items that a closed session's outlet still holds, and writes them until the sink fails. No item is written under the lock.
 #[tactic(auto, using(crate::proofs::Released::on_none, crate::proofs::Released::outlet_still))]
 fn empty_outlet<K: Sink, J: HubNaming, R: Wait + Copy>(
@@ -82,7 +160,7 @@ fn empty_outlet<K: Sink, J: HubNaming, R: Wait + Copy>(
     ensures on { WritesOn K.written K.faults writer.old writer.new }
 {
     'items: for _ in rt.forever() {
-        if !write_next(rt, floor, seat, number, writer) {
+        if !get_next(rt, floor, seat, number, writer) {
             return;
         }
     }
@@ -109,7 +187,6 @@ pub(crate) fn release_lanes<S: Source, K: Sink, J: HubNaming, R: Wait + Copy>(
         mut reader,
         mut writer,
     } = run;
-    writer.items.leave();
     empty_outlet(rt, floor, seat, number, &mut writer);
     floor
         .lock(rt)

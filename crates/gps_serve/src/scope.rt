@@ -10,9 +10,9 @@ ghost use Rattle.gps_serve.specs.Works.{JoinsDevice, JoinsWatcher, ReadersAre, W
 use crate::door::{DoorBegin, DoorDone};
 use crate::door_thread::start_door;
 use crate::floor::Floor;
-use crate::lanes::DeviceStart;
 use crate::pump::{publish, pump};
 use crate::readers::{DeviceWork, join_readers, start_readers};
+use crate::starts::DeviceStart;
 use gps_fixed::NoMemory;
 use gps_hub::HubNaming;
 use gps_outside::{Clock, Door, Sink, Source};
@@ -69,7 +69,7 @@ pub(crate) struct Ended<
     pub(crate) door: DoorDone<S, K, G, J, R>,
 }
 
-/// Room for so many.
+/// Room for the given number of elements.
 pub(crate) fn room<T: Drop>(alloc: Global, count: usize) -> Result<Vec<T>, NoMemory>
     ensures none { IfOk result (λ room. room.items ≡ []) }
     ensures len { IfOk result (λ room. vec_len room ≡ 0) }

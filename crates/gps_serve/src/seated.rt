@@ -25,12 +25,16 @@ pub(crate) struct Seated<S: Source, K: Sink, R: Wait + Copy> {
 #[derive(Drop)]
 pub(crate) struct Sessions<S: Source, K: Sink, R: Wait + Copy> {
     pub(crate) seated: Vec<Seated<S, K, R>>,
-    // Those whose lanes were not let go of yet.
+    // Those whose lanes were not dropped yet.
     pub(crate) live: Vec<usize>,
     pub(crate) runs: Vec<LinkDone<S, K, R>>,
     ghost none: { runs.items ≡ [] },
     ghost room: { vec_len seated ≤ vec_capacity runs },
+    ghost few: { vec_len live ≤ vec_len seated },
 }
+
+/// The most sessions that are not released yet: the 64 that may be live, and sixteen whose clients have still to take what is left.
+const MOST: usize = 80;
 
 /// Joins the threads of a session, and gets what its lanes hold once it is closed. False where it is not closed yet.
 fn release_at<S: Source, K: Sink, J: HubNaming, R: Threads + Wait + Copy>(
@@ -90,6 +94,13 @@ impl<S: Source, K: Sink, R: Wait + Copy> Sessions<S, K, R> {
     {
         self.live.push_reserved(self.seated.len());
         self.seated.push_reserved(session);
+    }
+
+    /// Whether there is no room for one more beside those that are not released yet.
+    pub(crate) fn is_full(&self) -> bool
+        ensures { result ≡ true → 64 ≤ vec_len self.now.seated }
+    {
+        self.live.len() >= MOST
     }
 
     /// Whether the threads of the session at a place of the list of those that live have ended.

@@ -52,7 +52,7 @@ struct Numbers {
 }
 
 /// What is handed back where nothing was served.
-#[tactic(auto, using(crate::proofs::First::no_devices))]
+#[tactic(auto, using(crate::proofs::First::no_devices, crate::proofs::Causes::no_gate))]
 fn nothing<W: World, R: Wait + Copy>(alloc: Global, world: W, stop: Stop) -> Served<W, R>
     ensures book { result.book ≡ None }
     ensures world { result.world ≡ world }
@@ -62,6 +62,7 @@ fn nothing<W: World, R: Wait + Copy>(alloc: Global, world: W, stop: Stop) -> Ser
     ensures eight { result.status ≡ 8 → stop ≡ Stop.Listen }
     ensures seven { result.status ≡ 7 → result.no_memory ≡ true }
     ensures first { SomeFailed WasLostByFault result.devices.items → result.status ≡ 3 }
+    ensures door { SourceFailed W.Gate.faults result.gate → (result.status ≡ 3) ⊎ (result.status ≡ 8) }
     ensures lacked { stop ≡ Stop.NoMemory → result.status ≡ 7 }
     ensures each { ((result.status ≡ 3) × (stop ≡ Stop.Input)) ⊎ ((result.status ≡ 8) × (stop ≡ Stop.Listen)) ⊎ (result.status ≡ 7) }
 {
@@ -160,6 +161,7 @@ fn gather<W: World, J: HubNaming, D: Dials, R: Wait + Copy>(
     requires ran { DevicesRan D.may (source_facts W.In.content W.In.faults W.In.quiets) J.terms.lanes ended.runs.items }
     requires causes { EachRun (RunCause W.In.faults) ended.runs.items }
     requires cause { ended.door.failed ≡ true → 0 < W.Gate.faults ended.door.gate }
+    requires sound { ended.door.failed ≡ false → W.Gate.faults ended.door.gate ≡ 0 }
     requires tended { Tended (IsNewLink W.In.content W.In.faults W.In.quiets W.Out.written W.Out.faults)
         (SessionRuns W.In.content W.In.faults W.In.quiets W.Out.written W.Out.faults) numbers.queue (W.Gate.links first.value)
         (door_now (W.Gate.links ended.door.gate) (W.Gate.faults ended.door.gate) (W.Gate.quiets ended.door.gate) ended.door.full ended.door.no_memory) ended.door.seat ended.door.runs.items }
@@ -178,6 +180,7 @@ fn gather<W: World, J: HubNaming, D: Dials, R: Wait + Copy>(
     ensures eight { result.status ≡ 8 → SourceFailed W.Gate.faults result.gate }
     ensures seven { result.status ≡ 7 → result.no_memory ≡ true }
     ensures first { SomeFailed WasLostByFault result.devices.items → result.status ≡ 3 }
+    ensures door { SourceFailed W.Gate.faults result.gate → (result.status ≡ 3) ⊎ (result.status ≡ 8) }
     ensures zero { result.status ≡ 0 → result.no_memory ≡ false }
     ensures ended { result.status ≡ 0 → AllEnded result.devices.items }
     ensures lacks { result.no_memory ≡ false → IfSome result.book (λ book. NoneLost book result.devices.items) }
@@ -310,12 +313,14 @@ fn run<
     requires wait { numbers.wait ≤ 64 }
     requires low { 1 ≤ numbers.queue }
     requires high { numbers.queue ≤ 65536 }
+    requires sound { W.Gate.faults gate ≡ 0 }
     ensures world { result.world ≡ world }
     ensures range { (result.status ≡ 0) ⊎ (result.status ≡ 3) ⊎ (result.status ≡ 7) ⊎ (result.status ≡ 8) }
     ensures three { result.status ≡ 3 → SomeFailed (DeviceFailed W.In.faults) result.devices.items }
     ensures eight { result.status ≡ 8 → SourceFailed W.Gate.faults result.gate }
     ensures seven { result.status ≡ 7 → result.no_memory ≡ true }
     ensures first { SomeFailed WasLostByFault result.devices.items → result.status ≡ 3 }
+    ensures door { SourceFailed W.Gate.faults result.gate → (result.status ≡ 3) ⊎ (result.status ≡ 8) }
     ensures zero { result.status ≡ 0 → (result.no_memory ≡ false) × IsSome result.book }
     ensures ended { result.status ≡ 0 → AllEnded result.devices.items }
     ensures lacks { result.no_memory ≡ false → IfSome result.book (λ book. NoneLost book result.devices.items) }
@@ -375,6 +380,7 @@ pub fn serve<W: World, R: Threads + Wait + Copy + Send + Sync>(
     ensures eight { result.status ≡ 8 → SourceFailed W.Gate.faults result.gate ⊎ Rose (W.listen_faults world) (W.listen_faults result.world) }
     ensures seven { result.status ≡ 7 → result.no_memory ≡ true }
     ensures first { SomeFailed WasLostByFault result.devices.items → result.status ≡ 3 }
+    ensures door { SourceFailed W.Gate.faults result.gate → (result.status ≡ 3) ⊎ (result.status ≡ 8) }
     ensures zero { result.status ≡ 0 → (result.no_memory ≡ false) × IsSome result.book }
     ensures ended { result.status ≡ 0 → AllEnded result.devices.items }
     ensures lacks { result.no_memory ≡ false → IfSome result.book (λ book. NoneLost book result.devices.items) }

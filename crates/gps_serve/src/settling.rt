@@ -8,7 +8,7 @@ ghost use Rattle.serve_end_settling.specs.Failing.{DeviceFailed, SomeFailed, sou
 ghost use Rattle.serve_end_settling.specs.Lanes.{tx_of};
 ghost use Rattle.serve_end_settling.specs.Runs.{RunCause, EachRun, source_facts};
 ghost use Rattle.gps_serve.specs.AtEnd.{DeviceServed, MonitorServed, OutletServed, sink_facts, watched_units};
-ghost use Rattle.gps_serve.specs.Readies.{AllServed, AreReady, InputLeft, IsSourceOf, MonitorReady, SessionReady};
+ghost use Rattle.gps_serve.specs.Readies.{AllServed, AreReady, InputLeft, IsLeftOfLink, MonitorReady, SessionReady};
 ghost use Rattle.gps_serve.specs.Runs.{DeviceReady, IsLeftOf};
 ghost use Rattle.gps_serve.specs.Statuses.{TellsNoFault};
 
@@ -121,7 +121,7 @@ fn settled<S: Source, K: Sink, R: Wait + Copy>(
         → SessionReady (source_facts S.content S.faults S.quiets) (sink_facts K.written K.faults) (get_or book.old.sessions number free) input run }
     ensures book { book.new ≡ book.old }
     ensures number { result.number ≡ number }
-    ensures source { result.source ≡ run.reader.source }
+    ensures link { IsLeftOfLink (source_facts S.content S.faults S.quiets) (sink_facts K.written K.faults) run result }
     ensures input { InputLeft (source_facts S.content S.faults S.quiets) input result }
     ensures outlet { (free : MemberView) → OutletServed (sink_facts K.written K.faults) (get_or book.old.sessions number free) result }
 {
@@ -143,7 +143,7 @@ pub(crate) fn sessions_done<S: Source, K: Sink, R: Wait + Copy>(
     requires enough { vec_len runs ≤ vec_capacity room }
     ensures book { book.new ≡ book.old }
     ensures served { AllServed (source_facts S.content S.faults S.quiets) (sink_facts K.written K.faults) book.old.sessions inputs.items result.items }
-    ensures sources { AllZip IsSourceOf runs.items result.items }
+    ensures links { AllZip (IsLeftOfLink (source_facts S.content S.faults S.quiets) (sink_facts K.written K.faults)) runs.items result.items }
 {
     let mut done = room;
     let mut runs = runs.into_iter();

@@ -28,13 +28,13 @@ pub(crate) struct DaemonOutcome {
     pub(crate) door_fault: bool,
     /// Each device has ended.
     pub(crate) ended: bool,
-    /// Want of memory was met.
+    /// The daemon was out of memory.
     pub(crate) no_memory: bool,
 }
 
 impl DaemonOutcome {
-    /// Whether want of memory was met: it was seen, or a device was lost though no source failed. Where one failed, a device that was lost
-    /// for want of memory is among what was seen.
+    /// Whether it was out of memory: that was seen, or a device was lost though no source failed. If one failed, a device that was lost
+    /// out of memory is among what was seen.
     pub(crate) fn lacks(&self) -> bool
         ensures { result ≡ lacks_memory self.now }
     {
@@ -47,9 +47,9 @@ impl DaemonOutcome {
         ensures three { result ≡ 3 → self.now.read_fault ≡ true }
         ensures three_first { self.now.read_fault ≡ true → result ≡ 3 }
         ensures eight { result ≡ 8 → self.now.door_fault ≡ true }
+        ensures door { self.now.door_fault ≡ true → (result ≡ 3) ⊎ (result ≡ 8) }
         ensures seven { result ≡ 7 → lacks_memory self.now ≡ true }
         ensures zero { result ≡ 0 → (lacks_memory self.now ≡ false) × (self.now.ended ≡ true) }
-        ensures zero_door { result ≡ 0 → self.now.door_fault ≡ false }
         ensures eight_first { result ≡ 8 → self.now.read_fault ≡ false }
         ensures seven_last { result ≡ 7 → (self.now.read_fault ≡ false) × (self.now.door_fault ≡ false) }
     {
@@ -72,7 +72,7 @@ fn reader_lacked<S: Source, R>(reader: &ReaderDone<S, R>) -> bool {
     }
 }
 
-/// Whether want of memory ended a reader of a device.
+/// Whether a reader of a device ended because it was out of memory.
 fn device_lacks<S: Source, R: Wait + Copy>(runs: &[DeviceRun<S, R>]) -> bool {
     let mut lacks = false;
     for run in runs {
@@ -95,14 +95,14 @@ pub(crate) fn all_ended(ends: &[Option<DeviceEnd>]) -> bool
     ends.iter().all(|end| *end == Some(DeviceEnd::Ended))
 }
 
-/// Whether a device was lost for want of memory.
+/// Whether a device was lost because it was out of memory.
 fn is_lost(end: Option<DeviceEnd>) -> bool
     ensures { result ≡ is_lost end }
 {
     end == Some(DeviceEnd::NoMemory)
 }
 
-/// Whether want of memory lost a device.
+/// Whether any device was lost because it was out of memory.
 #[tactic(auto, using(crate::proofs::Lost::none_lost))]
 fn ends_lack(ends: &[Option<DeviceEnd>]) -> bool
     ensures kept { result ≡ false → All IsNotLost ends.now }
@@ -110,7 +110,7 @@ fn ends_lack(ends: &[Option<DeviceEnd>]) -> bool
     ends.iter().any(|end| is_lost(*end))
 }
 
-/// Whether want of memory ended a reader of a session.
+/// Whether a reader of a session ended because it was out of memory.
 fn session_lacks<S: Source, K: Sink, R: Wait + Copy>(runs: &[LinkDone<S, K, R>]) -> bool {
     let mut lacks = false;
     for run in runs {
@@ -121,7 +121,7 @@ fn session_lacks<S: Source, K: Sink, R: Wait + Copy>(runs: &[LinkDone<S, K, R>])
     lacks
 }
 
-/// Whether a session was closed for want of memory.
+/// Whether a session was closed because it was out of memory.
 fn is_cut(closing: Option<(u64, Close)>) -> bool
     ensures { result ≡ is_cut closing }
 {
@@ -131,7 +131,7 @@ fn is_cut(closing: Option<(u64, Close)>) -> bool
     }
 }
 
-/// Whether the book closed a session for want of memory.
+/// Whether the book closed a session because it was out of memory.
 fn book_lacks<R: Wait + Copy>(book: &Book<Tx<Item, R>>) -> bool
     ensures kept { result ≡ false → All (λ session. IsNotCut session.session.closing) book.now.sessions }
 {
@@ -142,14 +142,14 @@ fn book_lacks<R: Wait + Copy>(book: &Book<Tx<Item, R>>) -> bool
     lacks
 }
 
-/// Whether each monitor made all its readings, as it does unless memory is wanting.
+/// Whether each monitor made all its readings, as it does unless it is out of memory.
 fn are_whole(watched: &[ReadingsDone]) -> bool
     ensures { result ≡ list_all (λ watch. watch.whole) watched.now }
 {
     watched.iter().all(|watch| watch.whole)
 }
 
-/// Whether want of memory was met: at an admission, or by a thread, or by the book for a session or a device.
+/// Whether it was out of memory: at an admission, in a thread, or in the book for a session or a device.
 pub(crate) fn lacked<S: Source, K: Sink, R: Wait + Copy>(
     before: bool,
     book: &Book<Tx<Item, R>>,

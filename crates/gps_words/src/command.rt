@@ -9,7 +9,7 @@ pub enum CommandLine {
     Pseudo { history: u32 },
     /// Plays a script; `history` is how many symbols a generation has at most, `queue` how many items wait for a session.
     Replay { history: u32, queue: u32 },
-    /// Plays a made script of so many seconds.
+    /// Plays a made script of `size` seconds.
     Generate { seed: u32, size: u32 },
     /// Reads the daemon's lines and writes how many are of each class.
     Lines,

@@ -1,6 +1,7 @@
 ghost use Rattle.std.specs.Prelude.{◌<◌, length, IfOk};
 ghost use Rattle.gps_outside.specs.Reads.{FitsBuffer};
 
+use crate::head_source::HeadSource;
 use gps_fixed::Bytes;
 use gps_outside::{ReadStep, RealSink, RealSource, Source, connect};
 use gps_upstream::{Head, Upstream};
@@ -40,7 +41,7 @@ pub enum DaemonFault {
 /// A connection to a daemon.
 #[derive(Drop)]
 struct Connection<R: Files<File = File> + Net<Stream = TcpStream> + Clock + Copy> {
-    upstream: Upstream<RealSource<R>, RealSink>,
+    upstream: Upstream<HeadSource<R>, RealSink>,
     /// The same connection, for its time-out.
     stream: TcpStream,
     /// When it was connected; none once the head has ended.
@@ -84,6 +85,8 @@ fn connection_to<R: Files<File = File> + Net<Stream = TcpStream> + Clock + Copy>
     let source = RealSource::of_stream(machine, stream.try_clone()?);
     let sink = RealSink::of_stream(stream.try_clone()?);
     let since = machine.monotonic()?;
+    let end = since.saturating_add(Duration::from_secs(HEAD_WAIT));
+    let source = HeadSource::new(machine, source, end);
     Ok(Connection {
         upstream: Upstream::new(source, sink, None),
         stream,

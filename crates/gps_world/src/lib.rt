@@ -1,10 +1,11 @@
 //! A world: what gives the running daemon its sources, its door and its clock. This project's own.
 //!
-//! One in memory holds what it gives and tells its content; the real one opens files, connections and a listener.
+//! One in memory holds what it gives and has modelled contents; the real one opens files, connections and a listener.
 #![tactic(auto)]
 
 mod asked;
 mod daemon;
+mod head_source;
 mod memory_world;
 mod place;
 mod real_gate;

@@ -1,7 +1,7 @@
 ghost use Rattle.std.specs.Prelude.{◌≡◌};
 
 use crate::RealInput;
-use gps_outside::{Closer, Door, DoorStep, RealDoor, RealSink};
+use gps_outside::{Closer, Door, DoorStep, LinkSink, RealDoor};
 use std::fs::File;
 use std::io;
 use std::marker::Model;
@@ -43,7 +43,7 @@ impl<R: Files<File = File> + Net<Stream = TcpStream> + Clock + Copy> Door for Re
 
     type In = RealInput<R>;
 
-    type Out = RealSink;
+    type Out = LinkSink<R>;
 
     ghost faults = { λ s. s.faults };
 
@@ -51,7 +51,7 @@ impl<R: Files<File = File> + Net<Stream = TcpStream> + Clock + Copy> Door for Re
 
     ghost links = { λ _. None };
 
-    fn accept(&mut self) -> DoorStep<RealInput<R>, RealSink> {
+    fn accept(&mut self) -> DoorStep<RealInput<R>, LinkSink<R>> {
         match self.door.accept() {
             DoorStep::Link(source, sink) => DoorStep::Link(RealInput::of_source(source), sink),
             DoorStep::Quiet => DoorStep::Quiet,

@@ -3,7 +3,7 @@ ghost use Rattle.gps_world.specs.Asking.{asked_nothing};
 
 use crate::{Asked, Opened, Place, RealGate, RealInput, World};
 use gps_fixed::Bytes;
-use gps_outside::{RealClock, RealDoor, RealSink, RealSource};
+use gps_outside::{LinkSink, RealClock, RealDoor, RealSource};
 use std::alloc::Global;
 use std::fs::{self, File};
 use std::io::{self, ErrorKind};
@@ -133,7 +133,7 @@ where
 
     type In = RealInput<R>;
 
-    type Out = RealSink;
+    type Out = LinkSink<R>;
 
     type Now = RealClock<R>;
 

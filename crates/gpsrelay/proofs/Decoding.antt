@@ -403,7 +403,7 @@ module _ (says : Texts) where
         ends = inl (inl (all.0, all.1), waits_part (texts_so_far says (stream_of u.readings)) waits sink sink' sink'' u.wrote part);
       }
 
-  -- want of memory before the first read
+  -- out of memory before the first read
   pub nothing_done : (history : ℕ) (source : Option Stream) (clock : Option Dial) (sink : Option (List ℕ))
       → Decoded says NoMemory history source source clock clock sink sink
   nothing_done history source clock sink = record {

@@ -1,7 +1,7 @@
 pub mod Commands
 pub mod Decoding
 pub mod LineStatuses
-pub mod LineTexts
 pub mod PlayStatuses
 pub mod Statuses
 pub mod Serving
+pub mod QuietTexts

@@ -1,10 +1,7 @@
--- What each command does: how it ends, its status, what must have happened outside, and what was read and written. The values are what the source
--- tells of its content, its faults and quiets, what the clock tells of its stamps, what the sink tells that was written, and its faults, each before
--- and after.
-use Rattle.std.specs.Prelude.{◌≡◌, ℕ, ◌⊎◌, List, Option}
-use Rattle.gps_outside.specs.Counts.{Rose, RoseBy}
+-- What each command does, by what it did outside: how it ends, its status, what must have happened there, and what was read and written.
+use Rattle.std.specs.Prelude.{◌≡◌, ℕ, ◌⊎◌, Option}
+use Rattle.gpsrelay.specs.Calls.{ClockCall, ContentsSatisfy, CountsSatisfy, ReadFailed, SinkCall, SourceCall, WasQuiet, WriteFailed}
 use Rattle.gps_outside.specs.Told.{Stream}
-use Rattle.gps_outside.specs.Ticks.{Dial}
 use Rattle.gps_words.specs.declared.command.CommandLine.{CommandLine}
 use Rattle.gps_words.specs.declared.command.CommandLine.TheVariants.{Decode, Pseudo, Replay, Generate, Lines}
 use Rattle.class_counts.specs.declared.outcome.CountOutcome.{CountOutcome}
@@ -20,51 +17,40 @@ use Rattle.gpsrelay.specs.Decode.{Decoded, IsWithin}
 use Rattle.gpsrelay.specs.Texts.{Texts, line_of, sentences_of}
 
 -- `decode` and `pseudo`
-abbrev pub DoesDecode : Texts → ℕ → ℕ → Option Stream → Option Stream → ℕ → ℕ → ℕ → ℕ → Option Dial → Option Dial
-    → Option (List ℕ) → Option (List ℕ) → ℕ → ℕ → Type 0
-DoesDecode says history status source source' faults faults' quiets quiets' clock clock' sink sink' sunk sunk' =
-    (outcome : CommandOutcome) × (status ≡ status_of outcome) × CommandHasCause outcome faults faults' quiets quiets' sunk sunk'
-    × Decoded says outcome history source source' clock clock' sink sink'
+abbrev pub DoesDecode : Texts → ℕ → ℕ → SourceCall → SinkCall → ClockCall → Type 0
+DoesDecode says history status source sink clock =
+    (outcome : CommandOutcome) × (status ≡ status_of outcome) × CountsSatisfy (CommandHasCause outcome) source sink
+    × ContentsSatisfy (λ left left' written written'. Decoded says outcome history left left' clock.before clock.after written written') source sink
 
 -- `lines`, which asks no clock
-abbrev pub DoesLines : ℕ → Option Stream → Option Stream → ℕ → ℕ → ℕ → ℕ → Option Dial → Option Dial
-    → Option (List ℕ) → Option (List ℕ) → ℕ → ℕ → Type 0
-DoesLines status source source' faults faults' quiets quiets' clock clock' sink sink' sunk sunk' =
-    (outcome : CountOutcome) × (status ≡ lines_status outcome) × CountHasCause outcome faults faults' quiets quiets' sunk sunk'
-    × Counted outcome source source' sink sink' × (clock ≡ clock')
+abbrev pub DoesLines : ℕ → SourceCall → SinkCall → ClockCall → Type 0
+DoesLines status source sink clock =
+    (outcome : CountOutcome) × (status ≡ lines_status outcome) × CountsSatisfy (CountHasCause outcome) source sink
+    × ContentsSatisfy (Counted outcome) source sink × (clock.before ≡ clock.after)
 
 -- `replay`, which asks no clock
-abbrev pub DoesReplay : ℕ → ℕ → Option Stream → Option Stream → ℕ → ℕ → ℕ → ℕ → Option Dial → Option Dial
-    → Option (List ℕ) → Option (List ℕ) → ℕ → ℕ → Type 0
-DoesReplay queue status source source' faults faults' quiets quiets' clock clock' sink sink' sunk sunk' =
-    (outcome : PlayOutcome) × (status ≡ play_status outcome) × PlayHasCause outcome faults faults' quiets quiets' sunk sunk'
-    × Replayed outcome queue source source' sink sink' × (clock ≡ clock')
+abbrev pub DoesReplay : ℕ → ℕ → SourceCall → SinkCall → ClockCall → Type 0
+DoesReplay queue status source sink clock =
+    (outcome : PlayOutcome) × (status ≡ play_status outcome) × CountsSatisfy (PlayHasCause outcome) source sink
+    × ContentsSatisfy (Replayed outcome queue) source sink × (clock.before ≡ clock.after)
 
 -- `generate`, which reads no source and asks no clock
-abbrev pub DoesGenerate : ℕ → ℕ → ℕ → Option Stream → Option Stream → ℕ → ℕ → ℕ → ℕ → Option Dial → Option Dial
-    → Option (List ℕ) → Option (List ℕ) → ℕ → ℕ → Type 0
-DoesGenerate seed size status source source' faults faults' quiets quiets' clock clock' sink sink' sunk sunk' =
-    (outcome : PlayOutcome) × (status ≡ play_status outcome) × GeneratedCause outcome sunk sunk'
-    × Generated outcome seed size sink sink'
-    × (source ≡ source') × (faults ≡ faults') × (quiets ≡ quiets') × (clock ≡ clock')
+abbrev pub DoesGenerate : ℕ → ℕ → ℕ → SourceCall → SinkCall → ClockCall → Type 0
+DoesGenerate seed size status source sink clock =
+    (outcome : PlayOutcome) × (status ≡ play_status outcome) × GeneratedCause outcome sink.before.faults sink.after.faults
+    × Generated outcome seed size sink.before.written sink.after.written
+    × (source.before ≡ source.after) × (clock.before ≡ clock.after)
 
-abbrev pub Does : CommandLine → ℕ → Option Stream → Option Stream → ℕ → ℕ → ℕ → ℕ → Option Dial → Option Dial
-    → Option (List ℕ) → Option (List ℕ) → ℕ → ℕ → Type 0
-Does (Decode history) status source source' faults faults' quiets quiets' clock clock' sink sink' sunk sunk' =
-    DoesDecode line_of history status source source' faults faults' quiets quiets' clock clock' sink sink' sunk sunk'
-Does (Pseudo history) status source source' faults faults' quiets quiets' clock clock' sink sink' sunk sunk' =
-    DoesDecode sentences_of history status source source' faults faults' quiets quiets' clock clock' sink sink' sunk sunk'
-Does (Replay history queue) status source source' faults faults' quiets quiets' clock clock' sink sink' sunk sunk' =
-    DoesReplay queue status source source' faults faults' quiets quiets' clock clock' sink sink' sunk sunk'
-Does (Generate seed size) status source source' faults faults' quiets quiets' clock clock' sink sink' sunk sunk' =
-    DoesGenerate seed size status source source' faults faults' quiets quiets' clock clock' sink sink' sunk sunk'
-Does Lines status source source' faults faults' quiets quiets' clock clock' sink sink' sunk sunk' =
-    DoesLines status source source' faults faults' quiets quiets' clock clock' sink sink' sunk sunk'
+abbrev pub Does : CommandLine → ℕ → SourceCall → SinkCall → ClockCall → Type 0
+Does (Decode history) status source sink clock = DoesDecode line_of history status source sink clock
+Does (Pseudo history) status source sink clock = DoesDecode sentences_of history status source sink clock
+Does (Replay history queue) status source sink clock = DoesReplay queue status source sink clock
+Does (Generate seed size) status source sink clock = DoesGenerate seed size status source sink clock
+Does Lines status source sink clock = DoesLines status source sink clock
 
--- no fault rose, and fewer than a thousand reads brought nothing
-abbrev pub NothingFails : ℕ → ℕ → ℕ → ℕ → ℕ → ℕ → Type 0
-NothingFails faults faults' quiets quiets' sunk sunk' =
-    (Rose faults faults' → ⊥) × (RoseBy 1000 quiets quiets' → ⊥) × (Rose sunk sunk' → ⊥)
+-- no read and no write failed, and fewer than a thousand reads brought nothing
+abbrev pub NothingFails : SourceCall → SinkCall → Type 0
+NothingFails source sink = (ReadFailed source → ⊥) × (WasQuiet 1000 source → ⊥) × (WriteFailed sink → ⊥)
 
 -- the statuses of a command where nothing fails
 abbrev pub EndsAt : CommandLine → ℕ → Type 0
@@ -74,7 +60,8 @@ EndsAt (Replay history queue) status = (status ≡ 0) ⊎ ((status ≡ 5) ⊎ ((
 EndsAt (Generate seed size) status = (status ≡ 0) ⊎ (status ≡ 7)
 EndsAt Lines status = (status ≡ 0) ⊎ ((status ≡ 5) ⊎ ((status ≡ 6) ⊎ (status ≡ 7)))
 
--- the source tells that what is left lies within the limits of the command, and that no line of it is refused; a made script is always within them
+-- The content of the source is modelled, what is left of it lies within the limits of the command, and no line of it is refused. A made script is
+-- always within them.
 abbrev pub IsWithinLimits : CommandLine → Option Stream → Type 0
 IsWithinLimits (Decode history) source = IsWithin history source
 IsWithinLimits (Pseudo history) source = IsWithin history source

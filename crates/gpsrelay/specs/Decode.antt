@@ -55,7 +55,7 @@ AreReads Full readings = PassHistory readings
 AreReads NoMemory readings = ArePieces readings ⊎ PassHistory readings
 
 -- There are readings such that their bytes were read, the clock gave one stamp for each of them, in order, and what is said of their stream's reports was
--- written. Of an object of the outside that does not tell its content nothing is said here: then the readings may be any.
+-- written. Of an object whose contents are not modelled nothing is said here: then the readings may be any.
 pub record Decoded (says : Texts) (outcome : CommandOutcome) (history : ℕ) (source source' : Option Stream) (clock clock' : Option Dial) (sink sink' : Option (List ℕ)) : Type 0 where
   pub readings : List Reading
   pub reads : AreReads outcome readings

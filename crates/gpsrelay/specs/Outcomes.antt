@@ -1,5 +1,6 @@
 -- How a command ends, its exit status, and what must have happened outside where it ends so.
 use Rattle.std.specs.Prelude.{ℕ, ◌⊎◌}
+use Rattle.gpsrelay.specs.Calls.{ReadFailed, SourceCall, WasQuiet}
 use Rattle.gps_outside.specs.Counts.{Rose, RoseBy}
 use Rattle.gpsrelay.specs.declared.outcome.CommandOutcome.{CommandOutcome}
 use Rattle.gpsrelay.specs.declared.outcome.CommandOutcome.TheVariants.{Done, ReadFault, TooQuiet, WriteFault, Full, NoMemory}
@@ -18,9 +19,9 @@ abbrev pub outcome_of : Fault → CommandOutcome
 outcome_of Sink = WriteFault
 outcome_of NoMemoryFault = NoMemory
 
--- the source's faults rose, or its quiets by a thousand at least
-abbrev pub HasReadCause : ℕ → ℕ → ℕ → ℕ → Type 0
-HasReadCause faults faults' quiets quiets' = Rose faults faults' ⊎ RoseBy 1000 quiets quiets'
+-- a read failed, or a thousand reads or more brought nothing
+abbrev pub HasReadCause : SourceCall → Type 0
+HasReadCause source = ReadFailed source ⊎ WasQuiet 1000 source
 
 -- the counts of the source and of the sink before and after a command that ends so
 abbrev pub CommandHasCause : CommandOutcome → ℕ → ℕ → ℕ → ℕ → ℕ → ℕ → Type 0

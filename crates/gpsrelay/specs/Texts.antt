@@ -1,6 +1,6 @@
 -- What `decode` and `pseudo` write of a device's reports: the JSON lines of its fixes and skies, for the name `stdin`, or the two sentences of
 -- each fix.
-use Rattle.std.specs.Prelude.{◌≡◌, ℕ, List, [], ◌∷◌, ◌++◌, codes}
+use Rattle.std.specs.Prelude.{ℕ, List, [], ◌∷◌, ◌++◌, codes}
 use Rattle.std.specs.List.{flat_map}
 use Rattle.gps_report.specs.declared.edge.Symbol.{Symbol}
 use Rattle.gps_report.specs.declared.policy.Form.TheVariants.{Json}
@@ -39,10 +39,5 @@ abbrev pub texts_to_end : Texts → List Symbol → List ℕ
 texts_to_end says stream = texts_of says (device_reports stream) ++ texts_of says (device_close stream)
 
 abbrev pub texts_by : Output → Texts
-texts_by (Lines names) = line_of
+texts_by Lines = line_of
 texts_by Sentences = sentences_of
-
--- lines are those of the one device `stdin`
-abbrev pub IsOfInput : Output → Type 0
-IsOfInput (Lines names) = names ≡ codes "stdin" ∷ []
-IsOfInput Sentences = Unit {0}

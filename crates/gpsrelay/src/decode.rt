@@ -3,19 +3,19 @@ ghost use Rattle.gps_report.specs.declared.edge.Symbol.{Symbol};
 ghost use Rattle.device_core.specs.Stream.{piece};
 ghost use Rattle.device_core.specs.Standing.{StandsFor};
 ghost use Rattle.device_core.specs.Reports.{device_close};
-ghost use Rattle.gpsrelay.specs.Texts.{IsOfInput, line_of, sentences_of, texts_by, texts_of};
+ghost use Rattle.gpsrelay.specs.Texts.{line_of, sentences_of, texts_by, texts_of};
 ghost use Rattle.gpsrelay.specs.Decode.{Decoded, HandsOn, WriteCause, Written};
 ghost use Rattle.gpsrelay.specs.Outcomes.{CommandHasCause};
 
 use crate::outcome::{CommandOutcome, Fault};
-use crate::texts::{Draft, Output, lines_of_input};
+use crate::texts::{Draft, Output};
 use device_core::Device;
 use gps_fixed::Stamp;
 use gps_outside::{Clock, Intake, IntakeStep, Sink, Source};
 use std::alloc::Global;
 
 /// Feeds the device with the bytes of one read, and adds what is written of its gains.
-#[tactic(auto, using(crate::proofs::Decoding::handed_on, crate::proofs::Decoding::fed_none))]
+#[tactic(auto, using(crate::proofs::QuietTexts::handed_on, crate::proofs::Decoding::fed_none))]
 fn hand_on<K: Sink>(
     device: &mut Device,
     output: &Output,
@@ -24,14 +24,13 @@ fn hand_on<K: Sink>(
     bytes: &[u8],
     sink: &mut K,
 ) -> Result<(), Fault>
-    requires { IsOfInput output.now }
     ensures lines { (stream : List Symbol) → StandsFor device.old.now stream
         → HandsOn (texts_by output.now) result stream (piece at bytes.now) device.new.now draft.old draft.new (K.written sink.old) (K.written sink.new) }
     ensures cause { WriteCause result (K.faults sink.old) (K.faults sink.new) }
     ensures faults_stay { K.faults sink.old ≤ K.faults sink.new }
 {
-    match device.feed(at, bytes) {
-        Ok(gained) => draft.write(output, gained, sink),
+    match device.feed_without_packets(at, bytes) {
+        Ok(gained) => draft.write(output, gained.as_slice(), sink),
         Err(_) => Err(draft.give_up(sink)),
     }
 }
@@ -46,7 +45,6 @@ fn hand_on_last<K: Sink>(
     bytes: &[u8],
     sink: &mut K,
 ) -> Result<(), Fault>
-    requires { IsOfInput output.now }
     ensures lines { (stream : List Symbol) → StandsFor device.old.now stream
         → HandsOn (texts_by output.now) result stream (piece at bytes.now) device.new.now draft.old [] (K.written sink.old) (K.written sink.new) }
     ensures cause { WriteCause result (K.faults sink.old) (K.faults sink.new) }
@@ -72,14 +70,13 @@ fn close<K: Sink>(
     draft: &mut Draft,
     sink: &mut K,
 ) -> Result<(), Fault>
-    requires { IsOfInput output.now }
     ensures lines { (stream : List Symbol) → StandsFor device.old.now stream
         → Written result (texts_of (texts_by output.now) (device_close stream)) draft.old [] (K.written sink.old) (K.written sink.new) }
     ensures cause { WriteCause result (K.faults sink.old) (K.faults sink.new) }
     ensures faults_stay { K.faults sink.old ≤ K.faults sink.new }
 {
     match device.finish() {
-        Ok(left) => match draft.write(output, left, sink) {
+        Ok(left) => match draft.write(output, left.as_slice(), sink) {
             Ok(()) => {
                 if draft.flush(sink) {
                     Ok(())
@@ -105,7 +102,6 @@ fn write_reports<S: Source, K: Sink, C: Clock>(
     sink: &mut K,
     clock: &mut C,
 ) -> CommandOutcome
-    requires named { IsOfInput output.now }
     requires fresh { StandsFor device.old.now [] }
     ensures decoded { Decoded (texts_by output.now) result history (S.content source.old) (S.content source.new)
         (C.stamps clock.old) (C.stamps clock.new) (K.written sink.old) (K.written sink.new) }
@@ -158,7 +154,6 @@ fn write_reports<S: Source, K: Sink, C: Clock>(
 
 /// Reads device bytes to the source's end, or to the limit of the history, and writes the lines of the fixes and skies
 /// that they bring, as epochs close.
-#[tactic(auto, using(crate::proofs::Decoding::nothing_done))]
 pub fn decode<S: Source, K: Sink, C: Clock>(
     alloc: Global,
     history: u32,
@@ -174,13 +169,16 @@ pub fn decode<S: Source, K: Sink, C: Clock>(
     ensures quiets_stay { S.quiets source.old ≤ S.quiets source.new }
     ensures sink_faults_stay { K.faults sink.old ≤ K.faults sink.new }
 {
-    match lines_of_input(alloc) {
-        Ok(output) => {
-            let mut device = Device::new(alloc);
-            write_reports(alloc, &mut device, &output, history, source, sink, clock)
-        }
-        Err(_) => CommandOutcome::NoMemory,
-    }
+    let mut device = Device::new(alloc);
+    write_reports(
+        alloc,
+        &mut device,
+        &Output::Lines,
+        history,
+        source,
+        sink,
+        clock,
+    )
 }
 
 /// Reads device bytes as [`decode`] does, and writes the two sentences of each fix.

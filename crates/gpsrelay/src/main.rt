@@ -7,6 +7,7 @@ mod cues;
 mod decode;
 mod outcome;
 mod place_text;
+mod progress;
 mod reasons;
 mod run;
 mod serve;
@@ -21,6 +22,8 @@ mod telling_source;
 #[cfg(test)]
 mod tests;
 mod texts;
+#[cfg(test)]
+mod upstream_tests;
 
 use gps_fixed::NoMemory;
 use gps_outside::{RealClock, RealSink, write_all};
@@ -32,7 +35,7 @@ use reasons::{say, tell_end, tell_no_memory, tell_no_text, tell_refused};
 use standard_streams::StandardStreams;
 use std::alloc::Global;
 use std::fs::File;
-use std::io::{Eprint, ErrorKind};
+use std::io::{Eprint, ErrorKind, IsTerminal};
 use std::net::{Net, TcpListener, TcpStream};
 use std::process::ExitCode;
 use std::rt::Files;
@@ -67,10 +70,12 @@ fn words_of_call(rt: &HostRuntime) -> Result<Vec<String>, WordsFault> {
 
 /// Does what the words ask for, over the real streams and the machine's clock, and says how it ended.
 fn run_outside(rt: HostRuntime, words: &[String]) -> Result<u8, NoMemory> {
-    let mut source = CountedInput::new(rt, rt.alloc(), rt.stdin())?;
+    let is_shown = rt.stderr().is_terminal() && !rt.stdout().is_terminal();
+    let mut source = CountedInput::new(rt, rt.alloc(), rt.stdin(), is_shown)?;
     let mut sink = CountedOutput::new(rt.stdout());
     let mut clock = RealClock::new(rt);
     let status = run::run(rt.alloc(), words, &mut source, &mut sink, &mut clock);
+    source.end_progress();
     match asked(rt.alloc(), words) {
         Ok(command) => tell_end(&rt, &command, status, &source, &sink),
         Err(WordsFault::Refused) => {}

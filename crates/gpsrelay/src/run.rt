@@ -1,11 +1,10 @@
-ghost use Rattle.std.specs.Prelude.{◌≡◌, ℕ, ◌≤◌, ◌⊎◌, Some, None, map, string_bytes};
+ghost use Rattle.std.specs.Prelude.{◌≡◌, ◌≤◌, ◌⊎◌, Some, None, map, string_bytes};
 ghost use Rattle.gps_words.specs.Asked.{asked_of};
 ghost use Rattle.gps_words.specs.Within.{IsInRange};
 ghost use Rattle.gps_words.specs.declared.command.CommandLine.{CommandLine};
-ghost use Rattle.gps_outside.specs.Counts.{Rose};
-ghost use Rattle.gpsrelay.specs.Commands.{Does, DoesDecode, DoesGenerate, DoesLines, DoesReplay, EndsAt, IsWithinLimits, NothingFails};
+ghost use Rattle.gpsrelay.specs.Calls.{WriteFailed, clock_call, sink_call, source_call};
+ghost use Rattle.gpsrelay.specs.Commands.{Does, EndsAt, IsWithinLimits, NothingFails};
 ghost use Rattle.gpsrelay.specs.Outcomes.{HasReadCause};
-ghost use Rattle.gpsrelay.specs.Texts.{line_of, sentences_of};
 
 use crate::decode::{decode, pseudo};
 use crate::outcome::CommandOutcome;
@@ -15,7 +14,7 @@ use gps_replay::{generate, replay};
 use gps_words::{CommandLine, WordsFault, asked};
 use std::alloc::Global;
 
-/// The status of words that ask for no command.
+/// The status of an invalid command line.
 pub const REFUSED: u8 = 2;
 
 /// Does what a command asks for.
@@ -27,9 +26,8 @@ fn do_command<S: Source, K: Sink, C: Clock>(
     clock: &mut C,
 ) -> u8
     requires { IsInRange command }
-    ensures does { Does command result (S.content source.old) (S.content source.new) (S.faults source.old) (S.faults source.new)
-        (S.quiets source.old) (S.quiets source.new) (C.stamps clock.old) (C.stamps clock.new)
-        (K.written sink.old) (K.written sink.new) (K.faults sink.old) (K.faults sink.new) }
+    ensures does { Does command result
+        (source_call S.Source source.old source.new) (sink_call K.Sink sink.old sink.new) (clock_call C.Clock clock.old clock.new) }
     ensures faults_stay { S.faults source.old ≤ S.faults source.new }
     ensures quiets_stay { S.quiets source.old ≤ S.quiets source.new }
     ensures sink_faults_stay { K.faults sink.old ≤ K.faults sink.new }
@@ -59,9 +57,7 @@ fn do_words<S: Source, K: Sink, C: Clock>(
     ensures untouched { asked_of (map string_bytes words.now) ≡ None
         → (source.new ≡ source.old) × (sink.new ≡ sink.old) × (clock.new ≡ clock.old) }
     ensures does { (command : CommandLine) → asked_of (map string_bytes words.now) ≡ Some command
-        → Does command result (S.content source.old) (S.content source.new) (S.faults source.old) (S.faults source.new)
-        (S.quiets source.old) (S.quiets source.new) (C.stamps clock.old) (C.stamps clock.new)
-        (K.written sink.old) (K.written sink.new) (K.faults sink.old) (K.faults sink.new) }
+        → Does command result (source_call S.Source source.old source.new) (sink_call K.Sink sink.old sink.new) (clock_call C.Clock clock.old clock.new) }
     ensures faults_stay { S.faults source.old ≤ S.faults source.new }
     ensures quiets_stay { S.quiets source.old ≤ S.quiets source.new }
     ensures sink_faults_stay { K.faults sink.old ≤ K.faults sink.new }
@@ -81,14 +77,19 @@ fn do_words<S: Source, K: Sink, C: Clock>(
 /// `generate --seed N --size N` plays a made one, and writes its closing lines alone.
 /// `lines` reads the lines of a session with the daemon, and writes how many are of each class.
 ///
-/// The status is 0 where the input was read to its end and all was written; 2 where the words ask for nothing, and then
-/// nothing was read or written; 3 where the source failed or nothing came a thousand times; 4 where the sink failed; 5
-/// where more bytes came than are allowed; 6 where a line is refused; 7 for want of memory.
+/// The status is
+/// - 0: the input was read to its end, and all was written;
+/// - 2: the command line is invalid; nothing was read or written;
+/// - 3: the source failed, or a thousand reads brought nothing;
+/// - 4: the sink failed;
+/// - 5: more bytes came than are allowed;
+/// - 6: a line was refused;
+/// - 7: out of memory.
 ///
-/// `decode` and `pseudo` ask the clock once after each read that gave bytes. Where neither the source nor the sink fails and
-/// fewer than a thousand reads bring nothing, the status is one of the others of the command; and 0 or 7 where the source
-/// tells that no more is left than is allowed, and that no line is refused, and of `generate` always. What is said of the
-/// bytes and the stamps holds where the source, the sink and the clock tell their content.
+/// `decode` and `pseudo` ask the clock once after each read that gave bytes. If neither the source nor the sink fails and fewer
+/// than a thousand reads bring nothing, the status is neither 3 nor 4. It is 0 or 7 if the source also holds no more than is
+/// allowed and no line that is refused; for `generate` it always is. What is said of bytes and stamps is said of a source, a
+/// sink and a clock whose contents are modelled.
 pub fn run<S: Source, K: Sink, C: Clock>(
     alloc: Global,
     words: &[String],
@@ -100,35 +101,15 @@ pub fn run<S: Source, K: Sink, C: Clock>(
     ensures only { asked_of (map string_bytes words.now) ≡ None → (result ≡ 2) ⊎ (result ≡ 7) }
     ensures untouched { asked_of (map string_bytes words.now) ≡ None
         → (source.new ≡ source.old) × (sink.new ≡ sink.old) × (clock.new ≡ clock.old) }
-    ensures decode { (history : ℕ) → asked_of (map string_bytes words.now) ≡ Some (CommandLine.Decode history)
-        → DoesDecode line_of history result (S.content source.old) (S.content source.new) (S.faults source.old) (S.faults source.new)
-        (S.quiets source.old) (S.quiets source.new) (C.stamps clock.old) (C.stamps clock.new)
-        (K.written sink.old) (K.written sink.new) (K.faults sink.old) (K.faults sink.new) }
-    ensures pseudo { (history : ℕ) → asked_of (map string_bytes words.now) ≡ Some (CommandLine.Pseudo history)
-        → DoesDecode sentences_of history result (S.content source.old) (S.content source.new) (S.faults source.old) (S.faults source.new)
-        (S.quiets source.old) (S.quiets source.new) (C.stamps clock.old) (C.stamps clock.new)
-        (K.written sink.old) (K.written sink.new) (K.faults sink.old) (K.faults sink.new) }
-    ensures replay { (history queue : ℕ) → asked_of (map string_bytes words.now) ≡ Some (CommandLine.Replay history queue)
-        → DoesReplay queue result (S.content source.old) (S.content source.new) (S.faults source.old) (S.faults source.new)
-        (S.quiets source.old) (S.quiets source.new) (C.stamps clock.old) (C.stamps clock.new)
-        (K.written sink.old) (K.written sink.new) (K.faults sink.old) (K.faults sink.new) }
-    ensures generate { (seed size : ℕ) → asked_of (map string_bytes words.now) ≡ Some (CommandLine.Generate seed size)
-        → DoesGenerate seed size result (S.content source.old) (S.content source.new) (S.faults source.old) (S.faults source.new)
-        (S.quiets source.old) (S.quiets source.new) (C.stamps clock.old) (C.stamps clock.new)
-        (K.written sink.old) (K.written sink.new) (K.faults sink.old) (K.faults sink.new) }
-    ensures lines { asked_of (map string_bytes words.now) ≡ Some CommandLine.Lines
-        → DoesLines result (S.content source.old) (S.content source.new) (S.faults source.old) (S.faults source.new)
-        (S.quiets source.old) (S.quiets source.new) (C.stamps clock.old) (C.stamps clock.new)
-        (K.written sink.old) (K.written sink.new) (K.faults sink.old) (K.faults sink.new) }
-    ensures read_fault { result ≡ 3 → HasReadCause (S.faults source.old) (S.faults source.new) (S.quiets source.old) (S.quiets source.new) }
-    ensures write_fault { result ≡ 4 → Rose (K.faults sink.old) (K.faults sink.new) }
+    ensures does { (command : CommandLine) → asked_of (map string_bytes words.now) ≡ Some command
+        → Does command result (source_call S.Source source.old source.new) (sink_call K.Sink sink.old sink.new) (clock_call C.Clock clock.old clock.new) }
+    ensures read_fault { result ≡ 3 → HasReadCause (source_call S.Source source.old source.new) }
+    ensures write_fault { result ≡ 4 → WriteFailed (sink_call K.Sink sink.old sink.new) }
     ensures ends { (command : CommandLine) → asked_of (map string_bytes words.now) ≡ Some command
-        → NothingFails (S.faults source.old) (S.faults source.new) (S.quiets source.old) (S.quiets source.new) (K.faults sink.old) (K.faults sink.new)
-        → EndsAt command result }
+        → NothingFails (source_call S.Source source.old source.new) (sink_call K.Sink sink.old sink.new) → EndsAt command result }
     ensures complete { (command : CommandLine) → asked_of (map string_bytes words.now) ≡ Some command
         → IsWithinLimits command (S.content source.old)
-        → NothingFails (S.faults source.old) (S.faults source.new) (S.quiets source.old) (S.quiets source.new) (K.faults sink.old) (K.faults sink.new)
-        → (result ≡ 0) ⊎ (result ≡ 7) }
+        → NothingFails (source_call S.Source source.old source.new) (sink_call K.Sink sink.old sink.new) → (result ≡ 0) ⊎ (result ≡ 7) }
     ensures faults_stay { S.faults source.old ≤ S.faults source.new }
     ensures quiets_stay { S.quiets source.old ≤ S.quiets source.new }
     ensures sink_faults_stay { K.faults sink.old ≤ K.faults sink.new }

@@ -101,13 +101,14 @@ fn plan_of(alloc: Global, options: ServeOptions) -> Result<Plan, NoMemory>
 }
 
 /// What is handed back where nothing was served.
-#[tactic(auto, using(gps_serve::proofs::First::no_devices))]
+#[tactic(auto, using(gps_serve::proofs::First::no_devices, gps_serve::proofs::Causes::no_gate))]
 fn nothing<W: World, R: Wait + Copy>(alloc: Global, world: W, status: u8) -> Served<W, R>
     ensures status { result.status ≡ status }
     ensures book { result.book ≡ None }
     ensures world { result.world ≡ world }
     ensures devices { result.devices.items ≡ [] }
     ensures first { SomeFailed WasLostByFault result.devices.items → result.status ≡ 3 }
+    ensures door { SourceFailed W.Gate.faults result.gate → (result.status ≡ 3) ⊎ (result.status ≡ 8) }
     ensures lacks { result.status ≡ 7 → result.no_memory ≡ true }
 {
     Served {
@@ -125,9 +126,14 @@ fn nothing<W: World, R: Wait + Copy>(alloc: Global, world: W, status: u8) -> Ser
 
 /// Serves what the words ask for, which stand without the program's name, until all devices have ended.
 ///
-/// The status is 0 where every device has ended; 2 where the words ask for nothing, and then the world was not asked; 3 where a
-/// source failed or could not be opened; 7 for want of memory; 8 where the door failed or could not be opened. Where several
-/// hold, the first of 3, 8 and 7 is given.
+/// The status is
+/// - 0: every device has ended;
+/// - 2: the command line is invalid; the world was not asked;
+/// - 3: a source failed or could not be opened;
+/// - 8: the door failed or could not be opened;
+/// - 7: out of memory.
+///
+/// If several hold, the first of 3, 8 and 7 is given.
 #[tactic(auto, using(crate::proofs::Serving::asks_nothing, crate::proofs::Serving::asks_for))]
 pub fn serve_main<W: World, R: Threads + Wait + Copy + Send + Sync>(
     rt: R,
@@ -144,6 +150,7 @@ pub fn serve_main<W: World, R: Threads + Wait + Copy + Send + Sync>(
     ensures eight { result.status ≡ 8 → SourceFailed W.Gate.faults result.gate ⊎ Rose (W.listen_faults world) (W.listen_faults result.world) }
     ensures seven { result.status ≡ 7 → result.no_memory ≡ true }
     ensures first { SomeFailed WasLostByFault result.devices.items → result.status ≡ 3 }
+    ensures door { SourceFailed W.Gate.faults result.gate → (result.status ≡ 3) ⊎ (result.status ≡ 8) }
     ensures zero { result.status ≡ 0 → (result.no_memory ≡ false) × IsSome result.book }
     ensures ended { result.status ≡ 0 → AllEnded result.devices.items }
     ensures lacks { result.no_memory ≡ false → IfSome result.book (λ book. NoneLost book result.devices.items) }
@@ -158,7 +165,8 @@ pub fn serve_main<W: World, R: Threads + Wait + Copy + Send + Sync>(
         result.devices.items) }
     ensures at_end { IfSome result.book (λ book. IfSome (serve_asked_of (map string_bytes words.now))
         (λ s. AtEnd (told_by s) (dial_of (W.stamps world)) (source_facts W.In.content W.In.faults W.In.quiets) (sink_facts W.Out.written W.Out.faults)
-        (gate_facts W.Gate.links W.Gate.faults W.Gate.quiets) (W.links world) result.full result.no_memory book result.devices.items result.sessions.items result.monitors.items result.gate)) }
+        (gate_facts W.Gate.links W.Gate.faults W.Gate.quiets) (W.links world) result.full result.no_memory book
+        result.devices.items result.sessions.items result.monitors.items result.gate)) }
 {
     match serve_asked(alloc, words) {
         Ok(options) => match plan_of(alloc, options) {

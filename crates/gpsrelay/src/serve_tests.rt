@@ -45,9 +45,9 @@ const WHOLE: Parts<'static> = &[VERSION, DEVICES, JSON, ACTIVE, FIX, ENDED];
 
 const WATCH_JSON: &[u8] = b"?WATCH={\"json\":true};\n";
 
-const UNIT: &[u8] = b"u0 published 1 count 2 left 0\n";
+pub(crate) const UNIT: &[u8] = b"u0 published 1 count 2 left 0\n";
 
-const FIVE: Stamp = Stamp { sec: 5, nsec: 0 };
+pub(crate) const FIVE: Stamp = Stamp { sec: 5, nsec: 0 };
 
 fn file(alloc: Global, path: &[u8]) -> Result<Place, NoMemory> {
     Ok(Place::File(Bytes::from_slice(alloc, path)?))
@@ -57,7 +57,7 @@ fn file(alloc: Global, path: &[u8]) -> Result<Place, NoMemory> {
 type Daemon<I, R> = Served<MemoryWorld<I, CountingSink>, R>;
 
 /// Serves what these words ask for; the clock gives one stamp for ever, and behind its plan the door is quiet.
-fn serve<I, R>(
+pub(crate) fn serve<I, R>(
     rt: R,
     alloc: Global,
     words: &[&str],
@@ -81,7 +81,7 @@ where
 }
 
 /// Whether a daemon ended with this status and these closing lines, and wrote these items to its sessions, in order.
-fn ended_so<I: Source + Send, R: Wait + Copy>(
+pub(crate) fn ended_so<I: Source + Send, R: Wait + Copy>(
     alloc: Global,
     daemon: &Daemon<I, R>,
     status: u8,

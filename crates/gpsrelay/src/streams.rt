@@ -3,31 +3,53 @@
 
 ghost use Rattle.std.specs.Prelude.{◌≡◌, ◌≤◌, length};
 
+use crate::progress::Progress;
 use gps_fixed::NoMemory;
 use gps_outside::{ReadStep, RealSink, RealSource, Sink, Source, WriteStep};
 use std::alloc::Global;
 use std::fs::File;
-use std::io::{Stdin, Stdout};
+use std::io::{Eprint, Stdin, Stdout};
 use std::net::{Net, TcpStream};
 use std::rt::Files;
 use std::time;
 
-/// Standard input, which counts its bytes and knows whether a read failed.
+/// Standard input, which counts its bytes, knows whether a read failed, and may show how far it has come.
 #[derive(Drop)]
 pub struct CountedInput<R> {
     source: RealSource<R>,
     bytes: u64,
     failed: bool,
+    progress: Option<Progress<R>>,
 }
 
-impl<R: Drop> CountedInput<R> {
-    pub fn new(machine: R, alloc: Global, input: Stdin) -> Result<CountedInput<R>, NoMemory> {
+impl<R: Drop + Copy> CountedInput<R> {
+    pub fn new(
+        machine: R,
+        alloc: Global,
+        input: Stdin,
+        is_shown: bool,
+    ) -> Result<CountedInput<R>, NoMemory> {
         let source = RealSource::of_input(machine, alloc, input)?;
+        let progress = if is_shown {
+            Some(Progress::new(machine))
+        } else {
+            None
+        };
         Ok(CountedInput {
             source,
             bytes: 0,
             failed: false,
+            progress,
         })
+    }
+}
+
+impl<R: Eprint + time::Clock + Copy> CountedInput<R> {
+    /// Nothing more is read.
+    pub fn end_progress(&self) {
+        if let Some(progress) = &self.progress {
+            progress.end();
+        }
     }
 }
 
@@ -43,7 +65,7 @@ impl<R> CountedInput<R> {
     }
 }
 
-impl<R: Files<File = File> + Net<Stream = TcpStream> + time::Clock + Drop> Source
+impl<R: Eprint + Files<File = File> + Net<Stream = TcpStream> + time::Clock + Copy + Drop> Source
     for CountedInput<R> {
     ghost use Rattle.std.specs.Prelude.{None};
 
@@ -58,7 +80,12 @@ impl<R: Files<File = File> + Net<Stream = TcpStream> + time::Clock + Drop> Sourc
     fn read(&mut self, buf: &mut [u8]) -> ReadStep {
         let step = self.source.read(buf);
         match step {
-            ReadStep::Got(n) => self.bytes = self.bytes.saturating_add(n as u64),
+            ReadStep::Got(n) => {
+                self.bytes = self.bytes.saturating_add(n as u64);
+                if let Some(progress) = &mut self.progress {
+                    progress.add(&buf[..n]);
+                }
+            }
             ReadStep::Failed => self.failed = true,
             ReadStep::End | ReadStep::Quiet => {}
         }

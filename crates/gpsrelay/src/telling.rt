@@ -9,7 +9,7 @@ use crate::system::{Reason, is_terminal};
 use crate::telling_door::TellingDoor;
 use crate::telling_source::TellingSource;
 use gps_fixed::Bytes;
-use gps_outside::{RealClock, RealSink};
+use gps_outside::{LinkSink, RealClock};
 use gps_world::{Opened, Place, RealWorld, World};
 use std::alloc::Global;
 use std::fs::File;
@@ -63,7 +63,7 @@ where
 
     type In = TellingSource<R>;
 
-    type Out = RealSink;
+    type Out = LinkSink<R>;
 
     type Now = RealClock<R>;
 

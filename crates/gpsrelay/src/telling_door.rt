@@ -1,7 +1,7 @@
 ghost use Rattle.std.specs.Prelude.{◌≡◌};
 
 use crate::telling_source::{TellingSource, Ticket};
-use gps_outside::{Closer, Door, DoorStep, RealSink};
+use gps_outside::{Closer, Door, DoorStep, LinkSink};
 use gps_world::{RealGate, RealInput};
 use std::alloc::Global;
 use std::fs::File;
@@ -157,7 +157,7 @@ where
 
     type In = TellingSource<R>;
 
-    type Out = RealSink;
+    type Out = LinkSink<R>;
 
     ghost faults = { λ s. s.door.faults };
 
@@ -165,7 +165,7 @@ where
 
     ghost links = { λ _. None };
 
-    fn accept(&mut self) -> DoorStep<TellingSource<R>, RealSink> {
+    fn accept(&mut self) -> DoorStep<TellingSource<R>, LinkSink<R>> {
         self.look_back();
         match self.door.accept() {
             DoorStep::Link(source, sink) => DoorStep::Link(self.link(source), sink),

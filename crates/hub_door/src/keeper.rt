@@ -29,7 +29,8 @@ impl<J: DoorNaming> Model for Keeper<J> {
 
     ghost view = { λ k. admissions k.seat.me.0.list };
 
-    ghost invariant = { λ k. (k.word.shared.table_id ≡ J.table) × (k.word.shared.table_id.words ≡ 1) × (k.seat.table_id ≡ J.table) × (k.seat.me ≡ (keeper k.seat.me.0.list, [])) × (k.ledger.total ≡ length k.seat.me.0.list) };
+    ghost invariant = { λ k. (k.word.shared.table_id ≡ J.table) × (k.word.shared.table_id.words ≡ 1) × (k.seat.table_id ≡ J.table)
+        × (k.seat.me ≡ (keeper k.seat.me.0.list, [])) × (k.ledger.total ≡ length k.seat.me.0.list) };
 }
 
 impl<J: DoorNaming> Keeper<J> {

@@ -20,5 +20,6 @@ impl<J: DoorNaming> Model for DoorSeat<J> {
 
     ghost view = { λ d. admissions d.note.me.0.list };
 
-    ghost invariant = { λ d. (d.note.table_id ≡ J.table) × (d.note.me ≡ (noted d.note.me.0.list, [])) × (d.share.parts ≡ J.whole) × (0 < d.share.parts) × (d.share.amount ≡ length d.note.me.0.list) };
+    ghost invariant = { λ d. (d.note.table_id ≡ J.table) × (d.note.me ≡ (noted d.note.me.0.list, [])) × (d.share.parts ≡ J.whole)
+        × (0 < d.share.parts) × (d.share.amount ≡ length d.note.me.0.list) };
 }

@@ -36,7 +36,8 @@ impl Model for DoorTable {
 
     ghost view = { λ d. record { table = d.word.shared.table_id; ledger = d.blank.name; parts = d.blank.parts } };
 
-    ghost invariant = { λ d. (d.word.shared.table_id.words ≡ 1) × (d.seat.table_id ≡ d.word.shared.table_id) × (d.seat.me ≡ (keeper [], [])) × (d.blank.parts ≡ 1) };
+    ghost invariant = { λ d. (d.word.shared.table_id.words ≡ 1) × (d.seat.table_id ≡ d.word.shared.table_id) × (d.seat.me ≡ (keeper [], []))
+        × (d.blank.parts ≡ 1) };
 }
 
 impl DoorTable {

@@ -3,7 +3,7 @@ use std::collections::LinkedList;
 
 /// What the hub noted of its door. It exists in proofs alone.
 pub enum Entry {
-    /// A session was admitted, with these two lanes; so many items may stand in the first.
+    /// A session was admitted, with these two lanes and the number of items that may stand in the first.
     Link {
         outlet: TableName,
         cap: u32,

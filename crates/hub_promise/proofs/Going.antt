@@ -49,7 +49,7 @@ exists_free d n stopped lt is =
     let e : nat_lt d n ≡ true = grind (arith, nat_tests) in
     λ i. fault_of (e i) (is i)
 
--- a device that goes on is refused by nothing but want of memory
+-- a device that goes on is refused only when it is out of memory
 pub device_free : (terms : Terms) (h : HubView) (lasts : List Lasts) (d : ℕ) (end : Option DeviceEnd) → HubKeeps terms h lasts → d < length h.book.names → get_or h.ends d end ≡ None → device_fault h.book d ≡ None
 device_free terms h lasts d end k lt runs =
     let lines = h.book.log.present.lines in
@@ -74,7 +74,7 @@ pub closed_at : (sessions : List MemberView) (s : ℕ) (closing : ℕ × Close) 
     → (free : MemberView) → is_some (slice_index_or sessions s free).session.closing ≡ true
 closed_at sessions s closing lt some free = ap is_some (sym (closing_at sessions s free lt) ∙ some)
 
--- an open session is refused by nothing but want of memory
+-- an open session is refused only when it is out of memory
 pub session_free : (book : BookView) (s : ℕ) → s < length book.sessions → option_and_then (λ (a : MemberView). a.session.closing) (slice_get book.sessions s) ≡ None → session_fault book s ≡ None
 session_free book s lt none =
     exists_free s (length book.sessions) (is_some (option_and_then (λ (a : MemberView). a.session.closing) (slice_get book.sessions s))) lt (ap is_some none)

@@ -1,11 +1,11 @@
 -- What always holds of a hub goes on to hold after each call.
-use Rattle.std.proofs.Common.{◌≡◌, ◌≢◌, ◌<◌, ◌≤◌, ℕ, zero, suc, ◌+◌, Bool, true, false, List, [], ◌∷◌, ◌++◌, length, map, get_or, set, Option, Some, None, refl, sym, ap, ◌∙◌, subst, inl, inr, ◌⊎◌, ⊎_elim, append-nil, append_assoc, arith, nat_eq, get_or-set_same, get_or-set_other, length-set}
+use Rattle.std.proofs.Common.{◌≡◌, ◌≢◌, ◌<◌, ◌≤◌, ℕ, zero, suc, ◌+◌, Bool, true, false, ◌||◌, List, [], ◌∷◌, ◌++◌, length, map, get_or, set, Option, Some, None, refl, sym, ap, ◌∙◌, subst, inl, inr, ◌⊎◌, ⊎_elim, append-nil, append_assoc, arith, nat_eq, get_or-set_same, get_or-set_other, length-set}
 use Rattle.std.specs.Prelude.{count_by, is_some, slice_set}
 use Rattle.std.specs.List.{All, AllZip}
 use Rattle.std.proofs.Math.Seq.{map-set_same}
 use Rattle.std.proofs.lemmas.List.{map-append}
 use Rattle.std.proofs.lemmas.List.Elements.{All-set, All-nil}
-use Rattle.book_log.specs.Entries.{Entry}
+use Rattle.book_log.specs.Entries.{Entry, has_end, has_lost}
 use Rattle.book_log.specs.History.{history, history_after}
 use Rattle.book_log.specs.Standing.{StandsFor}
 use Rattle.book_log.proofs.Histories.{IsQuiet, history-append}
@@ -25,11 +25,12 @@ use Rattle.session_runs.specs.Following.{forgotten_if}
 use Rattle.session_runs.proofs.Zipping.{zip_both, zip_keep, zip_set}
 use Rattle.hub_promise.specs.declared.ends.DeviceEnd.{DeviceEnd}
 use Rattle.hub_promise.specs.DaemonHub.{AllStop, MayGoOn, SessionFits, UnitFits}
+use Rattle.hub_promise.specs.Given.{is_end, is_loss}
 use Rattle.hub_promise.specs.Keeping.{DeviceKeeps, HubKeeps, IsClosed, KeepsOver, Lasts}
 use Rattle.hub_promise.specs.Parts.{AreAdmitted, HubView, InletsView, LaneNames, Terms, names_of, parts_of, terms_of}
 use Rattle.hub_promise.specs.Steps.{Abides, ClosesBy, DeviceStep, MovesOn, Onward, SessionStep}
 use Rattle.hub_promise.proofs.Lists.{devices_set, push_watched, set_watched, zip_all, zip_at, zip_length, zip_maps, zip_watched}
-use Rattle.hub_promise.proofs.Sessions.{all_stop_more, session_onward}
+use Rattle.hub_promise.proofs.Sessions.{session_onward}
 
 pub map_length : {A B : Type 0} (f : A → B) (xs : List A) → length (map f xs) ≡ length xs
 map_length f [] = refl
@@ -58,9 +59,9 @@ module _ (h : HubView) (lasts : List Lasts) (d : ℕ) (book : BookView) (y : Inl
 
   moved_over : (entries forgotten : List Entry) → length h.inlets ≡ length h.book.names → length h.ends ≡ length h.book.names → length lasts ≡ length h.book.names → d < length h.book.names
       → Onward h.book book entries → ((e : ℕ) → nat_eq d e ≡ false → IsQuiet e entries)
-      → (DeviceKeeps ((forgotten ++ h.book.log.log) ++ entries) d y end last) → MayGoOn (parts_of h) → KeepsOver forgotten h lasts
-      → (onward : List Entry) × KeepsOver onward after (set lasts d last)
-  moved_over entries forgotten n m j lt onward quiet mine may k =
+      → (DeviceKeeps ((forgotten ++ h.book.log.log) ++ entries) d y end last) → MayGoOn (parts_of h) → (AllStop (length h.book.names) (forgotten ++ h.book.log.log) → ⊥)
+      → KeepsOver forgotten h lasts → (onward : List Entry) × KeepsOver onward after (set lasts d last)
+  moved_over entries forgotten n m j lt onward quiet mine may running k =
       let goes = onward.goes forgotten k.stands in
       let log : List Entry = forgotten ++ h.book.log.log in
       let next : List Entry = forgotten_if onward.turns forgotten h.book.log.log in
@@ -75,7 +76,7 @@ module _ (h : HubView) (lasts : List Lasts) (d : ℕ) (book : BookView) (y : Inl
               (devices_set log entries d h.inlets h.ends lasts y end last (length h.book.names) n m j lt k.devices quiet mine e x en l (omega arith));
           sessions =
               zip_keep (SessionFits h.book.names forgotten h.book.log.log) R (SessionFits book.names next book.log.log)
-              (λ a b x r f. session_onward h.book book forgotten next entries a b x r.0 r.1 goes.names whole f) h.book.sessions book.sessions h.inputs
+              (λ a b x r f. session_onward h.book book forgotten next entries a b x running r.0 r.1 f) h.book.sessions book.sessions h.inputs
               (zip_both (CarriesOn h.book forgotten book next) Abides R (λ a b c o. (c, o)) h.book.sessions book.sessions (onward.carries forgotten k.stands) onward.abides) k.sessions;
           units = λ u x within.
               let size : length book.units ≡ length h.book.units = sym (map_length segment_of book.units) ∙ ap length onward.segments ∙ map_length segment_of h.book.units in
@@ -84,8 +85,7 @@ module _ (h : HubView) (lasts : List Lasts) (d : ℕ) (book : BookView) (y : Inl
               (unit_goes u log entries (get_or h.book.units u x) (get_or book.units u x) (k.units u x there) (onward.units forgotten k.stands u x there));
           gate = inl (go_on h.wait h.wait (count_by was_watched h.book.sessions) (count_by was_watched book.sessions) h.door.done
               (let same = zip_watched Abides (λ a b o. o.watched) h.book.sessions book.sessions onward.abides in omega arith) may);
-          shut = λ is. subst (λ (w : List Entry). AllStop (length book.names) w) (sym whole)
-              (subst (λ (c : ℕ). AllStop c (log ++ entries)) (sym count) (all_stop_more (length h.book.names) log entries (k.shut is)));
+          shut = λ is. absurd (running (k.shut is));
         },
       )
 
@@ -108,16 +108,25 @@ module _ (h : HubView) (lasts : List Lasts) (d : ℕ) (book : BookView) (y : Inl
         shut = k.shut;
       })
 
-  step_over : (x : InletsView) (was : Option DeviceEnd) (before : Lasts) → DeviceStep d h.book book x y was end before last
+  -- a device that runs has not stopped in the log
+  not_all : (log : List Entry) (x : InletsView) (was : Option DeviceEnd) (before : Lasts) → was ≡ None → d < length h.book.names → DeviceKeeps log d x was before
+      → AllStop (length h.book.names) log → ⊥
+  not_all log x was before runs lt k stop =
+      let no_end : has_end d log ≡ false = k.fits.ended ∙ ap is_end runs in
+      let no_loss : has_lost d log ≡ false = k.fits.lost ∙ ap is_loss runs in
+      let stopped : has_end d log || has_lost d log ≡ true = stop d lt in
+      absurd (cc (no_end, no_loss, stopped))
+
+  step_over : (x : InletsView) (was : Option DeviceEnd) (before : Lasts) → was ≡ None → DeviceStep d h.book book x y was end before last
       → length h.inlets ≡ length h.book.names → length h.ends ≡ length h.book.names → length lasts ≡ length h.book.names → d < length h.book.names
       → get_or h.inlets d x ≡ x → get_or h.ends d was ≡ was → get_or lasts d before ≡ before → MayGoOn (parts_of h)
       → (over : (forgotten : List Entry) × KeepsOver forgotten h lasts) → (onward : List Entry) × KeepsOver onward after (set lasts d last)
-  step_over x was before step n m j lt here there now may over =
+  step_over x was before runs step n m j lt here there now may over =
       let log : List Entry = over.0 ++ h.book.log.log in
       let was_fit = subst (λ (t : InletsView × Option DeviceEnd × Lasts). DeviceKeeps log d t.0 t.1 t.2) (λ i. (here i, there i, now i)) (over.1.devices d x was before lt) in
       let fit = step.fits log was_fit in
       ⊎_elim (λ (t : (book ≡ h.book) × (step.entries ≡ [])). (over.0, still_over step.entries over.0 n m j lt t.0 t.1 step.quiet fit over.1))
-      (λ (onward : Onward h.book book step.entries). moved_over step.entries over.0 n m j lt onward step.quiet fit may over.1) step.adds
+      (λ (onward : Onward h.book book step.entries). moved_over step.entries over.0 n m j lt onward step.quiet fit may (not_all log x was before runs lt was_fit) over.1) step.adds
 
 -- what the entries of devices leave of a book and its sessions
 record Leaves (old new : BookView) : Type 0 where
@@ -146,10 +155,10 @@ moves_leave old new entries held moves =
 
 -- something came of one device
 pub hub_device : (terms : Terms) (h : HubView) (lasts : List Lasts) (d : ℕ) (book : BookView) (x y : InletsView) (was end : Option DeviceEnd) (before last : Lasts)
-    → HubKeeps terms h lasts → d < length h.book.names → get_or h.inlets d x ≡ x → get_or h.ends d was ≡ was → get_or lasts d before ≡ before
+    → HubKeeps terms h lasts → d < length h.book.names → get_or h.inlets d x ≡ x → get_or h.ends d was ≡ was → get_or lasts d before ≡ before → was ≡ None
     → MayGoOn (parts_of h) → BookHolds book → names_of y ≡ names_of x → DeviceStep d h.book book x y was end before last
     → HubKeeps terms (record h { book = book; inlets = set h.inlets d y; ends = set h.ends d end }) (set lasts d last)
-hub_device terms h lasts d book x y was end before last k lt here there now may held names step =
+hub_device terms h lasts d book x y was end before last k lt here there now runs may held names step =
     let left = moves_leave h.book book step.entries k.holds step.adds in
     let count : length book.names ≡ length h.book.names = ap length left.names in
     let lanes : map names_of (set h.inlets d y) ≡ map names_of h.inlets = map-set_same names_of h.inlets d y x (names ∙ ap names_of (sym here)) in
@@ -162,7 +171,7 @@ hub_device terms h lasts d book x y was end before last k lt here there now may 
       lasts_count = length-set lasts d last ∙ k.lasts_count ∙ sym count;
       admitted = record { outlets = left.session_names ∙ k.admitted.outlets; caps = left.caps ∙ k.admitted.caps; inputs_are = k.admitted.inputs_are };
       closed = λ is. left.closed (k.closed is);
-      over = step_over h lasts d book y end last x was before step k.count k.ends_count k.lasts_count lt here there now may k.over;
+      over = step_over h lasts d book y end last x was before runs step k.count k.ends_count k.lasts_count lt here there now may k.over;
     }
 
 -- something came of one session

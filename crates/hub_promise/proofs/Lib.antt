@@ -1,5 +1,3 @@
-pub mod EdgeLines
-pub mod Readable
 pub mod Devices
 pub mod Forward
 pub mod Sessions

@@ -18,19 +18,17 @@ use Rattle.serve_pieces.specs.Carried.{input_bytes, input_part}
 use Rattle.serve_pieces.specs.declared.piece.Ending.{Ending}
 use Rattle.serve_pieces.specs.declared.piece.Piece.{Piece}
 use Rattle.session_core.specs.declared.mark.Close.{Close}
-use Rattle.session_core.specs.declared.mark.Close.TheVariants.{HungUp, ReadFault, DaemonEnd, TooManyRequests, Overrun, NoMemory}
 use Rattle.session_core.specs.Naming.{OutletName, alone, of_table}
-use Rattle.session_core.specs.SessionView.{SessionView}
 use Rattle.session_runs.specs.Accounts.{Account}
 use Rattle.session_runs.proofs.Accounting.{closed_hears}
-use Rattle.hub_promise.specs.DaemonHub.{ClosesFor, SessionFits}
+use Rattle.hub_promise.specs.DaemonHub.{SessionFits}
 use Rattle.hub_promise.specs.Given.{TellsOnce, ending_in, ending_of}
 use Rattle.hub_promise.specs.Keeping.{HubKeeps, IsClosed, Lasts}
 use Rattle.hub_promise.specs.Parts.{AreAdmitted, HubView, Terms}
 use Rattle.hub_promise.specs.Steps.{GetsMore, SessionStep}
 use Rattle.hub_promise.proofs.Going.{closed_at}
 use Rattle.hub_promise.proofs.Hubs.{hub_session, map_length}
-use Rattle.hub_promise.proofs.Sessions.{still_step}
+use Rattle.hub_promise.proofs.Sessions.{cause_on, still_step}
 
 -- ---- a lane tells once how its source ended
 
@@ -102,23 +100,13 @@ gets_on x y z one two = record {
 
 -- ---- a closed session goes on fitting the log
 
-cause_on : (closing : Option (ℕ × Close)) (count : ℕ) (log : List Entry) (x y : Taking Piece) (s : SessionView) → (is_some (ending_of x.got) ≡ true → y.got ≡ x.got)
-    → ClosesFor count log x s closing → ClosesFor count log y s closing
-cause_on None count log x y s still cause = tt
-cause_on (Some (place, HungUp)) count log x y s still cause = ap ending_of (still (ap is_some cause)) ∙ cause
-cause_on (Some (place, ReadFault)) count log x y s still cause = ap ending_of (still (ap is_some cause)) ∙ cause
-cause_on (Some (place, DaemonEnd)) count log x y s still cause = cause
-cause_on (Some (place, TooManyRequests)) count log x y s still cause = cause
-cause_on (Some (place, Overrun)) count log x y s still cause = cause
-cause_on (Some (place, NoMemory)) count log x y s still cause = tt
-
 pub fits_on : (names : List (List ℕ)) (before log : List Entry) (a : MemberView) (x y : Taking Piece) → IsClosed a → GetsMore x y → SessionFits names before log a x → SessionFits names before log a y
 fits_on names before log a x y closed gets f =
     let bytes : input_bytes y.got ≡ input_bytes x.got ++ input_bytes gets.more = ap (λ (t : Taking Piece). input_bytes t.got) gets.gets ∙ flat_map-append input_part x.got gets.more in
     record {
       run = f.run;
       account = subst (λ (b : List ℕ). Account names before log a f.run [] b) (sym bytes) (closed_hears names before log a f.run [] (input_bytes x.got) (input_bytes gets.more) closed f.account);
-      cause = cause_on a.session.closing (length names) (before ++ log) x y a.session (got_still x y gets) f.cause;
+      cause = cause_on f.run.closing (length names) (before ++ log) x y a.session gets.more (ap (λ (t : Taking Piece). t.got) gets.gets) gets.untold f.cause;
     }
 
 pub settled_step : (book : BookView) (s : ℕ) (x y : Taking Piece) → s < length book.sessions → ((free : MemberView) → IsClosed (get_or book.sessions s free)) → GetsMore x y → SessionStep s book book x y

@@ -58,7 +58,7 @@ record ShutKeeps (count : ℕ) (log : List Entry) (a b : MemberView) : Type 0 wh
   cap : b.session.cap ≡ a.session.cap
   watched : b.watched ≡ a.watched
   closed : IsClosed b
-  cause : (x : Taking Piece) → ClosesFor count log x a.session a.session.closing → ClosesFor count log x b.session b.session.closing
+  cause : (x : Taking Piece) (r : SessionRun) → ClosesFor count log x a.session r.closing → ClosesFor count log x b.session (shut_run log DaemonEnd a.session.closing r).closing
 
 shut_keeps : (c : Option (ℕ × Close)) (count : ℕ) (log : List Entry) (place : ℕ) (a b : MemberView) → AllStop count log → a.session.closing ≡ c → ShutsBy c place DaemonEnd a b → ShutKeeps count log a b
 shut_keeps None count log place a b stop is shuts =
@@ -67,7 +67,7 @@ shut_keeps None count log place a b stop is shuts =
       cap = ap (λ (t : MemberView). t.session.cap) shuts.becomes;
       watched = ap (λ (t : MemberView). t.watched) shuts.becomes;
       closed = ap (λ (t : MemberView). is_some t.session.closing) shuts.becomes;
-      cause = λ x was. subst (λ (t : MemberView). ClosesFor count log x t.session t.session.closing) (sym shuts.becomes) stop;
+      cause = λ x r was. subst (λ (o : Option (ℕ × Close)). ClosesFor count log x b.session (shut_run log DaemonEnd o r).closing) (sym is) (stop, refl);
     }
 shut_keeps (Some closing) count log place a b stop is shuts =
     record {
@@ -75,7 +75,8 @@ shut_keeps (Some closing) count log place a b stop is shuts =
       cap = ap (λ (t : MemberView). t.session.cap) shuts;
       watched = ap (λ (t : MemberView). t.watched) shuts;
       closed = ap (λ (t : MemberView). is_some t.session.closing) shuts ∙ ap (λ (o : Option (ℕ × Close)). is_some o) is;
-      cause = λ x was. subst (λ (t : MemberView). ClosesFor count log x t.session t.session.closing) (sym shuts) was;
+      cause = λ x r was. subst (λ (o : Option (ℕ × Close)). ClosesFor count log x b.session (shut_run log DaemonEnd o r).closing) (sym is)
+          (subst (λ (t : MemberView). ClosesFor count log x t.session r.closing) (sym shuts) was);
     }
 
 pub hub_shut : (terms : Terms) (h : HubView) (lasts : List Lasts) (book : BookView) → HubKeeps terms h lasts → BookHolds book
@@ -116,7 +117,7 @@ hub_shut terms h lasts book k held all shuts =
           stands = k.over.1.stands;
           devices = k.over.1.devices;
           sessions = zip_keep F B F
-              (λ a b x r f. record { run = shut_run log DaemonEnd a.session.closing f.run; account = r.0 f.run [] (input_bytes x.got) f.account; cause = r.1.cause x f.cause })
+              (λ a b x r f. record { run = shut_run log DaemonEnd a.session.closing f.run; account = r.0 f.run [] (input_bytes x.got) f.account; cause = r.1.cause x f.run f.cause })
               old new h.inputs (zip_both A (ShutKeeps count log) B (λ a b c o. (c, o)) old new accounts keeps) k.over.1.sessions;
           units = k.over.1.units;
           gate = ⊎_elim

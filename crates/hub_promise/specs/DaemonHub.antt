@@ -12,9 +12,12 @@ use Rattle.book_units.specs.Samples.{samples_of}
 use Rattle.book_units.specs.Units.{UnitView, all_of}
 use Rattle.device_core.specs.Stream.{bytes_in, edges_in}
 use Rattle.gps_lane.specs.Ends.{Taking}
+use Rattle.gps_command.specs.Requests.{requests}
 use Rattle.serve_pieces.specs.Carried.{input_bytes}
+use Rattle.serve_pieces.specs.declared.piece.Ending.{Ending}
 use Rattle.serve_pieces.specs.declared.piece.Ending.TheVariants.{End, Failed}
 use Rattle.serve_pieces.specs.declared.piece.Piece.{Piece}
+use Rattle.serve_pieces.specs.declared.piece.Piece.TheVariants.{Last}
 use Rattle.session_core.specs.declared.mark.Close.{Close}
 use Rattle.session_core.specs.declared.mark.Close.TheVariants.{HungUp, ReadFault, DaemonEnd, TooManyRequests, Overrun, NoMemory}
 use Rattle.session_core.specs.SessionView.{SessionView}
@@ -42,36 +45,43 @@ pub record DeviceFits (log : List Entry) (d : ℕ) (x : InletsView) (end : Optio
   pub ended : has_end d log ≡ is_end end
   pub lost : has_lost d log ≡ is_loss end
 
--- each of so many devices has ended or was lost
+-- each of the first n devices has ended or was lost
 abbrev pub AllStop : ℕ → List Entry → Type 0
 AllStop count log = (d : ℕ) → d < count → stops_in d log ≡ true
 
--- what a closing rests on
-abbrev pub MayClose : ℕ → List Entry → Taking Piece → SessionView → Close → Type 0
-MayClose count log x s HungUp = ending_of x.got ≡ Some End
-MayClose count log x s ReadFault = ending_of x.got ≡ Some Failed
-MayClose count log x s DaemonEnd = AllStop count log
-MayClose count log x s TooManyRequests = most_requests ≤ s.requests
-MayClose count log x s Overrun = s.cap ≤ length s.kept
-MayClose count log x s NoMemory = Unit {0}
+-- The last piece that was got of its lane tells that its source ended so, and each request of what was got is answered.
+pub record HeardOut (ending : Ending) (x : Taking Piece) (s : SessionView) : Type 0 where
+  pub before : List Piece
+  pub told : x.got ≡ before ++ Last ending ∷ []
+  pub answered : s.requests ≡ length (requests (input_bytes x.got))
+
+-- What a closing at this place of the whole history rests on: its client was heard out; each device has stopped, and no report came behind the
+-- closing; all requests that may be answered are answered, and one more was got; or its outlet was full.
+abbrev pub MayClose : ℕ → List Entry → Taking Piece → SessionView → ℕ → Close → Type 0
+MayClose count log x s place HungUp = HeardOut End x s
+MayClose count log x s place ReadFault = HeardOut Failed x s
+MayClose count log x s place DaemonEnd = AllStop count log × (place ≡ length (history log))
+MayClose count log x s place TooManyRequests = (s.requests ≡ most_requests) × (most_requests < length (requests (input_bytes x.got)))
+MayClose count log x s place Overrun = s.cap ≤ length s.kept
+MayClose count log x s place NoMemory = Unit {0}
 
 abbrev pub ClosesFor : ℕ → List Entry → Taking Piece → SessionView → Option (ℕ × Close) → Type 0
 ClosesFor count log x s None = Unit {0}
-ClosesFor count log x s (Some closing) = MayClose count log x s closing.1
+ClosesFor count log x s (Some closing) = MayClose count log x s closing.0 closing.1
 
 -- A session has a run over the whole log: its stretches, of which the book keeps the last, and the place of its closing. What its outlet was
 -- given is the items of this run. Its first stretch is the opening, and stretch k answers request k of what was got of its input lane, by what
--- was known when it was answered. A request without an answer stands behind all answered ones, in a session that is closed.
+-- was known when it was answered. A request without an answer stands behind all answered ones, in a session that is closed. Its closing has a cause.
 pub record SessionFits (names : List (List ℕ)) (before log : List Entry) (a : MemberView) (x : Taking Piece) : Type 0 where
   pub run : SessionRun
   pub account : Account names before log a run [] (input_bytes x.got)
-  pub cause : ClosesFor (length names) (before ++ log) x a.session a.session.closing
+  pub cause : ClosesFor (length names) (before ++ log) x a.session run.closing
 
 -- a unit's samples: the published ones, the one that is begun and not published, and the waiting ones
 abbrev pub UnitFits : List Entry → ℕ → UnitView → Type 0
 UnitFits log u x = all_of x ≡ samples_of u (history log)
 
--- Devices wait until so many sessions have watched, or the door has closed or failed.
+-- Devices wait until the given number of sessions has watched, or the door has closed or failed.
 abbrev pub MayGoOn : Parts → Type 0
 MayGoOn p = (p.wait ≤ count_by was_watched p.book.sessions) ⊎ (p.done ≡ true)
 

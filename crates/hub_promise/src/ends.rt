@@ -5,6 +5,6 @@ pub enum DeviceEnd {
     Ended,
     /// It was lost, since a source of it failed.
     ReadFault,
-    /// It was lost, since the book or a reader of it met want of memory.
+    /// It was lost, since the book or a reader of it was out of memory.
     NoMemory,
 }

@@ -23,7 +23,7 @@ unfoldable pub truth : Bool → List ℕ
 truth true = codes "true"
 truth false = codes "false"
 
--- numbers: with a sign, and with so many decimals
+-- numbers: with a sign, and with the given number of decimals
 unfoldable pub signed : ℤ → List ℕ
 signed n = signed_decimal n
 

@@ -9,6 +9,7 @@ mod line;
 mod member;
 mod names;
 mod object;
+mod placing;
 mod poll;
 mod pulse;
 mod sky;
@@ -17,7 +18,7 @@ mod watch;
 
 pub use device::devices_line;
 pub use fixed_lines::{error_line, version_line};
-pub use line::{line_of, push_line};
+pub use line::{line_of, push_line, push_text};
 pub use names::{Class, Key, head, label};
 pub use poll::poll_line;
 pub use watch::watch_line;

@@ -33,8 +33,9 @@ fn bytes_of(body: &Body) -> &[u8]
     }
 }
 
+/// Adds what a session is sent of a report of the device with this name, as [`push_line`] does. In JSON a packet has no object.
 #[tactic(auto, unfolding(crate::specs::Lines::text))]
-fn push_text(out: &mut Bytes, form: Form, name: &[u8], body: &Body) -> Result<(), NoMemory>
+pub fn push_text(out: &mut Bytes, form: Form, name: &[u8], body: &Body) -> Result<(), NoMemory>
     ensures { OnOk result (out.new ≡ out.old ++ text form name.now body.now) }
 {
     match form {

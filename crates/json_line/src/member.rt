@@ -1,7 +1,7 @@
 ghost use Rattle.std.specs.Prelude.{◌≡◌, ◌≤◌, ◌++◌, OnOk};
 ghost use Rattle.std.specs.Fmt.{decimal};
 ghost use Rattle.gps_fixed.specs.Text.{iso_of, scaled_text};
-ghost use Rattle.json_line.specs.Json.{fixed, hundredths, member, member_if, quoted, signed, time, truth};
+ghost use Rattle.json_line.specs.Json.{fixed, hundredths, member, member_if, quoted, time, truth};
 ghost use Rattle.json_line.specs.Lines.{seconds};
 
 use crate::names::{Key, push_label};
@@ -10,7 +10,7 @@ use gps_report::Name;
 
 /// A whole number. It stays a call, so that the code of each member is short.
 #[inline(never)]
-pub fn push_whole(out: &mut Bytes, value: u64) -> Result<(), NoMemory>
+fn push_whole(out: &mut Bytes, value: u64) -> Result<(), NoMemory>
     ensures { OnOk result (out.new ≡ out.old ++ decimal value) }
 {
     push_decimal(out, value)
@@ -70,44 +70,6 @@ pub fn push_seconds(out: &mut Bytes, key: Key, at: Stamp) -> Result<(), NoMemory
 {
     push_label(out, key)?;
     push_whole(out, at.sec.unsigned_abs())
-}
-
-/// A number, where there is one.
-#[tactic(auto, unfolding(crate::specs::Json::member_if))]
-pub fn push_number_if(out: &mut Bytes, key: Key, value: Option<u32>) -> Result<(), NoMemory>
-    ensures { OnOk result (out.new ≡ out.old ++ member_if key decimal value) }
-{
-    match value {
-        Some(value) => {
-            push_label(out, key)?;
-            push_whole(out, u64::from(value))
-        }
-        None => Ok(()),
-    }
-}
-
-#[tactic(auto, unfolding(crate::specs::Json::signed))]
-fn push_sign_and_digits(out: &mut Bytes, value: i32) -> Result<(), NoMemory>
-    ensures { OnOk result (out.new ≡ out.old ++ signed value) }
-{
-    if value < 0 {
-        out.push(b'-')?;
-    }
-    push_whole(out, u64::from(value.unsigned_abs()))
-}
-
-/// A number with a sign, where there is one.
-#[tactic(auto, unfolding(crate::specs::Json::member_if))]
-pub fn push_signed_if(out: &mut Bytes, key: Key, value: Option<i32>) -> Result<(), NoMemory>
-    ensures { OnOk result (out.new ≡ out.old ++ member_if key signed value) }
-{
-    match value {
-        Some(value) => {
-            push_label(out, key)?;
-            push_sign_and_digits(out, value)
-        }
-        None => Ok(()),
-    }
 }
 
 #[tactic(auto, unfolding(crate::specs::Json::fixed))]

@@ -1,62 +1,103 @@
-ghost use Rattle.std.specs.Prelude.{◌≡◌, ◌++◌, OnOk, count_by};
+ghost use Rattle.std.specs.Prelude.{◌≡◌, ◌≤◌, ◌+◌, ◌++◌, OnOk, count_by, length, take};
 ghost use Rattle.std.specs.Fmt.{decimal};
-ghost use Rattle.json_line.specs.Json.{member_if};
+ghost use Rattle.json_line.specs.Json.{member, member_if, truth};
 ghost use Rattle.json_line.specs.Lines.{gnss_members, satellite, sky};
 ghost use Rattle.json_line.specs.Names.{satellite_head};
 
 use crate::array::{Writes, push_array};
-use crate::member::{
-    push_hundredths_if, push_number, push_number_if, push_signed_if, push_text, push_time_if,
-    push_truth, push_whole,
-};
+use crate::member::{push_hundredths_if, push_number, push_text, push_time_if};
 use crate::names::{Class, Key, push_head};
+use crate::placing::{place_byte, place_number, place_number_if, place_signed_if, place_text};
 use gps_fixed::{Bytes, NoMemory};
 use gps_report::{Satellite, Sky};
 
+/// As many bytes as the object of a satellite has at most, and more.
+const SATELLITE: usize = 160;
+
+#[inline(always)]
 #[tactic(auto, unfolding(crate::specs::Names::satellite_head))]
-fn push_number_of_satellite(out: &mut Bytes, prn: u32) -> Result<(), NoMemory>
-    ensures { OnOk result (out.new ≡ out.old ++ satellite_head ++ decimal prn) }
+fn place_number_of_satellite(room: &mut [u8], at: usize, prn: u32) -> usize
+    requires { at + 17 ≤ length room.old }
+    ensures bytes { take result room.new ≡ take at room.old ++ (satellite_head ++ decimal prn) }
+    ensures room { length room.new ≡ length room.old }
+    ensures end { result ≤ at + 17 }
 {
-    out.extend_from_slice(b"{\"PRN\":")?;
-    push_whole(out, u64::from(prn))
+    let behind = place_text(room, at, b"{\"PRN\":");
+    place_number(room, behind, prn)
 }
 
-#[tactic(auto, unfolding(crate::specs::Lines::gnss_members))]
-fn push_gnss(out: &mut Bytes, gnss: Option<(u8, u16)>) -> Result<(), NoMemory>
-    ensures { OnOk result (out.new ≡ out.old ++ gnss_members gnss) }
+#[inline(always)]
+#[tactic(auto, unfolding(crate::specs::Json::member, crate::specs::Json::truth, crate::specs::Names::label_of))]
+fn place_used(room: &mut [u8], at: usize, used: bool) -> usize
+    requires { at + 13 ≤ length room.old }
+    ensures bytes { take result room.new ≡ take at room.old ++ member Key.Used (truth used) }
+    ensures room { length room.new ≡ length room.old }
+    ensures end { result ≤ at + 13 }
+{
+    if used {
+        place_text(room, at, b",\"used\":true")
+    } else {
+        place_text(room, at, b",\"used\":false")
+    }
+}
+
+#[inline(always)]
+#[tactic(auto, unfolding(crate::specs::Lines::gnss_members, crate::specs::Json::member, crate::specs::Json::member_if, crate::specs::Names::label_of))]
+fn place_gnss(room: &mut [u8], at: usize, gnss: Option<(u8, u16)>) -> usize
+    requires { at + 40 ≤ length room.old }
+    ensures bytes { take result room.new ≡ take at room.old ++ gnss_members gnss }
+    ensures room { length room.new ≡ length room.old }
+    ensures end { result ≤ at + 40 }
 {
     match gnss {
         Some((system, id)) => {
-            push_number(out, Key::Gnssid, u64::from(system))?;
-            push_number(out, Key::Svid, u64::from(id))
+            let behind = place_number_if(room, at, Key::Gnssid, Some(u32::from(system)));
+            place_number_if(room, behind, Key::Svid, Some(u32::from(id)))
         }
-        None => Ok(()),
+        None => at,
     }
 }
 
-#[tactic(auto, unfolding(crate::specs::Json::member, crate::specs::Json::member_if))]
-fn push_signal(out: &mut Bytes, signal: Option<u8>) -> Result<(), NoMemory>
-    ensures { OnOk result (out.new ≡ out.old ++ member_if Key.Sigid decimal signal) }
+#[inline(always)]
+#[tactic(auto, unfolding(crate::specs::Names::label_of))]
+fn place_signal(room: &mut [u8], at: usize, signal: Option<u8>) -> usize
+    requires { at + 20 ≤ length room.old }
+    ensures bytes { take result room.new ≡ take at room.old ++ member_if Key.Sigid decimal signal }
+    ensures room { length room.new ≡ length room.old }
+    ensures end { result ≤ at + 20 }
 {
-    match signal {
-        Some(signal) => push_number(out, Key::Sigid, u64::from(signal)),
-        None => Ok(()),
-    }
+    let signal = match signal {
+        Some(signal) => Some(u32::from(signal)),
+        None => None,
+    };
+    place_number_if(room, at, Key::Sigid, signal)
 }
 
-#[tactic(auto, unfolding(crate::specs::Lines::satellite))]
+#[inline(always)]
+#[tactic(auto, unfolding(crate::specs::Lines::satellite, crate::specs::Names::label_of))]
+fn place_satellite(room: &mut [u8], s: &Satellite) -> usize
+    requires { 160 ≤ length room.old }
+    ensures bytes { take result room.new ≡ satellite s.now }
+    ensures room { length room.new ≡ length room.old }
+    ensures end { result ≤ 160 }
+{
+    let at = place_number_of_satellite(room, 0, s.prn);
+    let at = place_signed_if(room, at, Key::El, s.el);
+    let at = place_number_if(room, at, Key::Az, s.az);
+    let at = place_number_if(room, at, Key::Ss, s.ss);
+    let at = place_used(room, at, s.used);
+    let at = place_gnss(room, at, s.gnss);
+    let at = place_signal(room, at, s.signal);
+    place_byte(room, at, b'}')
+}
+
+/// The object is made on the stack, so that its members ask for no memory one by one.
 fn push_satellite(out: &mut Bytes, s: &Satellite) -> Result<(), NoMemory>
     ensures { OnOk result (out.new ≡ out.old ++ satellite s.now) }
 {
-    push_number_of_satellite(out, s.prn)?;
-    push_signed_if(out, Key::El, s.el)?;
-    push_number_if(out, Key::Az, s.az)?;
-    push_number_if(out, Key::Ss, s.ss)?;
-    push_truth(out, Key::Used, s.used)?;
-    push_gnss(out, s.gnss)?;
-    push_signal(out, s.signal)?;
-    out.push(b'}')?;
-    Ok(())
+    let mut room = [0u8; SATELLITE];
+    let end = place_satellite(&mut room, s);
+    out.extend_from_slice(&room[..end])
 }
 
 /// Writes satellites.

@@ -6,9 +6,9 @@ ghost use Rattle.line_cut.specs.Limits.{is_too_long, most};
 /// How many bytes a line may have.
 #[derive(Clone, Copy, Debug, PartialEq, Eq)]
 pub enum Limit {
-    /// At most so many without its line end, LF or CR LF.
+    /// At most this number without its line end, LF or CR LF.
     Text(usize),
-    /// At most so many with its line end.
+    /// At most this number with its line end.
     Whole(usize),
 }
 

@@ -26,9 +26,9 @@ impl<'p> WholeLine<'p> {
 /// What a piece holds next.
 #[derive(Drop)]
 pub enum Next<'p> {
-    /// A line, which so many bytes of the piece end.
+    /// A line, which ends with this number of bytes of the piece.
     Line(WholeLine<'p>, usize),
-    /// So many bytes of the piece belong to a line that is too long. They end with its LF, or they are the whole
+    /// This number of bytes of the piece belongs to a line that is too long. They end with its LF, or they are the whole
     /// piece and the line goes on. It is said for each piece that such a line goes through.
     TooLong(usize),
     /// The piece ends no line, and the open line is not too long.

@@ -47,8 +47,8 @@ Ends BadLine rules most bytes source source' sink sink' = Refuses rules most byt
 Ends WriteFault rules most bytes source source' sink sink' = BrokeOff rules most bytes source source' sink sink'
 Ends NoMemory rules most bytes source source' sink sink' = BrokeOff rules most bytes source source' sink sink'
 
--- There are bytes that were read, and what is due of them was written. Of an object of the outside that does not tell its content nothing is
--- said here: then the bytes may be any.
+-- There are bytes that were read, and what is due of them was written. Of an object whose contents are not modelled nothing is said here:
+-- then the bytes may be any.
 pub record HasPlayed {X : Type 0} (outcome : PlayOutcome) (rules : Rules X) (most : ℕ) (source source' : Option Stream) (sink sink' : Option (List ℕ)) : Type 0 where
   pub bytes : List ℕ
   pub ends : Ends outcome rules most bytes source source' sink sink'

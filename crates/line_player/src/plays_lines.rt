@@ -25,7 +25,7 @@ pub trait PlaysLines: Drop {
     ghost stands: { Self → State → Type 0 };
 
     /// Runs a line, without its line end where the limit does not count that, and adds what it writes to `out`. After
-    /// want of memory the player is of no use, and whatever was added is no part of the output.
+    /// `NoMemory` the player is of no use, and whatever was added is no part of the output.
     fn line(&mut self, text: &[u8], out: &mut Bytes) -> Result<LineStep, NoMemory>
         requires known { (state : State) × stands self.old state }
         ensures turns { (state : State) → stands self.old state

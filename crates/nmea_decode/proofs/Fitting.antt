@@ -1,5 +1,5 @@
 -- Every note of a sentence keeps the ranges of its fields.
-use Rattle.std.proofs.Common.{◌≡◌, ℕ, zero, suc, ◌+◌, ◌*◌, ◌/◌, ◌%◌, ◌^◌, ◌<◌, ◌≤◌, refl, sym, ap, ◌∙◌, Bool, true, false, cond, ◌&&◌, ◌||◌, ◌==◌, nat_eq, nat_le, arith, List, [], ◌∷◌, ◌++◌, Option, Some, None, IfSome, IfOk, Result, Ok, Err, ℤ, pos, negsuc, ◌-◌, subst, eq-eqb}
+use Rattle.std.proofs.Common.{◌≡◌, ℕ, zero, suc, ◌+◌, ◌*◌, ◌/◌, ◌%◌, ◌^◌, ◌<◌, ◌≤◌, refl, sym, ap, ◌∙◌, Bool, true, false, cond, ◌&&◌, ◌||◌, ◌==◌, nat_eq, nat_le, arith, List, [], ◌∷◌, ◌++◌, take, drop, Option, Some, None, IfSome, IfOk, Result, Ok, Err, ℤ, pos, negsuc, ◌-◌, subst, eq-eqb}
 use Rattle.std.proofs.lemmas.Bool.Decides.{nat_tests}
 use Rattle.std.specs.Option.{option_map, option_and_then, option_to_list}
 use Rattle.std.specs.List.{list_all}
@@ -8,11 +8,11 @@ use Rattle.gps_report.specs.Fits.{Fits, where_given, is_tod, is_day, is_dim, is_
 use Rattle.gps_report.specs.Note.{empty_note}
 use Rattle.gps_report.specs.declared.note.Note.{Note}
 use Rattle.gps_report.specs.declared.note.NoteKind.{NoteKind}
-use Rattle.gps_report.specs.declared.note.NoteKind.TheVariants.{Gga, Rmc, Gll, Gsa, Gsv, Vtg, Zda, Pvt, Sat, Dop, Eoe, Other}
+use Rattle.gps_report.specs.declared.note.NoteKind.TheVariants.{Other}
 use Rattle.nmea_frame.specs.Sentence.{hex_value}
-use Rattle.nmea_decode.specs.Fields.{behind, field, field_count, field_at, address_of, skipped}
-use Rattle.nmea_decode.specs.Kinds.{dim_of, kind_of, stated_system, talker_system}
-use Rattle.nmea_decode.specs.Notes.{timed, gga, rmc, gll, gsa, gsv, vtg, zda, note_of_kind, body_note}
+use Rattle.nmea_decode.specs.Fields.{behind, field, field_count, field_at, address_of, fields_of, skipped}
+use Rattle.nmea_decode.specs.Kinds.{dim_of, is_address, stated_system, talker_system}
+use Rattle.nmea_decode.specs.Notes.{Said, timed, gga, rmc, gll, gsa, gsv, vtg, zda, plainly, said_at, said_by, body_note}
 use Rattle.nmea_decode.specs.Readings.{above_nought, clock, date_from, date_of, dated, day_with, days_passed, full_year, id_of, later_by, long_date_of, number_up_to, plain_number, time_of, tod_of, up_to, IsOfCentury}
 use Rattle.nmea_decode.specs.Satellites.{ids_in, satellite_of, satellites_in, satellites_of, signal_in, signal_of}
 use Rattle.nmea_decode.proofs.Days.{day_within}
@@ -253,23 +253,24 @@ vtg_fits text = record { tod = refl; day = refl; dim = refl; system = refl; used
 empty_fits : (kind : NoteKind) → Fits (empty_note kind)
 empty_fits kind = record { tod = refl; day = refl; dim = refl; system = refl; used = refl; sats = refl }
 
-kind_fits : (kind : NoteKind) (talker text : List ℕ) → Fits (note_of_kind kind talker text)
-kind_fits Gga talker text = gga_fits text
-kind_fits Rmc talker text = rmc_fits text
-kind_fits Gll talker text = gll_fits text
-kind_fits Gsa talker text = gsa_fits text
-kind_fits Gsv talker text = gsv_fits talker text
-kind_fits Vtg talker text = vtg_fits text
-kind_fits Zda talker text = zda_fits text
-kind_fits Pvt talker text = empty_fits Other
-kind_fits Sat talker text = empty_fits Other
-kind_fits Dop talker text = empty_fits Other
-kind_fits Eoe talker text = empty_fits Other
-kind_fits Other talker text = empty_fits Other
+-- each row fits, so what is found among them does
+row_fits : (b : Bool) (row rest : Said) → Fits row.note → Fits rest.note → Fits (cond b row rest).note
+row_fits true row rest this others = this
+row_fits false row rest this others = others
+
+said_fits : (name talker text : List ℕ) → Fits (said_by name talker text).note
+said_fits name talker text =
+    row_fits _ _ _ (rmc_fits text) (row_fits _ _ _ (gga_fits text) (row_fits _ _ _ (gsv_fits talker text) (row_fits _ _ _ (gsa_fits text)
+    (row_fits _ _ _ (vtg_fits text) (row_fits _ _ _ (gll_fits text) (row_fits _ _ _ (zda_fits text) (empty_fits Other)))))))
+
+fits_at : (address text : List ℕ) → Fits (said_at address text).note
+fits_at address text =
+    row_fits (is_address address) (said_by (drop 2 address) (take 2 address) text) (plainly (empty_note Other))
+    (said_fits (drop 2 address) (take 2 address) text) (empty_fits Other)
 
 all_fit : (body : List ℕ) (note : Note) → note ≡ body_note body → Fits note
 unfolding body_note
-all_fit body note is = subst Fits (sym is) (kind_fits (kind_of (address_of body)) _ _)
+all_fit body note is = subst Fits (sym is) (fits_at (address_of body) (fields_of body))
 
 pub result_fits : {E : Type 0} (body : List ℕ) (result : Result Note E) → IfOk result (λ note. note ≡ body_note body) → IfOk result (λ note. Fits note)
 result_fits body (Ok note) is = all_fit body note is

@@ -5,3 +5,4 @@ pub mod Searching
 pub mod Splitting
 pub mod Walks
 pub mod Fitting
+pub mod Saying

@@ -172,7 +172,7 @@ only_split address fields plain fields_plain = (
       ∙ walk_joined fields fields_plain,
 )
 
--- ---- behind the first so many
+-- ---- behind the first n
 drop_walk : (k n : ℕ) (text : List ℕ) → drop k (walk n text) ≡ walk (n - k) (skipped k text)
 drop_walk zero n text =
     let all : n - 0 ≡ n = omega arith in

@@ -1,6 +1,6 @@
 -- What each kind of sentence says, field by field. NMEA 0183; the place of a GSA's system id, and the system of a GSV's satellites, are this
 -- project's own.
-use Rattle.std.specs.Prelude.{ℕ, ◌/◌, ◌&&◌, ◌==◌, nat_le, Bool, true, false, List, [], ◌∷◌, length, take, Option, Some, None, codes, if◌then◌else◌}
+use Rattle.std.specs.Prelude.{ℕ, ◌/◌, ◌&&◌, ◌==◌, nat_le, Bool, true, false, List, [], ◌∷◌, length, take, drop, Option, Some, None, codes, if◌then◌else◌}
 use Rattle.std.specs.Option.{option_map}
 use Rattle.std.specs.Str.{bytes_eq}
 use Rattle.gps_report.specs.Note.{empty_note}
@@ -10,7 +10,7 @@ use Rattle.gps_report.specs.declared.note.NoteKind.TheVariants.{Gga, Rmc, Gll, G
 use Rattle.gps_report.specs.declared.note.Tag.TheVariants.{Tod}
 use Rattle.nmea_frame.specs.Sentence.{body_of}
 use Rattle.nmea_decode.specs.Fields.{address_of, field_at, field_count, fields_of, skipped}
-use Rattle.nmea_decode.specs.Kinds.{kind_of, talker_system, stated_system, dim_of}
+use Rattle.nmea_decode.specs.Kinds.{is_address, talker_system, stated_system, dim_of}
 use Rattle.nmea_decode.specs.Places.{position_of}
 use Rattle.nmea_decode.specs.Readings.{time_of, tod_of, day_with, date_of, long_date_of, track_of, speed_of, height_of, dilution_of}
 use Rattle.nmea_decode.specs.Satellites.{satellites_of, ids_in}
@@ -86,32 +86,40 @@ zda text =
     let time = time_of (field_at 1 text) in
     record (timed Zda time) { day = day_with time (long_date_of (field_at 2 text) (field_at 3 text) (field_at 4 text)) }
 
-abbrev pub note_of_kind : NoteKind → List ℕ → List ℕ → Note
-note_of_kind Gga talker text = gga text
-note_of_kind Rmc talker text = rmc text
-note_of_kind Gll talker text = gll text
-note_of_kind Gsa talker text = gsa text
-note_of_kind Gsv talker text = gsv talker text
-note_of_kind Vtg talker text = vtg text
-note_of_kind Zda talker text = zda text
-note_of_kind _ talker text = empty_note Other
+-- what a sentence says, and how many entries the list of its note may get: only a list takes memory
+pub record Said : Type 0 where
+  pub note : Note
+  pub entries : ℕ
 
--- the note of a body, by the kind that its address names
+-- a note without a list
+abbrev pub plainly : Note → Said
+plainly note = record { note = note; entries = 0 }
+
+-- One row for each kind of sentence that is read, by its name: what it says. The list of a GSA has its readable ids, that of a GSV its whole
+-- groups at most.
+abbrev pub said_by : List ℕ → List ℕ → List ℕ → Said
+said_by name talker text =
+    if bytes_eq name (codes "RMC") then plainly (rmc text)
+    else (if bytes_eq name (codes "GGA") then plainly (gga text)
+    else (if bytes_eq name (codes "GSV") then record { note = gsv talker text; entries = field_count (skipped 3 text) / 4 }
+    else (if bytes_eq name (codes "GSA") then record { note = gsa text; entries = length (ids_in 12 (skipped 2 text)) }
+    else (if bytes_eq name (codes "VTG") then plainly (vtg text)
+    else (if bytes_eq name (codes "GLL") then plainly (gll text)
+    else (if bytes_eq name (codes "ZDA") then plainly (zda text)
+    else plainly (empty_note Other)))))))
+
+-- the last three letters of an address name the kind, the first two the talker
+abbrev pub said_at : List ℕ → List ℕ → Said
+said_at address text = if is_address address then said_by (drop 2 address) (take 2 address) text else plainly (empty_note Other)
+
 unfoldable pub body_note : List ℕ → Note
-body_note body = note_of_kind (kind_of (address_of body)) (take 2 (address_of body)) (fields_of body)
+body_note body = (said_at (address_of body) (fields_of body)).note
 
 unfoldable pub sentence_note : List ℕ → Note
 sentence_note sentence = body_note (body_of sentence)
 
--- How many entries the list of a note may get: the readable ids of a GSA, the whole groups of a GSV. No other kind has a list, and only a
--- list takes memory.
-abbrev pub entries_by_kind : NoteKind → List ℕ → ℕ
-entries_by_kind Gsa text = length (ids_in 12 (skipped 2 text))
-entries_by_kind Gsv text = field_count (skipped 3 text) / 4
-entries_by_kind _ text = 0
-
 abbrev pub body_entries : List ℕ → ℕ
-body_entries body = entries_by_kind (kind_of (address_of body)) (fields_of body)
+body_entries body = (said_at (address_of body) (fields_of body)).entries
 
 abbrev pub entries_of : List ℕ → ℕ
 entries_of sentence = body_entries (body_of sentence)

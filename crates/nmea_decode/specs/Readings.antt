@@ -6,7 +6,7 @@ use Rattle.gps_fixed.specs.Scaled.{scaled, digits_of}
 use Rattle.gps_fixed.specs.Ratio.{nearest}
 use Rattle.gps_fixed.specs.Civil.{day_number}
 
--- a number of so many decimals, from nought to the greatest
+-- a number with the given number of decimals, from 0 to the greatest
 abbrev pub up_to : ℕ → ℤ → Option ℕ
 up_to most (pos n) = if nat_le n most then Some n else None
 up_to most (negsuc n) = None
@@ -87,7 +87,7 @@ pub record IsOfCentury (day : ℤ) : Type 0 where
   pub from : pos 0 ≤ℤ day
   pub to : day ≤ℤ pos 47_481
 
--- exactly so many digits and nothing else
+-- exactly n digits and nothing else
 unfoldable pub plain_number : ℕ → List ℕ → Option ℕ
 plain_number count text = if length text == count then digits_of count 0 text else None
 

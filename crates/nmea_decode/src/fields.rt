@@ -5,10 +5,10 @@ ghost use Rattle.nmea_decode.specs.Fields.{address_of, behind, field, field_coun
 
 use std::simd::prelude::*;
 
-/// Fields are looked for in rows of so many bytes.
+/// The bytes of a row in which commas are looked for at once.
 const ROW: usize = 16;
 
-/// At a body's end, in rows of so many.
+/// The same at a body's end.
 const SHORT_ROW: usize = 8;
 
 /// The commas of a row, a bit for each byte.

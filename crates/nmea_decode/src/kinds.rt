@@ -1,8 +1,15 @@
 ghost use Rattle.std.specs.Prelude.{◌≡◌};
 ghost use Rattle.std.specs.List.{list_all};
-ghost use Rattle.nmea_decode.specs.Kinds.{dim_of, is_address, is_upper, kind_named, kind_of, stated_system, talker_system};
+ghost use Rattle.nmea_decode.specs.Kinds.{dim_of, is_address, is_upper, stated_system, talker_system};
 
-use gps_report::NoteKind;
+/// The systems, as u-blox numbers them (gnssId).
+const GPS: u8 = 0;
+
+const GALILEO: u8 = 2;
+
+const BEIDOU: u8 = 3;
+
+const GLONASS: u8 = 6;
 
 fn is_upper_case(text: &[u8]) -> bool
     ensures { result ≡ list_all is_upper text.now }
@@ -10,44 +17,11 @@ fn is_upper_case(text: &[u8]) -> bool
     text.iter().all(|c| b'A' <= *c && *c <= b'Z')
 }
 
-fn is_read(address: &[u8]) -> bool
+/// Whether sentences with this address are read: five upper-case letters, of which the first is no `P` of a maker's own.
+pub(crate) fn is_read(address: &[u8]) -> bool
     ensures { result ≡ is_address address.now }
 {
     address.len() == 5 && is_upper_case(address) && address[0] != b'P'
-}
-
-fn kind_by_name(name: &[u8]) -> NoteKind
-    ensures { result ≡ kind_named name.now }
-{
-    if name == b"RMC".as_slice() {
-        NoteKind::Rmc
-    } else if name == b"GGA".as_slice() {
-        NoteKind::Gga
-    } else if name == b"GSV".as_slice() {
-        NoteKind::Gsv
-    } else if name == b"GSA".as_slice() {
-        NoteKind::Gsa
-    } else if name == b"VTG".as_slice() {
-        NoteKind::Vtg
-    } else if name == b"GLL".as_slice() {
-        NoteKind::Gll
-    } else if name == b"ZDA".as_slice() {
-        NoteKind::Zda
-    } else {
-        NoteKind::Other
-    }
-}
-
-/// The kind that an address names.
-#[tactic(auto, unfolding(crate::specs::Kinds::kind_of))]
-pub(crate) fn kind(address: &[u8]) -> NoteKind
-    ensures { result ≡ kind_of address.now }
-{
-    if is_read(address) {
-        kind_by_name(&address[2..])
-    } else {
-        NoteKind::Other
-    }
 }
 
 /// The system of a talker.
@@ -56,13 +30,13 @@ pub(crate) fn system_of_talker(talker: &[u8]) -> Option<u8>
     ensures { result ≡ talker_system talker.now }
 {
     if talker == b"GP".as_slice() {
-        Some(0)
+        Some(GPS)
     } else if talker == b"GL".as_slice() {
-        Some(6)
+        Some(GLONASS)
     } else if talker == b"GA".as_slice() {
-        Some(2)
+        Some(GALILEO)
     } else if talker == b"GB".as_slice() {
-        Some(3)
+        Some(BEIDOU)
     } else {
         None
     }
@@ -74,13 +48,13 @@ pub(crate) fn system_stated(text: &[u8]) -> Option<u8>
     ensures { result ≡ stated_system text.now }
 {
     if text == b"1".as_slice() {
-        Some(0)
+        Some(GPS)
     } else if text == b"2".as_slice() {
-        Some(6)
+        Some(GLONASS)
     } else if text == b"3".as_slice() {
-        Some(2)
+        Some(GALILEO)
     } else if text == b"4".as_slice() {
-        Some(3)
+        Some(BEIDOU)
     } else {
         None
     }

@@ -4,10 +4,10 @@ ghost use Rattle.gps_report.specs.Fits.{Fits};
 ghost use Rattle.nmea_frame.specs.Sentence.{body_of};
 ghost use Rattle.nmea_decode.specs.Fields.{field_count, skipped};
 ghost use Rattle.nmea_decode.specs.Satellites.{ids_in};
-ghost use Rattle.nmea_decode.specs.Notes.{body_entries, body_note, entries_by_kind, entries_of, gga, gll, gsa, gsv, letter_status, note_of_kind, quality_status, rmc, sentence_note, timed, vtg, where_valid, zda};
+ghost use Rattle.nmea_decode.specs.Notes.{body_entries, body_note, entries_of, gga, gll, gsa, gsv, letter_status, quality_status, rmc, said_at, said_by, sentence_note, timed, vtg, where_valid, zda};
 
 use crate::fields::{next, skip, split_address};
-use crate::kinds::{dimensions, kind, system_of_talker, system_stated};
+use crate::kinds::{dimensions, is_read, system_of_talker, system_stated};
 use crate::places::position;
 use crate::readings::{date, day_beside, dilution, height, long_date, speed, time, tod, track};
 use crate::satellites::{push_ids, satellites};
@@ -198,20 +198,42 @@ fn read_zda(alloc: Global, text: &[u8]) -> Note
 
 // A note is large, and each function that hands it on would copy it: from here up to `note_of` all is inlined, so that it is made where it
 // is kept.
+
+/// One row for each kind of sentence that is read, by its name; the most frequent ones come first.
 #[inline(always)]
-fn read_kind(alloc: Global, kind: NoteKind, talker: &[u8], text: &[u8]) -> Result<Note, NoMemory>
-    ensures note { IfOk result (λ note. note ≡ note_of_kind kind talker.now text.now) }
-    ensures memory { OnErr result (0 < entries_by_kind kind text.now) }
+fn read_named(alloc: Global, name: &[u8], talker: &[u8], text: &[u8]) -> Result<Note, NoMemory>
+    ensures note { IfOk result (λ note. note ≡ (said_by name.now talker.now text.now).note) }
+    ensures memory { OnErr result (0 < (said_by name.now talker.now text.now).entries) }
 {
-    match kind {
-        NoteKind::Gga => Ok(read_gga(alloc, text)),
-        NoteKind::Rmc => Ok(read_rmc(alloc, text)),
-        NoteKind::Gll => Ok(read_gll(alloc, text)),
-        NoteKind::Gsa => read_gsa(alloc, text),
-        NoteKind::Gsv => read_gsv(alloc, talker, text),
-        NoteKind::Vtg => Ok(read_vtg(alloc, text)),
-        NoteKind::Zda => Ok(read_zda(alloc, text)),
-        _ => Ok(Note::empty(alloc, NoteKind::Other)),
+    if name == b"RMC".as_slice() {
+        Ok(read_rmc(alloc, text))
+    } else if name == b"GGA".as_slice() {
+        Ok(read_gga(alloc, text))
+    } else if name == b"GSV".as_slice() {
+        read_gsv(alloc, talker, text)
+    } else if name == b"GSA".as_slice() {
+        read_gsa(alloc, text)
+    } else if name == b"VTG".as_slice() {
+        Ok(read_vtg(alloc, text))
+    } else if name == b"GLL".as_slice() {
+        Ok(read_gll(alloc, text))
+    } else if name == b"ZDA".as_slice() {
+        Ok(read_zda(alloc, text))
+    } else {
+        Ok(Note::empty(alloc, NoteKind::Other))
+    }
+}
+
+/// The last three letters of an address name the kind, the first two the talker.
+#[inline(always)]
+fn read_at(alloc: Global, address: &[u8], text: &[u8]) -> Result<Note, NoMemory>
+    ensures note { IfOk result (λ note. note ≡ (said_at address.now text.now).note) }
+    ensures memory { OnErr result (0 < (said_at address.now text.now).entries) }
+{
+    if is_read(address) {
+        read_named(alloc, &address[2..], &address[..2], text)
+    } else {
+        Ok(Note::empty(alloc, NoteKind::Other))
     }
 }
 
@@ -222,8 +244,7 @@ fn read_body(alloc: Global, body: &[u8]) -> Result<Note, NoMemory>
     ensures memory { OnErr result (0 < body_entries body.now) }
 {
     let (address, text) = split_address(body);
-    let talker = &address[..address.len().min(2)];
-    read_kind(alloc, kind(address), talker, text)
+    read_at(alloc, address, text)
 }
 
 #[tactic(auto, using(crate::proofs::Searching::place_is, crate::proofs::Searching::nowhere_is))]

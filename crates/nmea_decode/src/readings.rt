@@ -9,7 +9,7 @@ const SECOND: u64 = 1_000_000_000;
 
 const DAY: u64 = 86_400 * SECOND;
 
-/// A number of so many decimals, from 0 to `most`.
+/// A number with the given number of decimals, from 0 to `most`.
 #[tactic(auto, unfolding(crate::specs::Readings::number_up_to))]
 fn number(text: &[u8], most: u32, decimals: u8) -> Option<u32>
     requires { decimals ≤ 9 }
@@ -198,7 +198,7 @@ pub(crate) fn day_beside(time: Option<u64>, day: Option<i32>) -> Option<i32>
     }
 }
 
-/// Exactly so many digits, and nothing else.
+/// Exactly the given number of digits, and nothing else.
 #[tactic(auto, unfolding(crate::specs::Readings::plain_number))]
 fn plain(text: &[u8], count: usize) -> Option<u64>
     requires { count ≤ 6 }

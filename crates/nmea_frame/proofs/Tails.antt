@@ -11,7 +11,7 @@ use Rattle.nmea_frame.proofs.Lists.{chosen, both}
 abbrev pub tail_of : ℕ → ℕ → Bool → List ℕ
 tail_of high low has_return = high ∷ low ∷ line_end has_return
 
--- a body of so many bytes leaves room for this end of the line
+-- a body of n bytes leaves room for this end of the line
 abbrev pub Fits : ℕ → Bool → Type 0
 Fits len has_return = len + length (line_end has_return) ≤ 124
 

@@ -9,4 +9,4 @@ mod laws;
 mod sentence;
 
 pub use laws::{body_is_read, shapes_are_stable};
-pub use sentence::{Shape, sentence_at};
+pub use sentence::{Shape, checksum, sentence_at};

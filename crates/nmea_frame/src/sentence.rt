@@ -7,7 +7,7 @@ use crate::body_length::body_len;
 /// What a list of bytes begins with.
 #[derive(Clone, Copy, Debug, PartialEq, Eq)]
 pub enum Shape {
-    /// A sentence with a right checksum, of so many bytes, from its `$` to its LF.
+    /// A sentence with a right checksum, of this number of bytes from its `$` to its LF.
     Whole(usize),
     /// No sentence yet: the whole list is the beginning of one, and shorter than it.
     Pending,
@@ -135,7 +135,8 @@ fn read_sum(high: u8, low: u8) -> Option<u8>
     }
 }
 
-fn checksum(body: &[u8]) -> u8
+/// The sum that stands behind the `*`: the bytes of the body, joined by exclusive or.
+pub fn checksum(body: &[u8]) -> u8
     ensures { result ≡ sum_of body.now }
 {
     body.iter().fold(0, |sum, byte| sum ^ *byte)

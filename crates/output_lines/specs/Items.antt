@@ -1,19 +1,16 @@
 -- The line of an item that a session was sent, in printable ASCII.
-use Rattle.std.specs.Prelude.{ℕ, ◌+◌, ◌/◌, ◌%◌, Bool, not, ◌&&◌, ◌==◌, nat_le, nat_lt, List, [], ◌∷◌, ◌++◌, codes, if◌then◌else◌}
+use Rattle.std.specs.Prelude.{ℕ, ◌+◌, ◌/◌, ◌%◌, Bool, not, ◌&&◌, ◌==◌, nat_le, List, [], ◌∷◌, ◌++◌, codes, if◌then◌else◌}
 use Rattle.std.specs.List.{flat_map}
+use Rattle.gps_fixed.specs.Hexadecimal.{lower_digit}
 use Rattle.output_lines.specs.Words.{line_end, numbered}
 
 -- printable ASCII but for the backslash
 abbrev pub is_plain : ℕ → Bool
 is_plain byte = nat_le 32 byte && nat_le byte 126 && not (byte == 92)
 
--- a hexadecimal digit in lower case
-abbrev pub hex_digit : ℕ → ℕ
-hex_digit n = if nat_lt n 10 then 48 + n else 87 + n
-
 -- a plain byte stands for itself, and each other as `\x` and two digits
 abbrev pub escaped : ℕ → List ℕ
-escaped byte = if is_plain byte then byte ∷ [] else 92 ∷ 120 ∷ hex_digit (byte / 16) ∷ hex_digit (byte % 16) ∷ []
+escaped byte = if is_plain byte then byte ∷ [] else 92 ∷ 120 ∷ lower_digit (byte / 16) ∷ lower_digit (byte % 16) ∷ []
 
 unfoldable pub escaped_text : List ℕ → List ℕ
 escaped_text bytes = flat_map escaped bytes

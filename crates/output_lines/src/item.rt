@@ -1,20 +1,13 @@
 ghost use Rattle.std.specs.Prelude.{◌≡◌, ◌<◌, ◌++◌, OnOk};
-ghost use Rattle.output_lines.specs.Items.{escaped, escaped_text, hex_digit, is_plain, item_line};
+ghost use Rattle.output_lines.specs.Items.{escaped, escaped_text, is_plain, item_line};
 
 use crate::word::push_numbered;
-use gps_fixed::{Bytes, NoMemory};
+use gps_fixed::{Bytes, NoMemory, lower_hex_digit};
 
 fn is_plain(byte: u8) -> bool
     ensures { result ≡ is_plain byte }
 {
     32 <= byte && byte <= 126 && byte != b'\\'
-}
-
-fn digit(n: u8) -> u8
-    requires { n < 16 }
-    ensures { result ≡ hex_digit n }
-{
-    if n < 10 { b'0' + n } else { b'a' + (n - 10) }
 }
 
 fn push_escaped(out: &mut Bytes, byte: u8) -> Result<(), NoMemory>
@@ -23,7 +16,12 @@ fn push_escaped(out: &mut Bytes, byte: u8) -> Result<(), NoMemory>
     if is_plain(byte) {
         out.push(byte)
     } else {
-        out.extend_from_slice(&[b'\\', b'x', digit(byte / 16), digit(byte % 16)])
+        out.extend_from_slice(&[
+            b'\\',
+            b'x',
+            lower_hex_digit(byte / 16),
+            lower_hex_digit(byte % 16),
+        ])
     }
 }
 

@@ -8,6 +8,7 @@ use Rattle.gps_report.specs.declared.packet.Packet.{Packet as PacketRecord}
 use Rattle.packet_cut.specs.declared.head.Head.{Head}
 use Rattle.packet_cut.specs.declared.head.Head.TheVariants.{Packet, Pending, Junk}
 use Rattle.packet_cut.specs.declared.found.Found.{Found}
+use Rattle.packet_cut.specs.declared.placed.Placed.{Placed}
 use Rattle.packet_cut.specs.Heads.{head_of}
 
 -- the rule is the same for bytes and for bytes with their stamps, so it is said for a list of any items and for what
@@ -51,7 +52,7 @@ found part = record { kind = part.kind; start = part.start; len = length part.it
 abbrev pub found_of : List ℕ → List Found
 found_of bytes = map found (parts_from head_of 0 0 bytes)
 
--- the same packet with so many more bytes before it
+-- the same packet with n more bytes before it
 abbrev pub moved : ℕ → Found → Found
 moved more found = record { kind = found.kind; start = more + found.start; len = found.len }
 
@@ -93,3 +94,7 @@ found_packet stream found = record {
   at = stamp_or (slice_get stream found.start) (record { sec = pos 0; nsec = 0 });
   bytes = take found.len (drop found.start (bytes_of stream));
 }
+
+-- the packet at a place of the bytes
+abbrev pub placed_packet : List ℕ → Placed → PacketRecord
+placed_packet bytes placed = record { kind = placed.kind; at = placed.at; bytes = take placed.len (drop placed.start bytes) }

@@ -12,7 +12,7 @@ StandsFor kept stream = kept ≡ rest_of stream
 abbrev pub Gains : List Stamped → List Stamped → List Packet → Type 0
 Gains stream more packets = packets_of (stream ++ more) ≡ packets_of stream ++ packets
 
--- how what is kept changes: so many bytes go from its front, and more come at its end; or only the new ones stay
+-- how what is kept changes: the given number of bytes goes from its front, and more come at its end; or only the new ones stay
 pub record Shift : Type 0 where
   pub anew : Bool
   pub gone : ℕ

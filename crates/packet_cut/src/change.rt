@@ -42,7 +42,7 @@ impl CutterChange {
         })
     }
 
-    /// So many bytes go, and those of a piece come.
+    /// This number of bytes goes, and those of a piece come.
     pub(crate) fn onward(
         alloc: Global,
         gone: usize,

@@ -1,12 +1,13 @@
-ghost use Rattle.std.specs.Prelude.{◌≡◌, ◌≤◌, ◌<◌, ◌+◌, ◌++◌, ℕ, List, [], IfOk, IsTrue, length, take, drop};
+ghost use Rattle.std.specs.Prelude.{◌≡◌, ◌≤◌, ◌<◌, ◌+◌, ◌++◌, ℕ, List, [], IfOk, IsTrue, length, map, drop};
 ghost use Rattle.packet_cut.specs.Heads.{head_of};
-ghost use Rattle.packet_cut.specs.Packets.{bytes_of, stamped, packets_of, rest_of};
+ghost use Rattle.packet_cut.specs.Packets.{bytes_of, stamped, packets_of, rest_of, placed_packet};
 ghost use Rattle.packet_cut.specs.Standing.{IsCut, IsFound, stamp_in, stream_of, applied};
 
 use crate::Head;
 use crate::change::CutterChange;
 use crate::next::{Next, next_from};
-use gps_fixed::{Bytes, NoMemory, Stamp};
+use crate::placed::{Placed, PlacedCut, copies_of};
+use gps_fixed::{NoMemory, Stamp};
 use gps_report::Packet;
 use std::alloc::Global;
 
@@ -24,45 +25,38 @@ pub struct PacketCut {
 
 /// The packets of a list of bytes, and the place of its rest. The first bytes are kept ones, which have their own stamps.
 #[derive(Drop)]
-struct Packets {
-    packets: Vec<Packet>,
+struct Places {
+    placed: Vec<Placed>,
     rest: usize,
 }
 
 /// All packets, each with the stamp of its first byte.
 #[tactic(auto, using(crate::proofs::Steps::cut_begin))]
-fn packets_in(
+fn places_in(
     alloc: Global,
     kept: &[(Stamp, u8)],
     at: Stamp,
     bytes: &[u8],
-) -> Result<Packets, NoMemory>
+) -> Result<Places, NoMemory>
     requires { bytes.now ≡ bytes_of (stream_of kept.now at bytes.now) }
-    ensures { IfOk result (λ found. IsFound (stream_of kept.now at bytes.now) found.packets.items found.rest) }
+    ensures { IfOk result (λ found. IsFound (stream_of kept.now at bytes.now) (map (placed_packet bytes.now) found.placed.items) found.rest) }
 {
-    let mut packets = Vec::with_capacity(alloc, bytes.len() / USUAL_PACKET)?;
+    let mut placed = Vec::with_capacity(alloc, bytes.len() / USUAL_PACKET)?;
     let mut place = 0usize;
     'packets: loop {
         match next_from(bytes, place) {
             Next::Packet(found) => {
-                let text = part(alloc, bytes, found.start, found.len)?;
-                packets.push(Packet {
+                placed.push(Placed {
                     kind: found.kind,
                     at: stamp_at(kept, at, found.start),
-                    bytes: text,
+                    start: found.start,
+                    len: found.len,
                 })?;
                 place = found.start + found.len;
             }
-            Next::Rest(rest) => return Ok(Packets { packets, rest }),
+            Next::Rest(rest) => return Ok(Places { placed, rest }),
         }
     }
-}
-
-fn part(alloc: Global, bytes: &[u8], start: usize, len: usize) -> Result<Bytes, NoMemory>
-    requires { start + len ≤ length bytes.now }
-    ensures { IfOk result (λ part. part ≡ take len (drop start bytes.now)) }
-{
-    Bytes::from_slice(alloc, &bytes[start..start + len])
 }
 
 /// The stamp of the byte at a place.
@@ -84,55 +78,83 @@ pub(crate) fn cut_behind(
 ) -> Result<PacketCut, NoMemory>
     ensures { IfOk result (λ cut. IsCut kept.now at piece.now cut.packets.items cut.change) }
 {
-    match kept {
-        [] => cut_piece(alloc, at, piece),
-        _ if is_waiting(kept, piece.len()) => cut_nothing(alloc, kept, at, piece),
-        _ => cut_joined(alloc, kept, at, piece),
-    }
-}
-
-/// The cut where nothing was kept: straight out of the piece.
-fn cut_piece(alloc: Global, at: Stamp, piece: &[u8]) -> Result<PacketCut, NoMemory>
-    ensures { IfOk result (λ cut. IsCut [] at piece.now cut.packets.items cut.change) }
-{
-    let Packets { packets, rest } = packets_in(alloc, &[], at, piece)?;
-    let change = CutterChange::anew(alloc, at, behind(piece, rest))?;
+    let PlacedCut {
+        bytes,
+        placed,
+        change,
+    } = place_behind(alloc, kept, at, piece)?;
+    let packets = copies_of(alloc, bytes.as_slice(), placed.as_slice())?;
     Ok(PacketCut { packets, change })
 }
 
-/// The cut where a frame still waits for more than the piece.
-fn cut_nothing(
+/// The same, by places.
+pub(crate) fn place_behind(
     alloc: Global,
     kept: &[(Stamp, u8)],
     at: Stamp,
     piece: &[u8],
-) -> Result<PacketCut, NoMemory>
+) -> Result<PlacedCut, NoMemory>
+    ensures { IfOk result (λ cut. IsCut kept.now at piece.now (map (placed_packet cut.bytes.items) cut.placed.items) cut.change) }
+{
+    match kept {
+        [] => place_piece(alloc, at, piece),
+        _ if is_waiting(kept, piece.len()) => place_nothing(alloc, kept, at, piece),
+        _ => place_joined(alloc, kept, at, piece),
+    }
+}
+
+/// The cut where nothing was kept.
+fn place_piece(alloc: Global, at: Stamp, piece: &[u8]) -> Result<PlacedCut, NoMemory>
+    ensures { IfOk result (λ cut. IsCut [] at piece.now (map (placed_packet cut.bytes.items) cut.placed.items) cut.change) }
+{
+    let bytes = joined(alloc, &[], piece)?;
+    let Places { placed, rest } = places_in(alloc, &[], at, bytes.as_slice())?;
+    let change = CutterChange::anew(alloc, at, behind(piece, rest))?;
+    Ok(PlacedCut {
+        bytes,
+        placed,
+        change,
+    })
+}
+
+/// The cut where a frame still waits for more than the piece.
+fn place_nothing(
+    alloc: Global,
+    kept: &[(Stamp, u8)],
+    at: Stamp,
+    piece: &[u8],
+) -> Result<PlacedCut, NoMemory>
     requires some { 0 < length kept.now }
     requires pending { head_of (bytes_of kept.now ++ piece.now) ≡ Head.Pending }
-    ensures { IfOk result (λ cut. IsCut kept.now at piece.now cut.packets.items cut.change) }
+    ensures { IfOk result (λ cut. IsCut kept.now at piece.now (map (placed_packet cut.bytes.items) cut.placed.items) cut.change) }
 {
     let change = CutterChange::onward(alloc, 0, at, piece)?;
-    Ok(PacketCut {
-        packets: Vec::new(alloc),
+    Ok(PlacedCut {
+        bytes: Vec::new(alloc),
+        placed: Vec::new(alloc),
         change,
     })
 }
 
 /// The cut of the kept bytes and the piece as one list.
-fn cut_joined(
+fn place_joined(
     alloc: Global,
     kept: &[(Stamp, u8)],
     at: Stamp,
     piece: &[u8],
-) -> Result<PacketCut, NoMemory>
+) -> Result<PlacedCut, NoMemory>
     requires { 0 < length kept.now }
-    ensures { IfOk result (λ cut. IsCut kept.now at piece.now cut.packets.items cut.change) }
+    ensures { IfOk result (λ cut. IsCut kept.now at piece.now (map (placed_packet cut.bytes.items) cut.placed.items) cut.change) }
 {
     let bytes = joined(alloc, kept, piece)?;
-    let Packets { packets, rest } = packets_in(alloc, kept, at, bytes.as_slice())?;
+    let Places { placed, rest } = places_in(alloc, kept, at, bytes.as_slice())?;
     let gone = rest.min(kept.len());
     let change = CutterChange::onward(alloc, gone, at, behind(piece, rest - gone))?;
-    Ok(PacketCut { packets, change })
+    Ok(PlacedCut {
+        bytes,
+        placed,
+        change,
+    })
 }
 
 /// The kept bytes and those of the piece.
@@ -147,7 +169,7 @@ fn joined(alloc: Global, kept: &[(Stamp, u8)], piece: &[u8]) -> Result<Vec<u8>, 
     Ok(all)
 }
 
-/// Whether the kept bytes begin a frame that so many more bytes do not end.
+/// Whether the kept bytes begin a frame that the given number of further bytes does not end.
 fn is_waiting(kept: &[(Stamp, u8)], more: usize) -> bool
     ensures { IsTrue result → (piece : List ℕ) → length piece ≡ more → head_of (bytes_of kept.now ++ piece) ≡ Head.Pending }
 {

@@ -1,9 +1,10 @@
-ghost use Rattle.std.specs.Prelude.{◌≡◌, ◌+◌, ◌*◌, ◌≤◌, ◌<◌, ◌++◌, [], List, IfOk, OnOk, OnErr, length, drop, vec_len, vec_capacity};
-ghost use Rattle.packet_cut.specs.Packets.{Stamped, stamped, packets_of, rest_of};
+ghost use Rattle.std.specs.Prelude.{◌≡◌, ◌+◌, ◌*◌, ◌≤◌, ◌<◌, ◌++◌, [], List, IfOk, OnOk, OnErr, length, drop, map, vec_len, vec_capacity};
+ghost use Rattle.packet_cut.specs.Packets.{Stamped, stamped, packets_of, rest_of, placed_packet};
 ghost use Rattle.packet_cut.specs.Standing.{StandsFor, Gains, IsCut, Fits, applied};
 
 use crate::change::CutterChange;
-use crate::cut::{PacketCut, cut_behind};
+use crate::cut::{PacketCut, cut_behind, place_behind};
+use crate::placed::PlacedCut;
 use gps_fixed::{NoMemory, Stamp};
 use gps_report::Packet;
 use std::alloc::Global;
@@ -51,6 +52,13 @@ impl Cutter {
         ensures most { length self.now ≤ 2055 }
     {
         cut_behind(self.alloc, self.kept.as_slice(), at, piece)
+    }
+
+    /// The packets that a piece completes, by their places, so that none is copied; and the change that `put` makes of it. The cutter stays as it is.
+    pub fn place(&self, at: Stamp, piece: &[u8]) -> Result<PlacedCut, NoMemory>
+        ensures { IfOk result (λ cut. IsCut self.now at piece.now (map (placed_packet cut.bytes.items) cut.placed.items) cut.change) }
+    {
+        place_behind(self.alloc, self.kept.as_slice(), at, piece)
     }
 
     /// Makes the change of a cut. Takes no memory. The cutter must be as it was at the cut.

@@ -10,7 +10,7 @@ use ubx_frame::{Shape as FrameShape, frame_at};
 /// What a list of bytes begins with.
 #[derive(Clone, Copy, Debug, PartialEq, Eq)]
 pub enum Head {
-    /// A packet of so many bytes.
+    /// A packet of this number of bytes.
     Packet(PacketKind, usize),
     /// The beginning of a packet, and nothing more.
     Pending,

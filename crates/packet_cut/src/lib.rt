@@ -12,6 +12,7 @@ mod found;
 mod head;
 mod laws;
 mod next;
+mod placed;
 
 pub use change::CutterChange;
 pub use cut::PacketCut;
@@ -22,3 +23,4 @@ pub use laws::{
     heads_go_by_the_sets, packets_are_a_beginning, packets_are_long, packets_go_on, rest_is_short,
     stamps_change_no_packet,
 };
+pub use placed::{Placed, PlacedCut};

@@ -1,3 +1,3 @@
-mod Digits
+pub mod Digits
 mod EdgeLines
 pub mod Pasts

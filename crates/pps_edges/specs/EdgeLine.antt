@@ -18,7 +18,7 @@ pub record Parts : Type 0 where
   pub nanoseconds : List ℕ
   pub sequence : List ℕ
 
--- at most so many digits, and at least one
+-- at most n digits, and at least one
 pub record IsNumber (most : ℕ) (text : List ℕ) : Type 0 where
   pub some : 0 < length text
   pub few : length text ≤ most

@@ -122,6 +122,7 @@ fn scan(line: &[u8]) -> Option<Edge>
 /// The edge that a line says, without its line end: `assert` or `clear`, a space, 1 to 10 digits of seconds, a point, nine digits of
 /// nanoseconds, `#`, and 1 to 10 digits of a sequence number up to 4,294,967,295. Every other line is none. Takes no memory.
 pub fn edge_of_line(line: &[u8]) -> Option<Edge>
+    ensures reads { result ≡ edge_in line.now }
     ensures exact { (edge : EdgeValue) → (result ≡ Some edge) ↔ IsLineOf edge line.now }
     ensures none { (result ≡ None) ↔ (¬ IsEdgeLine line.now) }
 {

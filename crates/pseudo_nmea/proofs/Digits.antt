@@ -66,7 +66,7 @@ decimal_is n h = decimal_by_steps IsDecimal one more n h
           omega arith,
         )
 
--- so many digits are the first ones of themselves
+-- n digits are the first n of themselves
 pub first_all : (k : ℕ) (ds : List ℕ) → length ds ≡ k → first_digits k ds ≡ ds
 first_all k ds long = take-append-le k ds (replicate k 48) (omega arith) ∙ take_all k ds (omega arith)
 

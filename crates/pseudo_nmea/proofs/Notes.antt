@@ -2,16 +2,16 @@
 use Rattle.std.proofs.Common.{◌≡◌, ℕ, ◌/◌, ◌%◌, ◌<◌, true, ◌&&◌, List, [], ◌∷◌, ◌++◌, refl, ap, ◌∙◌, arith}
 use Rattle.std.specs.Prelude.{codes}
 use Rattle.std.proofs.lemmas.Bool.{and_from}
+use Rattle.gps_fixed.specs.Hexadecimal.{upper_digit}
 use Rattle.gps_report.specs.declared.fix.Fix.{Fix}
 use Rattle.gps_report.specs.declared.note.Note.{Note}
 use Rattle.gps_report.specs.declared.note.NoteKind.TheVariants.{Gga, Rmc}
 use Rattle.nmea_frame.specs.Sentence.{body_of, checksum}
-use Rattle.nmea_decode.specs.Kinds.{kind_of}
 use Rattle.nmea_decode.specs.Notes.{timed, letter_status, quality_status, where_valid, gga, rmc, body_note, sentence_note}
 use Rattle.nmea_decode.specs.Places.{position_of}
 use Rattle.nmea_decode.specs.Readings.{dilution_of, day_with, date_of, height_of, speed_of, time_of, track_of}
 use Rattle.pseudo_nmea.specs.Fields.{clock, date, placed, latitude, north, longitude, east, knots, course, metres}
-use Rattle.pseudo_nmea.specs.Sentences.{by_fix, sentence, rmc_body, gga_body, upper_digit}
+use Rattle.pseudo_nmea.specs.Sentences.{by_fix, sentence, rmc_body, gga_body}
 use Rattle.pseudo_nmea.proofs.Rows.{rows, rows_behind, all_plain, row_is}
 use Rattle.pseudo_nmea.proofs.Plain.{clock_plain, by_fix_plain, latitude_plain, north_plain, longitude_plain, east_plain, knots_plain, course_plain, metres_plain, date_plain, rows_starless, before_star}
 
@@ -42,11 +42,11 @@ unfolding gga_body
 gga_body_is fix = rows_behind (codes "GPGGA") (gga_list fix)
 
 rmc_text : (fix : Fix) → body_note (codes "GPRMC" ++ rows (rmc_list fix)) ≡ rmc (rows (rmc_list fix))
-unfolding body_note kind_of
+unfolding body_note
 rmc_text fix = refl
 
 gga_text : (fix : Fix) → body_note (codes "GPGGA" ++ rows (gga_list fix)) ≡ gga (rows (gga_list fix))
-unfolding body_note kind_of
+unfolding body_note
 gga_text fix = refl
 
 -- the readings of single fields

@@ -10,7 +10,8 @@ use Rattle.std.proofs.lemmas.Nat.{xor_lt}
 use Rattle.gps_report.specs.declared.fix.Fix.{Fix}
 use Rattle.nmea_frame.specs.Sentence.{IsSentence, Parts, checksum, hex_value, is_body_byte, of_digits, read_sum}
 use Rattle.pseudo_nmea.specs.Fields.{placed}
-use Rattle.pseudo_nmea.specs.Sentences.{ending, gga_body, rmc_body, sentence, upper_digit}
+use Rattle.gps_fixed.specs.Hexadecimal.{upper_digit}
+use Rattle.pseudo_nmea.specs.Sentences.{ending, gga_body, rmc_body, sentence}
 use Rattle.pseudo_nmea.proofs.Notes.{gga_body_is, gga_list, gga_plain, rmc_body_is, rmc_list, rmc_plain}
 use Rattle.pseudo_nmea.proofs.Rows.{all_plain, is_plain, rows}
 use Rattle.pseudo_nmea.proofs.Sizes.{by_fix_size, clock_size, course_size, date_size, east_size, knots_size, latitude_size, longitude_size, metres_size, north_size, rows_size, total}

@@ -33,7 +33,7 @@ unfoldable pub minutes : ℕ → List ℕ
 minutes rest =
     digits_in 2 ((6 * rest + 5) / 10 / 10 ^ 7) ++ codes "." ++ digits_in 7 ((6 * rest + 5) / 10 % 10 ^ 7)
 
--- so many digits of degrees, and the minutes
+-- the given number of digits of degrees, and the minutes
 unfoldable pub angle : ℕ → ℤ → List ℕ
 angle count value = digits_in count (unsigned_abs value / 10 ^ 9) ++ minutes (unsigned_abs value % 10 ^ 9)
 

@@ -1,5 +1,6 @@
 -- The two sentences of a fix. Source: NMEA 0183, the sentences RMC and GGA. Which of their fields stay empty is this project's own.
-use Rattle.std.specs.Prelude.{ℕ, ◌+◌, ◌/◌, ◌%◌, ◌==◌, nat_lt, List, [], ◌∷◌, ◌++◌, codes, if◌then◌else◌}
+use Rattle.std.specs.Prelude.{ℕ, ◌+◌, ◌/◌, ◌%◌, ◌==◌, List, [], ◌∷◌, ◌++◌, codes, if◌then◌else◌}
+use Rattle.gps_fixed.specs.Hexadecimal.{upper_digit}
 use Rattle.gps_report.specs.declared.fix.Fix.{Fix}
 use Rattle.nmea_frame.specs.Sentence.{checksum}
 use Rattle.pseudo_nmea.specs.Fields.{clock, date, placed, latitude, north, longitude, east, knots, course, metres}
@@ -7,9 +8,6 @@ use Rattle.pseudo_nmea.specs.Fields.{clock, date, placed, latitude, north, longi
 -- a field, behind its comma
 unfoldable pub field : List ℕ → List ℕ
 field text = 44 ∷ text
-
-abbrev pub upper_digit : ℕ → ℕ
-upper_digit n = if nat_lt n 10 then 48 + n else 55 + n
 
 -- what stands behind a body: `*`, the two digits of its checksum, CR and LF
 abbrev pub ending : List ℕ → List ℕ

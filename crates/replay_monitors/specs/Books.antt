@@ -5,7 +5,7 @@ use Rattle.book_units.specs.Units.{UnitView, segment_of}
 use Rattle.report_book.specs.BookView.{BookView}
 use Rattle.replay_monitors.specs.Stored.{IsStored}
 
--- unit u of a book has this first number, these samples and so many stores
+-- unit u of a book has this first number, these samples and this number of stores
 abbrev pub IsStoredAt : ℕ → ℕ → List Sample → ℕ → BookView → Type 0
 IsStoredAt u first samples stores b = (free : UnitView) → IsStored first samples stores (get_or b.units u free)
 

@@ -124,7 +124,7 @@ takes_item s b n (Ok other) item state c out is gives made plays there =
               (none, subst L (set_same plays.clients n c there) (sits c (kept_none names plays.before s.book.log.log a c attends (attends.kept ∙ none))), refl),
         )
 
--- the loop: so many were taken
+-- the loop: n were taken
 
 pub record Taken (s now : ReplayBookView) (n i : ℕ) (out out' : List ℕ) (state : State) (c : Client) : Type 0 where
   pub few : i ≤ length (kept_of state.names state.log c)

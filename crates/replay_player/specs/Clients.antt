@@ -20,10 +20,10 @@ use Rattle.session_runs.specs.Runs.{SessionRun, items_over}
 use Rattle.session_runs.specs.Following.{opened_run, shut_run}
 
 pub record Client : Type 0 where
-  pub cap : ℕ  -- so many items its outlet keeps
+  pub cap : ℕ  -- how many items its outlet keeps
   pub run : SessionRun  -- its opening, its answered requests, and its closing
   pub heard : List ℕ  -- all its input
-  pub taken : ℕ  -- so many of its items were taken
+  pub taken : ℕ  -- how many of its items were taken
 
 abbrev pub is_open : Client → Bool
 is_open c = not (is_some c.run.closing)
@@ -36,7 +36,7 @@ items_of names log c = items_over names log c.run
 abbrev pub kept_of : List (List ℕ) → List Entry → Client → List (List ℕ)
 kept_of names log c = drop c.taken (items_of names log c)
 
--- for so many more its outlet has room
+-- how many more its outlet has room for
 abbrev pub room_of : List (List ℕ) → List Entry → Client → ℕ
 room_of names log c = c.cap - length (kept_of names log c)
 
@@ -80,7 +80,7 @@ new_requests heard piece = drop (length (requests heard)) (requests (heard ++ pi
 abbrev pub answers_to : List (List ℕ) → List Entry → List ℕ → Client → List Answer
 answers_to names log piece c = answered (known_in (length names) log) names (policy_of c) (new_requests c.heard piece)
 
--- so many are answered: up to 65,536 in the whole run, and no more than the outlet has room for
+-- how many are answered: up to 65,536 in the whole run, and no more than the outlet has room for
 abbrev pub answerable : List (List ℕ) → List Entry → Client → ℕ
 answerable names log c = min (most_requests - asked_by c) (room_of names log c)
 
@@ -102,7 +102,7 @@ served names log piece c =
       heard = c.heard ++ piece;
     }
 
--- at most so many of its items are taken
+-- at most n of its items are taken
 abbrev pub next_taken : ℕ → List (List ℕ) → List Entry → Client → List (List ℕ)
 next_taken most names log c = take most (kept_of names log c)
 

@@ -89,7 +89,7 @@ takes s most state =
 
 -- Units and monitors.
 
--- the number of stores after so many steps
+-- the number of stores after n steps
 unfoldable pub stores_after : ℕ → ℕ → List Sample → ℕ → ℕ
 stores_after zero first samples stores = stores
 stores_after (suc steps) first samples stores = stores_after steps first samples (stores_next first samples stores)
@@ -112,7 +112,7 @@ watches m u state =
     allowed (nat_eq m (length state.watches) && nat_lt (length state.watches) most_watches && nat_lt u (units_in state))
     (quietly (record state { begun = true; watches = state.watches ++ record { unit = u; reading = [] } ∷ [] }))
 
--- what a reading has got after so many loads of these words
+-- what a reading has received after n loads of these words
 unfoldable pub reading_after_loads : ℕ → List ℕ → List ℕ → List ℕ
 reading_after_loads zero words reading = reading
 reading_after_loads (suc loads) words reading = reading_after_loads loads words (reading_after words reading)

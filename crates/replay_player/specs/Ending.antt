@@ -14,7 +14,7 @@ use Rattle.replay_player.specs.Ends.{all_drained, drained, published}
 use Rattle.replay_player.specs.Playing.{BookStandsFor, ReplayBookView}
 use Rattle.replay_player.specs.States.{State, samples_at}
 
--- a call of a book did not fail for want of memory
+-- a call of a book was not out of memory
 abbrev pub IsServed : Result (Unit {0}) BookFault → Type 0
 IsServed (Ok _) = Unit {0}
 IsServed (Err book.NoMemory) = ⊥
@@ -36,7 +36,7 @@ pub record StandsAlike (new : ReplayBookView) (state : State) : Type 0 where
   pub plays : BookStandsFor new now
   pub alike : Alike state now
 
--- so many items are taken at once: no outlet keeps more
+-- how many items are taken at once: no outlet keeps more
 abbrev pub most_kept : ℕ
 most_kept = 65_536
 

@@ -85,7 +85,7 @@ pub record BookStandsFor (s : ReplayBookView) (state : State) : Type 0 where
 abbrev pub Opens : List (List ℕ) → List ℕ → ReplayBookView → Type 0
 Opens names firsts s = BookStandsFor s (state_of names [] firsts [] (replicate most_units 0) [])
 
--- the line was refused, or has done what it does, and what it writes stands behind what was written; after want of memory nothing is known
+-- the line was refused, or has done what it does, and what it writes stands behind what was written; out of memory, nothing is known
 abbrev pub Acts : Result EventStep NoMemory → Option EventEffect → ReplayBookView → List ℕ → List ℕ → Type 0
 Acts (Ok Made) effect new out out' = (e : EventEffect) × (effect ≡ Some e) × BookStandsFor new e.state × (out' ≡ out ++ e.written)
 Acts (Ok Refused) effect new out out' = (effect ≡ None) × (out' ≡ out)
@@ -134,7 +134,7 @@ declared_state names firsts = record {
   watches = [];
 }
 
--- what declarations keep, for books with generations of so many symbols
+-- what declarations keep, for books with generations of the given number of symbols
 pub record IsDeclared (limit : ℕ) (names : List (List ℕ)) (firsts : List ℕ) : Type 0 where
   pub least : 1 ≤ limit
   pub most : limit ≤ 33_554_432

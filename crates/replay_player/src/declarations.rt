@@ -11,7 +11,7 @@ use gps_report::{Name, Names};
 use std::alloc::Global;
 use std::marker::Model;
 
-/// So many devices may be declared.
+/// How many devices may be declared.
 const MOST_DEVICES: usize = 8;
 
 /// The devices and units that a script declares before its first event.

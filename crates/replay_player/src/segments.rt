@@ -19,7 +19,7 @@ use report_book::Book;
 use session_core::PlainOutlet;
 use shm_monitor::MonStep;
 
-/// So many monitors may be in a script.
+/// How many monitors may be in a script.
 const MOST_WATCHERS: usize = 64;
 
 /// The line of a reading that this step ends.
@@ -91,7 +91,7 @@ impl ReplayBook {
         };
     }
 
-    /// A unit's publisher makes so many steps.
+    /// A unit's publisher makes the given number of steps.
     pub fn store(&mut self, u: u64, steps: u32) -> Result<EventStep, NoMemory>
         ensures acts { (state : State) → BookStandsFor self.old state → Acts result (stores u steps state) self.new [] [] }
     {
@@ -125,7 +125,7 @@ impl ReplayBook {
         push_step(out, m, step)
     }
 
-    /// A monitor makes so many loads.
+    /// A monitor makes the given number of loads.
     pub fn load(&mut self, m: u64, steps: u32, out: &mut Bytes) -> Result<EventStep, NoMemory>
         requires known { (state : State) × BookStandsFor self.old state }
         ensures acts { (state : State) → BookStandsFor self.old state → Acts result (loads m steps state) self.new out.old out.new }

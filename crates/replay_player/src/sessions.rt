@@ -22,7 +22,7 @@ impl ReplayBook {
         s < u64::from(self.book.opened())
     }
 
-    /// The next session opens, over an outlet that keeps so many items.
+    /// The next session opens, over an outlet that keeps the given number of items.
     pub fn open(&mut self, s: u64, cap: u32) -> Result<EventStep, NoMemory>
         requires least { 1 ≤ cap }
         requires most { cap ≤ 65536 }
@@ -94,7 +94,7 @@ impl ReplayBook {
         Ok(true)
     }
 
-    /// A session's client takes at most so many items.
+    /// A session's client takes at most the given number of items.
     pub fn take(&mut self, s: u64, most: u32, out: &mut Bytes) -> Result<EventStep, NoMemory>
         ensures acts { (state : State) → BookStandsFor self.old state → Acts result (takes s most state) self.new out.old out.new }
     {

@@ -1,3 +1,1 @@
-mod Digits
-mod EdgeLines
 mod Halves

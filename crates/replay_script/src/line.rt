@@ -1,12 +1,11 @@
 ghost use Rattle.std.specs.Prelude.{◌≡◌, IfOk, IfSome, Some, unwrap_or};
-ghost use Rattle.pps_edges.specs.Scan.{edge_in};
 ghost use Rattle.replay_script.specs.Events.{Fits, bytes_event, device_in, edge_at, event_in, feed_in, input_in, monitor_in, number_event, open_in, word_event};
 
 use crate::event::ScriptEvent;
 use crate::payload::{Payload, payload_bytes};
 use crate::words::{halves, number, number_and_count, numbered, stamped};
 use gps_fixed::NoMemory;
-use gps_report::{Edge, Name, NameFault};
+use gps_report::{Name, NameFault};
 use pps_edges::edge_of_line;
 use std::alloc::Global;
 
@@ -53,19 +52,13 @@ fn input(alloc: Global, payload: Payload, text: &[u8]) -> Result<Option<ScriptEv
     }
 }
 
-fn edge_in_line(text: &[u8]) -> Option<Edge>
-    ensures { result ≡ edge_in text.now }
-{
-    edge_of_line(text)
-}
-
 #[tactic(auto, unfolding(crate::specs::Events::edge_at))]
 fn edge(text: &[u8]) -> Option<ScriptEvent>
     ensures is { result ≡ edge_at text.now }
     ensures fits { IfSome result Fits }
 {
     let (device, line) = numbered(text)?;
-    let edge = edge_in_line(line)?;
+    let edge = edge_of_line(line)?;
     Some(ScriptEvent::Edge { device, edge })
 }
 

@@ -60,7 +60,7 @@ fn text_bytes(
     Ok(Some(bytes))
 }
 
-/// The bytes that are meant, if they are so many.
+/// The bytes that are meant, if they have the given length.
 pub(crate) fn payload_bytes(
     alloc: Global,
     payload: Payload,

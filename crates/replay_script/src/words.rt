@@ -26,7 +26,7 @@ fn value(digits: &[u8]) -> u64
 }
 
 /// The number that 1 to 10 digits write.
-#[tactic(auto, using(crate::proofs::Digits::value_below), unfolding(crate::specs::Words::number_in))]
+#[tactic(auto, using(pps_edges::proofs::Digits::value_below), unfolding(crate::specs::Words::number_in))]
 pub(crate) fn number(text: &[u8]) -> Option<u64>
     ensures is { result ≡ number_in text.now }
     ensures small { IfSome result (λ n. n < 10 ^ 10) }
@@ -39,7 +39,7 @@ pub(crate) fn number(text: &[u8]) -> Option<u64>
 }
 
 /// The number that nine digits write.
-#[tactic(auto, using(crate::proofs::Digits::value_below), unfolding(crate::specs::Words::nine_in))]
+#[tactic(auto, using(pps_edges::proofs::Digits::value_below), unfolding(crate::specs::Words::nine_in))]
 fn nine(text: &[u8]) -> Option<u32>
     ensures is { result ≡ nine_in text.now }
     ensures small { IfSome result (λ n. n < 10 ^ 9) }

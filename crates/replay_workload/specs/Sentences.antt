@@ -1,6 +1,7 @@
 -- The sentences that the receivers of a workload send. Source: NMEA 0183, the sentences RMC, VTG, GGA, GSA, GSV and GLL.
 -- The place, the day and the satellites are this project's own.
-use Rattle.std.specs.Prelude.{ℕ, ◌+◌, ◌/◌, ◌%◌, nat_lt, List, [], ◌∷◌, ◌++◌, codes, if◌then◌else◌}
+use Rattle.std.specs.Prelude.{ℕ, ◌+◌, ◌/◌, ◌%◌, List, [], ◌∷◌, ◌++◌, codes}
+use Rattle.gps_fixed.specs.Hexadecimal.{upper_digit}
 use Rattle.gps_fixed.specs.Text.{digits_in}
 use Rattle.nmea_frame.specs.Sentence.{checksum}
 
@@ -36,10 +37,6 @@ gsa = codes "GPGSA,A,3,01,02,12,14,,,,,,,,,2.50,1.30,2.10"
 
 unfoldable pub gsv : List ℕ
 gsv = codes "GPGSV,1,1,04,01,40,083,46,02,17,308,41,12,07,344,39,14,22,228,45"
-
--- a hexadecimal digit in upper case
-abbrev pub upper_digit : ℕ → ℕ
-upper_digit n = if nat_lt n 10 then 48 + n else 55 + n
 
 -- `$`, the body, `*` and the two digits of its checksum
 unfoldable pub sentence : List ℕ → List ℕ

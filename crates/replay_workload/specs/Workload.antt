@@ -62,7 +62,7 @@ steps = codes "store 0 13\nstore 1 13\nstore 2 13\nstore 3 13\nload 0 12\ntake 0
 unfoldable pub second_lines : ℕ → ℕ → List ℕ
 second_lines t n = edge_line 0 t ++ edge_line 1 t ++ line_cut 0 t n ++ line_cut 1 t n ++ steps
 
--- the first so many seconds
+-- the first n seconds
 unfoldable pub seconds : ℕ → ℕ → List ℕ
 seconds seed zero = []
 seconds seed (suc t) = seconds seed t ++ second_lines t (decimals_at seed t)

@@ -1,4 +1,4 @@
-//! A made script for `replay`: two receivers, three sessions, four units and a monitor, for so many seconds. The same
+//! A made script for `replay`: two receivers, three sessions, four units and a monitor, for a given number of seconds. The same
 //! seed gives the same script. This project's own; the sentences are of NMEA 0183.
 #![tactic(auto)]
 

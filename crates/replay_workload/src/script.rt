@@ -1,4 +1,4 @@
-ghost use Rattle.std.specs.Prelude.{◌≡◌, ◌≤◌, ◌<◌, ◌++◌, [], IfOk, OnOk};
+ghost use Rattle.std.specs.Prelude.{◌≡◌, ◌≤◌, ◌<◌, ◌+◌, ◌*◌, ◌++◌, [], length, IfOk, OnOk};
 ghost use Rattle.replay_workload.specs.Sentences.{gga, gll, rmc};
 ghost use Rattle.replay_workload.specs.Workload.{edge_end, edge_line, edge_number, head, receiver_lines, second_lines, steps, text_line, whole_second, workload_of};
 
@@ -12,7 +12,7 @@ const BEGIN: u64 = 1_717_243_200;
 
 const NOON: u32 = 43_200;
 
-/// How many bytes the lines of a second have, at most, and those before them.
+/// So many bytes for each second are enough, and those before them.
 const SECOND_ROOM: usize = 1_184;
 
 const HEAD_ROOM: usize = 147;
@@ -155,7 +155,8 @@ fn push_second(out: &mut Bytes, bodies: &mut Bodies, t: u32, n: u32) -> Result<(
 pub fn workload(alloc: Global, seed: u32, size: u32) -> Result<Bytes, NoMemory>
     requires from { 1 ≤ size }
     requires to { size ≤ 10_000 }
-    ensures { IfOk result (λ script. script ≡ workload_of seed size) }
+    ensures made { IfOk result (λ script. script ≡ workload_of seed size) }
+    ensures bound { IfOk result (λ script. length script ≤ 147 + 1_184 * size) }
 {
     let mut out = with_room(alloc, HEAD_ROOM + SECOND_ROOM * size as usize)?;
     push_head(&mut out)?;

@@ -1,8 +1,8 @@
 ghost use Rattle.std.specs.Prelude.{◌≡◌, ◌<◌, ◌++◌, OnOk};
-ghost use Rattle.nmea_frame.specs.Sentence.{checksum as sum_of};
-ghost use Rattle.replay_workload.specs.Sentences.{fraction, gga, gll, gsa, gsv, place, quality, rmc, sentence, time, upper_digit, vtg};
+ghost use Rattle.replay_workload.specs.Sentences.{fraction, gga, gll, gsa, gsv, place, quality, rmc, sentence, time, vtg};
 
-use gps_fixed::{Bytes, NoMemory, push_digits};
+use gps_fixed::{Bytes, NoMemory, push_digits, upper_hex_digit};
+use nmea_frame::checksum;
 
 /// The body of a VTG.
 #[tactic(auto, unfolding(crate::specs::Sentences::vtg))]
@@ -97,19 +97,6 @@ pub(crate) fn push_gll(out: &mut Bytes, second: u32, n: u32) -> Result<(), NoMem
     out.extend_from_slice(b"A,A")
 }
 
-fn checksum(body: &[u8]) -> u8
-    ensures { result ≡ sum_of body.now }
-{
-    body.iter().fold(0, |sum, byte| sum ^ byte)
-}
-
-fn upper_digit(n: u8) -> u8
-    requires { n < 16 }
-    ensures { result ≡ upper_digit n }
-{
-    if n < 10 { b'0' + n } else { b'A' + (n - 10) }
-}
-
 /// Adds the sentence of a body, without a line end.
 #[tactic(auto, unfolding(crate::specs::Sentences::sentence))]
 pub(crate) fn push_sentence(out: &mut Bytes, body: &[u8]) -> Result<(), NoMemory>
@@ -118,5 +105,5 @@ pub(crate) fn push_sentence(out: &mut Bytes, body: &[u8]) -> Result<(), NoMemory
     let sum = checksum(body);
     out.extend_from_slice(b"$")?;
     out.extend_from_slice(body)?;
-    out.extend_from_slice(&[b'*', upper_digit(sum / 16), upper_digit(sum % 16)])
+    out.extend_from_slice(&[b'*', upper_hex_digit(sum / 16), upper_hex_digit(sum % 16)])
 }

@@ -1,6 +1,6 @@
 -- What each call of a book comes to.
 use Rattle.std.proofs.Common.{◌≡◌, ◌≤◌, ◌+◌, ◌*◌, ℕ, zero, suc, Bool, true, false, refl, sym, ap, ◌∙◌, subst, List, [], ◌∷◌, ◌++◌, length, map, get_or, append-nil, Option, Some, None, Result, Ok, Err, is_some, slice_get, option_and_then, nat_lt, nat_eq, take, drop, arith, ◌<◌}
-use Rattle.std.specs.List.{All, AllZip}
+use Rattle.std.specs.List.{All, AllZip, list_any}
 use Rattle.std.proofs.Math.ListN.{set}
 use Rattle.std.proofs.lemmas.Bool.{ltb-true, eqb-true}
 use Rattle.std.proofs.lemmas.List.Elements.{All-set, All-push, All-map, AllZip-get_or, length_all_zip}
@@ -20,9 +20,13 @@ use Rattle.book_log.specs.Entries.{Entry}
 use Rattle.book_log.specs.History.{history_after}
 use Rattle.book_log.specs.DeviceLogView.{DeviceLogView, LogAdds, AreOf, LogHolds, IsFresh, stopped_of, turned_if as log_turned_if}
 use Rattle.book_log.specs.Standing.{StandsFor}
+use Rattle.book_replies.specs.Polling.{is_poll}
+use Rattle.book_replies.specs.Replies.{answered}
 use Rattle.book_replies.specs.ReplyDataView.{ReplyDataView}
-use Rattle.book_sessions.specs.Answering.{Inputs}
-use Rattle.book_sessions.specs.MemberView.{MemberView, renewed, with_kept}
+use Rattle.gps_command.specs.Kept.{CommandCutterView}
+use Rattle.gps_command.specs.declared.request.RawCommand.{RawCommand}
+use Rattle.book_sessions.specs.Answering.{AnswersCut, Inputs, IsCut}
+use Rattle.book_sessions.specs.MemberView.{MemberView, renewed, with_cutter, with_kept}
 use Rattle.book_sessions.specs.Roster.{Changes, Closes, IsAfterAll, IsOpenAt, Shuts, ShutsBy, MemberTurns}
 use Rattle.book_sessions.specs.Spreading.{Spreads}
 use Rattle.book_units.specs.Changes.{EachUnit, UnitGains, UnitTurns, turned as turned_unit}
@@ -36,7 +40,10 @@ use Rattle.report_book.specs.Standing.{BookHolds, FollowsReports, SessionHolds, 
 use Rattle.report_book.proofs.Adding.{added, earned, history_added}
 use Rattle.report_book.proofs.Changing.{after_all, no_fault, not_missing, passes, sessions_changed}
 use Rattle.report_book.proofs.Lists.{all_along}
+use Rattle.report_book.proofs.Reading.{shown_answers}
 use Rattle.report_book.proofs.Turning.{book_turned_if}
+use Rattle.report_book.specs.Knowing.{known_in, shown_in}
+use Rattle.book_sessions.proofs.Answered.{heard, heard_on}
 
 -- entries came, behind a turn where one was due
 pub record Moved (exact turns : Bool) (old new : BookView) (entries : List Entry) (reports : List Report) : Type 0 where
@@ -68,6 +75,11 @@ moved exact names log next sessions members units kept others turns began first 
       earns = earned exact names (log_turned_if turns log) next (renewed_if turns sessions) members (units_turned_if turns units) others entries reports whole adds spread_is gains_are;
     }
 
+-- no turn and no entries change the limit of a generation
+pub limit_kept : (turns : Bool) (old new : DeviceLogView) (entries : List Entry) (reports : List Report) → LogAdds (log_turned_if turns old) new entries reports → new.limit ≡ old.limit
+limit_kept true old new entries reports adds = adds.limit
+limit_kept false old new entries reports adds = adds.limit
+
 -- no mark stands behind the place of the next report
 marks_first : (policy : Policy) (closing : Option (ℕ × Close)) → last_place 0 (turned_marks closing policy) ≤ 0
 marks_first policy None = omega arith
@@ -86,12 +98,12 @@ after_if turns began first b held is first_is =
     subst P (sym is) (subst F (sym first_is) (after_begun turns b held))
 
 -- room at a device's units is room for its reports
-pub roomy : (d : ℕ) (spare : List ℕ) (reports : List Report) → HasRoomAt d 2568 spare → AreOf d reports → length reports ≤ 2568 → HasRoom spare reports
-roomy d spare reports free own short =
+pub roomy : (d more : ℕ) (spare : List ℕ) (reports : List Report) → HasRoomAt d more spare → AreOf d reports → length reports ≤ more → HasRoom spare reports
+roomy d more spare reports free own short =
     let ours : All (λ (r : Report). r.device ≡ d) reports = λ k x within. eqb-true (get_or reports k x).device d (AllPass-from_list_all (λ (r : Report). nat_eq r.device d) reports own k x within) in
     let serial = few (2 * d) reports in
     let pulse = few (2 * d + 1) reports in
-    room d 2568 spare reports free ours (omega arith) (omega arith)
+    room d more spare reports free ours (omega arith) (omega arith)
 
 -- what a test that passed tells
 pub is_device : (b : BookView) (d : ℕ) (x : Unit {0}) → RefusesOnly (device_fault b d) (Ok x) → d < length b.names
@@ -142,6 +154,57 @@ closed_holds why names place history old next long closes held = (held.0, (close
 pub heard_holds : (exact : Bool) (known : ReplyDataView) (place : ℕ) (piece : List ℕ) (names : List (List ℕ)) (history : List Report) (old next : MemberView) → length history ≡ place
     → Inputs exact known names place piece old next → SessionHolds names history old.session → SessionHolds names history next.session
 heard_holds exact known place piece names history old next long inputs held = (_, (inputs.puts.gains (line_for names) history held.0 long held.1).holding)
+
+-- a session heard a piece of its input
+pub record Hears (exact : Bool) (s place : ℕ) (piece : List ℕ) (b : BookView) (members : List MemberView) : Type 0 where
+  pub holds : BookHolds (record { names = b.names; log = b.log; sessions = members; units = b.units })
+  pub session : (before : List Entry) → StandsFor b.log.opening before
+      → Changes s (Inputs exact (known_in (length b.names) (before ++ b.log.log)) b.names place piece) b.sessions members
+
+hears : (exact : Bool) (b : BookView) (s place : ℕ) (piece : List ℕ) (members : List MemberView) → BookHolds b → s < length b.sessions → place ≡ b.log.length
+    → ((before : List Entry) → StandsFor b.log.opening before → Changes s (Inputs exact (known_in (length b.names) (before ++ b.log.log)) b.names place piece) b.sessions members)
+    → Hears exact s place piece b members
+hears exact b s place piece members held within place_is session =
+    let known = known_in (length b.names) (held.log.some.0 ++ b.log.log) in
+    record {
+      holds = one_changed (Inputs exact known b.names place piece) b s place members (heard_holds exact known place piece b.names) held within place_is (session held.log.some.0 held.log.some.1);
+      session = session;
+    }
+
+-- by what the requests of the piece ask for
+pub hears_requests : (exact polls : Bool) (b : BookView) (s place : ℕ) (piece : List ℕ) (known : ReplyDataView) (requests : List RawCommand) (cutter : CommandCutterView) (members : List MemberView)
+    → BookHolds b → s < length b.sessions → place ≡ b.log.length → (polls ≡ false → list_any is_poll requests ≡ false)
+    → ((before : List Entry) → StandsFor b.log.opening before → known ≡ shown_in polls (length b.names) (before ++ b.log.log))
+    → ((free : MemberView) → IsCut piece (get_or b.sessions s free) requests cutter)
+    → Changes s (AnswersCut exact known b.names place requests cutter) b.sessions members → Hears exact s place piece b members
+hears_requests exact polls b s place piece known requests cutter members held within place_is none known_is cut answers =
+    hears exact b s place piece members held within place_is (λ before stands.
+    let log = before ++ b.log.log in
+    let full = known_in (length b.names) log in (
+      answers.0,
+      answers.1,
+      λ free.
+          let old = get_or b.sessions s free in
+          heard exact known full b.names place piece requests cutter old answers.0 (cut free)
+          (ap (λ k. answered k b.names old.session.policy requests) (known_is before stands) ∙ shown_answers polls (length b.names) log b.names old.session.policy requests none)
+          (answers.2 free),
+    ))
+
+pub nothing : {A : Type 0} (xs : List A) → length xs ≡ 0 → xs ≡ []
+nothing [] none = refl
+nothing (x ∷ xs) none = absurd (omega (arith, none))
+
+-- one that ends no request
+pub hears_on : (exact : Bool) (b : BookView) (s place : ℕ) (piece : List ℕ) (requests : List RawCommand) (cutter : CommandCutterView) (members : List MemberView)
+    → BookHolds b → s < length b.sessions → place ≡ b.log.length → IsOpenAt s b.sessions → requests ≡ []
+    → ((free : MemberView) → IsCut piece (get_or b.sessions s free) requests cutter)
+    → Changes s (λ x y. y ≡ with_cutter cutter x) b.sessions members → Hears exact s place piece b members
+hears_on exact b s place piece requests cutter members held within place_is is_open none cut goes =
+    hears exact b s place piece members held within place_is (λ before stands. (
+      goes.0,
+      goes.1,
+      λ free. heard_on exact (known_in (length b.names) (before ++ b.log.log)) b.names place piece requests cutter (get_or b.sessions s free) goes.0 (cut free) none (is_open free) (goes.2 free),
+    ))
 
 shut_by_holds : (c : Option (ℕ × Close)) (why : Close) (names : List (List ℕ)) (place : ℕ) (history : List Report) (old next : MemberView) → length history ≡ place → ShutsBy c place why old next
     → SessionHolds names history old.session → SessionHolds names history next.session

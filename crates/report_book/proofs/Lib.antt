@@ -3,4 +3,5 @@ pub mod Adding
 pub mod Turning
 pub mod Changing
 pub mod Reading
+pub mod Ending
 pub mod Calls

@@ -1,6 +1,6 @@
 -- What is read of the devices, one after another.
 use Rattle.std.proofs.Common.{◌≡◌, ◌<◌, ◌≤◌, ◌+◌, ℕ, zero, suc, Bool, true, false, refl, sym, ap, ◌∙◌, subst, List, [], ◌∷◌, ◌++◌, length, map, append-nil, Option, Some, None, ◌&&◌, nat_lt, nat_eq, cond, is_some, option_map, arith}
-use Rattle.std.specs.List.{flat_map, list_all, range_with_len}
+use Rattle.std.specs.List.{flat_map, list_all, list_any, range_with_len}
 use Rattle.std.specs.Option.{option_to_list}
 use Rattle.std.proofs.lemmas.Bool.{lt-ltb}
 use Rattle.std.proofs.lemmas.List.Folds.{list_all-append}
@@ -16,11 +16,45 @@ use Rattle.book_log.specs.History.{active, history}
 use Rattle.book_log.specs.DeviceLogView.{DeviceLogView, LogHolds}
 use Rattle.book_log.specs.Readings.{last_fix, last_sky, last_stamp}
 use Rattle.book_log.specs.Standing.{StandsFor}
+use Rattle.book_replies.specs.Polling.{is_poll, without_reports}
+use Rattle.book_replies.specs.Replies.{answered}
 use Rattle.book_replies.specs.ReplyDataView.{AreOfDevices, ReplyDataView}
-use Rattle.report_book.specs.Knowing.{AreRead, fix_of, fix_reports, known_in, sky_of, sky_reports}
+use Rattle.book_replies.proofs.Polls.{polls_alone}
+use Rattle.gps_command.specs.declared.request.RawCommand.{RawCommand}
+use Rattle.gps_report.specs.declared.policy.Policy.{Policy}
+use Rattle.report_book.specs.Knowing.{AreRead, fix_of, fix_reports, known_in, shown_in, sky_of, sky_reports}
 
 pub none_read : (log : List Entry) → AreRead 0 log [] [] []
 none_read log = record { firsts_are = refl; fixes_are = refl; skies_are = refl }
+
+-- one more stamp
+pub stamp_read : (n : ℕ) (log : List Entry) (firsts : List (Option Moment)) (first : Option Moment) → firsts ≡ map (λ d. active d log) (range_with_len 0 n) → first ≡ active n log
+    → firsts ++ first ∷ [] ≡ map (λ d. active d log) (range_with_len 0 (n + 1))
+stamp_read n log firsts first read one =
+    ap (λ l. l ++ first ∷ []) read ∙ ap (λ x. map (λ d. active d log) (range_with_len 0 n) ++ x ∷ []) one
+    ∙ sym (map-range_with_len_more (λ d. active d log) 0 n n (omega arith))
+
+pub stamps_long : (n : ℕ) (log : List Entry) (firsts : List (Option Moment)) → firsts ≡ map (λ d. active d log) (range_with_len 0 n) → length firsts ≡ n
+stamps_long n log firsts read = ap length read ∙ length-map-range_with_len (λ d. active d log) 0 n
+
+-- what was read without reports
+pub read_stamps : (n : ℕ) (log : List Entry) (known : ReplyDataView) → known.firsts ≡ map (λ d. active d log) (range_with_len 0 n) → known.last ≡ last_stamp log → known.fixes ≡ [] → known.skies ≡ []
+    → known ≡ without_reports (known_in n log)
+read_stamps n log known firsts last fixes skies =
+    let stamps = map (λ d. active d log) (range_with_len 0 n) in
+    let by_firsts : known ≡ record { firsts = stamps; last = known.last; fixes = known.fixes; skies = known.skies } =
+    ap (λ (f : List (Option Moment)). record { firsts = f; last = known.last; fixes = known.fixes; skies = known.skies }) firsts in
+    let by_last : known ≡ record { firsts = stamps; last = last_stamp log; fixes = known.fixes; skies = known.skies } =
+    by_firsts ∙ ap (λ (l : Option Moment). record { firsts = stamps; last = l; fixes = known.fixes; skies = known.skies }) last in
+    let by_fixes : known ≡ record { firsts = stamps; last = last_stamp log; fixes = []; skies = known.skies } =
+    by_last ∙ ap (λ (f : List Report). record { firsts = stamps; last = last_stamp log; fixes = f; skies = known.skies }) fixes in
+    by_fixes ∙ ap (λ (s : List Report). record { firsts = stamps; last = last_stamp log; fixes = []; skies = s }) skies
+
+-- where no request polls, the answers are those by all that is known
+pub shown_answers : (polls : Bool) (count : ℕ) (log : List Entry) (names : List (List ℕ)) (policy : Policy) (requests : List RawCommand) → (polls ≡ false → list_any is_poll requests ≡ false)
+    → answered (shown_in polls count log) names policy requests ≡ answered (known_in count log) names policy requests
+shown_answers true count log names policy requests none = refl
+shown_answers false count log names policy requests none = polls_alone (known_in count log) names policy requests (none refl)
 
 all_same : (l : List ℕ) → map (λ (x : ℕ). x) l ≡ l
 all_same [] = refl

@@ -11,6 +11,7 @@ use Rattle.gps_report.specs.declared.report.Report.{Report}
 use Rattle.book_log.specs.Entries.{Entry}
 use Rattle.book_log.specs.History.{active, history}
 use Rattle.book_log.specs.Readings.{last_fix, last_sky, last_stamp}
+use Rattle.book_replies.specs.Polling.{without_reports}
 use Rattle.book_replies.specs.ReplyDataView.{ReplyDataView}
 
 -- the last fix of device d, where it is active
@@ -26,7 +27,7 @@ fix_of log d = fix_reports d (is_some (active d log)) (last_fix d (history log))
 abbrev pub sky_of : List Entry → ℕ → List Report
 sky_of log d = sky_reports d (is_some (active d log)) (last_sky d (history log))
 
--- of so many devices
+-- of the given number of devices
 abbrev pub known_in : ℕ → List Entry → ReplyDataView
 known_in count log = record {
   firsts = map (λ d. active d log) (range_with_len 0 count);
@@ -35,7 +36,11 @@ known_in count log = record {
   skies = flat_map (sky_of log) (range_with_len 0 count);
 }
 
--- so many devices were read
+-- what replies show: with fixes and skies only if they are asked for
+abbrev pub shown_in : Bool → ℕ → List Entry → ReplyDataView
+shown_in polls count log = cond polls (known_in count log) (without_reports (known_in count log))
+
+-- the first `count` devices were read
 pub record AreRead (count : ℕ) (log : List Entry) (firsts : List (Option Moment)) (fixes skies : List Report) : Type 0 where
   pub firsts_are : firsts ≡ map (λ d. active d log) (range_with_len 0 count)
   pub fixes_are : fixes ≡ flat_map (fix_of log) (range_with_len 0 count)

@@ -1,4 +1,4 @@
--- Why a book refuses a call: exactly by its numbers, in this order, and last for want of memory.
+-- Why a book refuses a call: exactly by its numbers, in this order, and last when out of memory.
 use Rattle.std.specs.Prelude.{◌≡◌, ◌*◌, ℕ, Bool, true, cond, List, length, get_or, slice_get, nat_lt, nat_eq, ◌||◌, Option, Some, None, option_and_then, is_some, Result, Err, IfErr, IsOk}
 use Rattle.book_log.specs.DeviceLogView.{stopped_of}
 use Rattle.book_sessions.specs.Roster.{live_in, most_live, most_opened}
@@ -32,7 +32,7 @@ crowd_fault b =
     (Some (TooManySessions (live_in b.sessions) (length b.sessions)))
     None
 
--- refused by this fault, where there is one, and else by nothing but want of memory
+-- refused by this fault, where there is one, and else only out of memory
 abbrev pub RefusesAs : {X : Type 0} → Option BookFault → Result X BookFault → Type 0
 RefusesAs (Some fault) result = result ≡ Err fault
 RefusesAs None result = IfErr result (λ f. f ≡ NoMemory)

@@ -1,29 +1,26 @@
-ghost use Rattle.std.specs.Prelude.{◌≡◌, ◌≤◌, ◌<◌, ◌+◌, ◌*◌, ◌^◌, ◌++◌, ◌⊎◌, map, ℕ, true, false, List, [], ◌∷◌, length, count_by, cond, get_or, slice_get, option_map, option_and_then, Some, None, IfOk, IfErr, IfSome, OnOk, OnErr, IfNone, drop, nat_lt};
-ghost use Rattle.std.specs.List.{All, AllZip, list_all};
+ghost use Rattle.std.specs.Prelude.{◌≡◌, ◌≤◌, ◌<◌, ◌+◌, ◌*◌, ◌++◌, ◌⊎◌, ℕ, true, false, List, [], length, count_by, get_or, slice_get, option_map, option_and_then, Some, None, IfOk, IfErr, OnOk, OnErr, IfNone};
+ghost use Rattle.std.specs.List.{All, list_all};
 ghost use Rattle.std.specs.Arc.{arc_value};
 ghost use Rattle.std.specs.Option.{option_to_list};
 ghost use Rattle.session_core.specs.declared.mark.Close.{Close as CloseValue};
 ghost use Rattle.shm_segment.specs.Publishing.{noticed};
 ghost use Rattle.book_log.specs.Entries.{edged, ended, fed, lost};
 ghost use Rattle.book_log.specs.DeviceLogView.{turns_at};
-ghost use Rattle.book_log.specs.Standing.{has_stopped};
-ghost use Rattle.book_batch.specs.Lines.{line_for};
-ghost use Rattle.book_batch.specs.Sharing.{AreNamed, SharesLines, shares_of};
-ghost use Rattle.book_sessions.specs.MemberView.{MemberView, renewed};
-ghost use Rattle.book_sessions.specs.Roster.{IsAfterAll, MemberTurns, listening_in, live_in, was_watched};
-ghost use Rattle.book_sessions.specs.Spreading.{Spreads};
-ghost use Rattle.book_units.specs.Changes.{EachUnit, UnitGains, UnitTurns, turned as turned_unit};
-ghost use Rattle.book_units.specs.Samples.{samples_of};
+ghost use Rattle.book_log.specs.Standing.{DevicesGoOn, has_stopped};
+ghost use Rattle.book_sessions.specs.MemberView.{MemberView};
+ghost use Rattle.book_sessions.specs.Roster.{live_in, was_watched};
 ghost use Rattle.book_units.specs.Steps.{BearsOut, state_of};
-ghost use Rattle.book_units.specs.Units.{UnitView, HasRoom, IsInOrder, IsUnit, segment_of};
-ghost use Rattle.report_book.specs.BookView.{renewed_if, turned_if, units_turned_if};
+ghost use Rattle.book_units.specs.Units.{UnitView, IsInOrder, IsUnit, segment_of};
+ghost use Rattle.report_book.specs.BookView.{turned_if};
 ghost use Rattle.report_book.specs.Moves.{AddsQuietly, Admits, Earns, HangsUp, AnswersRequests, IsNewBook, Moves, PublishesAt, ShutsAll, TakesFirst};
 ghost use Rattle.report_book.specs.Refusals.{RefusesAs, RefusesOnly, RefusesWith, crowd_fault, device_fault, missing_session, missing_unit, session_fault};
 ghost use Rattle.report_book.specs.Standing.{BookHolds};
 
 use crate::fault::BookFault;
 use crate::knowing::known;
-use book_log::{Addition, DeviceLog};
+use crate::placing::put;
+use book_log::DeviceLog;
+use book_replies::may_poll;
 use book_sessions::Roster;
 use book_units::{UnitState, UnitStep, Units};
 use gps_fixed::{NoMemory, Stamp};
@@ -34,8 +31,11 @@ use std::alloc::Global;
 use std::marker::Model;
 use std::sync::Arc;
 
-/// A call adds at most so many samples to a unit.
-const MOST_SAMPLES: usize = 2568;
+/// The most samples that a piece of bytes adds to a unit.
+const MOST_OF_PIECE: usize = 2568;
+
+/// The most that an edge adds.
+const MOST_OF_EDGE: usize = 1;
 
 /// The devices of a daemon, its one history, its sessions, and its units.
 ///
@@ -60,43 +60,6 @@ impl<O: Outlet> Model for Book<O> {
     ghost view = { λ b. record { names = b.names; log = b.log; sessions = b.roster; units = b.units.units } };
 
     ghost invariant = { λ b. BookHolds (record { names = b.names; log = b.log; sessions = b.roster; units = b.units.units }) };
-}
-
-/// Begins a new generation of the sessions and the units, where one is due. Takes no memory.
-fn turn_if<O: Outlet>(turns: bool, roster: &mut Roster<O>, units: &mut Units)
-    ensures sessions { roster.new ≡ renewed_if turns roster.old }
-    ensures turned { turns ≡ true → AllZip MemberTurns roster.old (map renewed roster.old) }
-    ensures units { units.new.units ≡ units_turned_if turns units.old.units }
-    ensures carried { turns ≡ true → EachUnit (λ _. UnitTurns) units.old.units (map turned_unit units.old.units) }
-    ensures room { units.new.spare ≡ units.old.spare }
-{
-    if turns {
-        roster.turn();
-        units.turn();
-    }
-}
-
-/// Puts in place what came: a new generation where one began, then the samples, then the lines. Takes no memory.
-fn put<O: Outlet>(roster: &mut Roster<O>, units: &mut Units, names: &Names, added: Addition)
-    requires shares { listening_in roster.old ≤ shares_of added.batch }
-    requires after { IsAfterAll added.first (renewed_if added.turned roster.old) }
-    requires few { added.first + length added.batch.reports < 2 ^ 63 }
-    requires named { AreNamed names.now added.batch.reports }
-    requires lines { SharesLines names.now added.batch }
-    requires room { HasRoom units.old.spare added.batch.reports }
-    ensures turned { added.turned ≡ true → AllZip MemberTurns roster.old (map renewed roster.old) }
-    ensures carried { added.turned ≡ true → EachUnit (λ _. UnitTurns) units.old.units (map turned_unit units.old.units) }
-    ensures sessions { AllZip (Spreads O.exact (line_for names.now) added.first added.batch.reports) (renewed_if added.turned roster.old) roster.new }
-    ensures units { EachUnit (λ u. UnitGains (samples_of u added.batch.reports)) (units_turned_if added.turned units.old.units) units.new.units }
-{
-    let Addition {
-        turned,
-        first,
-        batch,
-    } = added;
-    turn_if(turned, roster, units);
-    units.add_all(batch.reports());
-    roster.spread(first, batch, names);
 }
 
 impl<O: Outlet> Book<O> {
@@ -179,10 +142,11 @@ impl<O: Outlet> Book<O> {
         ensures fed { OnOk result (Moves O.exact (turns_at self.old.log (length bytes.now)) self.old self.new (fed d at bytes.now)) }
         ensures earns { OnOk result (Earns (turned_if (turns_at self.old.log (length bytes.now)) self.old) self.new (fed d at bytes.now)) }
         ensures refusal { RefusesAs (device_fault self.old d) result }
+        ensures limit { self.new.log.limit ≡ self.old.log.limit }
         ensures unchanged { OnErr result (self.new ≡ self.old) }
     {
         self.check_device(d)?;
-        self.units.reserve(d, MOST_SAMPLES)?;
+        self.units.reserve(d, MOST_OF_PIECE)?;
         let shares = self.roster.listening();
         let added = self.log.feed(d, at, bytes, &self.names, shares)?;
         put(&mut self.roster, &mut self.units, &self.names, added);
@@ -194,25 +158,26 @@ impl<O: Outlet> Book<O> {
         ensures edged { OnOk result (Moves O.exact (turns_at self.old.log 1) self.old self.new (edged d edge)) }
         ensures earns { OnOk result (Earns (turned_if (turns_at self.old.log 1) self.old) self.new (edged d edge)) }
         ensures refusal { RefusesAs (device_fault self.old d) result }
+        ensures limit { self.new.log.limit ≡ self.old.log.limit }
         ensures unchanged { OnErr result (self.new ≡ self.old) }
     {
         self.check_device(d)?;
-        self.units.reserve(d, MOST_SAMPLES)?;
+        self.units.reserve(d, MOST_OF_EDGE)?;
         let shares = self.roster.listening();
         let added = self.log.edge(d, &edge, &self.names, shares)?;
         put(&mut self.roster, &mut self.units, &self.names, added);
         Ok(())
     }
 
-    /// Ends a device: its running epoch is closed, and then it is announced that it has ended.
+    /// Ends a device: its running epoch is closed, and then it is announced that it has ended. No unit is given a sample.
     pub fn end_device(&mut self, d: u8) -> Result<(), BookFault>
         ensures ended { OnOk result (Moves O.exact false self.old self.new (ended d)) }
         ensures earns { OnOk result (Earns self.old self.new (ended d)) }
         ensures refusal { RefusesAs (device_fault self.old d) result }
+        ensures limit { self.new.log.limit ≡ self.old.log.limit }
         ensures unchanged { OnErr result (self.new ≡ self.old) }
     {
         self.check_device(d)?;
-        self.units.reserve(d, MOST_SAMPLES)?;
         let shares = self.roster.listening();
         let added = self.log.end_device(d, &self.names, shares)?;
         put(&mut self.roster, &mut self.units, &self.names, added);
@@ -224,6 +189,7 @@ impl<O: Outlet> Book<O> {
         ensures lost { OnOk result (AddsQuietly self.old self.new (lost d)) }
         ensures earns { OnOk result (Earns self.old self.new (lost d)) }
         ensures refusal { RefusesOnly (device_fault self.old d) result }
+        ensures limit { self.new.log.limit ≡ self.old.log.limit }
         ensures unchanged { OnErr result (self.new ≡ self.old) }
     {
         self.check_device(d)?;
@@ -235,10 +201,12 @@ impl<O: Outlet> Book<O> {
     pub fn admit(&mut self, outlet: O) -> Result<u32, (O, BookFault)>
         requires empty { O.kept outlet ≡ [] }
         requires cap { 1 ≤ O.cap outlet }
+        requires takes { O.takes outlet }
         ensures number { IfOk result (λ s. s ≡ length self.old.sessions) }
         ensures admits { OnOk result (Admits (O.name outlet) (O.cap outlet) self.old self.new) }
         ensures refusal { RefusesWith (crowd_fault self.old) result }
         ensures outlet { IfErr result (λ refusal. refusal.0 ≡ outlet) }
+        ensures limit { self.new.log.limit ≡ self.old.log.limit }
         ensures unchanged { OnErr result (self.new ≡ self.old) }
     {
         match self.roster.admit(outlet, self.log.place()) {
@@ -253,12 +221,19 @@ impl<O: Outlet> Book<O> {
         requires piece { length piece.now ≤ 512 }
         ensures hears { OnOk result (AnswersRequests O.exact s piece.now self.old self.new) }
         ensures refusal { RefusesAs (session_fault self.old s) result }
+        ensures limit { self.new.log.limit ≡ self.old.log.limit }
         ensures unchanged { OnErr result (self.new ≡ self.old) }
     {
         self.check_session(s)?;
-        let known = known(self.alloc, &self.log, &self.names)?;
+        let cut = self.roster.cut(s, piece)?;
+        if cut.requests.is_empty() {
+            self.roster.go_on(s, cut);
+            return Ok(());
+        }
+        let polls = may_poll(cut.requests.as_slice());
+        let known = known(self.alloc, &self.log, &self.names, polls)?;
         let place = self.log.place();
-        self.roster.input(s, place, &known, &self.names, piece)?;
+        self.roster.input(s, place, &known, &self.names, cut)?;
         Ok(())
     }
 
@@ -267,6 +242,7 @@ impl<O: Outlet> Book<O> {
         requires why { (why ≡ CloseValue.HungUp) ⊎ (why ≡ CloseValue.ReadFault) ⊎ (why ≡ CloseValue.NoMemory) }
         ensures hangs_up { OnOk result (HangsUp s why self.old self.new) }
         ensures refusal { RefusesOnly (session_fault self.old s) result }
+        ensures limit { self.new.log.limit ≡ self.old.log.limit }
         ensures unchanged { OnErr result (self.new ≡ self.old) }
     {
         self.check_session(s)?;
@@ -279,6 +255,7 @@ impl<O: Outlet> Book<O> {
     pub fn publish_step(&mut self, u: u8) -> Result<UnitStep, BookFault>
         ensures publishes { IfOk result (λ step. PublishesAt u step self.old self.new) }
         ensures refusal { RefusesOnly (missing_unit self.old u) result }
+        ensures limit { self.new.log.limit ≡ self.old.log.limit }
         ensures unchanged { OnErr result (self.new ≡ self.old) }
     {
         self.check_unit(u)?;
@@ -395,10 +372,11 @@ impl<O: Outlet> Book<O> {
         }
     }
 
-    /// What always holds of a book. Of each unit the samples since the last turn are the published ones, and then those that are
-    /// left, in order.
+    /// What always holds of a book. A device that has not stopped stands for each stream that its opening stands for, followed by its
+    /// symbols since. Of each unit the samples since the last turn are the published ones, and then those that are left, in order.
     pub fn show(&self)
         ensures holds { BookHolds self.now }
+        ensures devices { DevicesGoOn self.now.log.opening self.now.log.present self.now.log.log }
         ensures order { All IsInOrder self.now.units }
         ensures units { All IsUnit self.now.units }
     {
@@ -412,6 +390,7 @@ impl Book<PlainOutlet> {
         ensures item { IfOk result (λ item. (free : MemberView) → item ≡ slice_get (get_or self.old.sessions s free).session.kept 0) }
         ensures takes { OnOk result (TakesFirst s self.old self.new) }
         ensures refusal { RefusesOnly (missing_session self.old s) result }
+        ensures limit { self.new.log.limit ≡ self.old.log.limit }
         ensures unchanged { OnErr result (self.new ≡ self.old) }
     {
         self.check_exists(s)?;

@@ -1,13 +1,16 @@
-ghost use Rattle.std.specs.Prelude.{◌≡◌, ◌++◌, List, IfOk, OnOk, length};
+ghost use Rattle.std.specs.Prelude.{◌≡◌, ◌++◌, List, IfOk, OnOk, length, map};
+ghost use Rattle.std.specs.List.{range_with_len};
 ghost use Rattle.std.specs.Option.{option_copied};
 ghost use Rattle.book_log.specs.Entries.{Entry};
+ghost use Rattle.book_log.specs.History.{active};
 ghost use Rattle.book_log.specs.DeviceLogView.{LogHolds};
 ghost use Rattle.book_log.specs.Standing.{StandsFor};
-ghost use Rattle.report_book.specs.Knowing.{fix_reports, known_in, sky_reports};
+ghost use Rattle.book_replies.specs.Polling.{without_reports};
+ghost use Rattle.report_book.specs.Knowing.{fix_reports, known_in, shown_in, sky_reports};
 
 use book_log::DeviceLog;
 use book_replies::ReplyData;
-use gps_fixed::NoMemory;
+use gps_fixed::{NoMemory, Stamp};
 use gps_report::{Body, Fix, Names, Report, Sky};
 use std::alloc::Global;
 
@@ -47,9 +50,35 @@ fn push_sky(
     Ok(())
 }
 
-/// What replies show of the devices now.
+/// Of each device the stamp of its first byte, where it is active.
+fn stamps(alloc: Global, log: &DeviceLog, names: &Names) -> Result<Vec<Option<Stamp>>, NoMemory>
+    requires { length names.now ≡ length log.now.present.lines }
+    ensures { IfOk result (λ firsts. (before : List Entry) → StandsFor log.now.opening before
+        → firsts.items ≡ map (λ d. active d (before ++ log.now.log)) (range_with_len 0 (length names.now))) }
+{
+    let mut firsts = Vec::with_capacity(alloc, names.len())?;
+    'devices: for device in 0..names.len() as u8 {
+        firsts.push(log.active(device))?;
+    }
+    Ok(firsts)
+}
+
+/// What replies other than those to POLL show of the devices now.
+fn stamps_known(alloc: Global, log: &DeviceLog, names: &Names) -> Result<ReplyData, NoMemory>
+    requires named { length names.now ≡ length log.now.present.lines }
+    requires holds { LogHolds log.now }
+    ensures known { IfOk result (λ known. (before : List Entry) → StandsFor log.now.opening before
+        → known ≡ without_reports (known_in (length names.now) (before ++ log.now.log))) }
+    ensures count { IfOk result (λ known. length known.firsts ≡ length names.now) }
+{
+    let firsts = stamps(alloc, log, names)?;
+    let last = log.last_stamp();
+    Ok(ReplyData::of(firsts, last, Vec::new(alloc), Vec::new(alloc)))
+}
+
+/// All that replies show of the devices now.
 #[tactic(auto, using(crate::proofs::Reading::none_read, crate::proofs::Reading::one_more_read))]
-pub fn known(alloc: Global, log: &DeviceLog, names: &Names) -> Result<ReplyData, NoMemory>
+fn all_known(alloc: Global, log: &DeviceLog, names: &Names) -> Result<ReplyData, NoMemory>
     requires named { length names.now ≡ length log.now.present.lines }
     requires holds { LogHolds log.now }
     ensures known { IfOk result (λ known. (before : List Entry) → StandsFor log.now.opening before
@@ -67,4 +96,24 @@ pub fn known(alloc: Global, log: &DeviceLog, names: &Names) -> Result<ReplyData,
         push_sky(&mut skies, device, is_active, log.last_sky(device))?;
     }
     Ok(ReplyData::of(firsts, log.last_stamp(), fixes, skies))
+}
+
+/// What replies show of the devices now, their last fixes and skies only where `polls` is true.
+pub fn known(
+    alloc: Global,
+    log: &DeviceLog,
+    names: &Names,
+    polls: bool,
+) -> Result<ReplyData, NoMemory>
+    requires named { length names.now ≡ length log.now.present.lines }
+    requires holds { LogHolds log.now }
+    ensures known { IfOk result (λ known. (before : List Entry) → StandsFor log.now.opening before
+        → known ≡ shown_in polls (length names.now) (before ++ log.now.log)) }
+    ensures count { IfOk result (λ known. length known.firsts ≡ length names.now) }
+{
+    if polls {
+        all_known(alloc, log, names)
+    } else {
+        stamps_known(alloc, log, names)
+    }
 }

@@ -8,6 +8,7 @@
 mod book;
 mod fault;
 mod knowing;
+mod placing;
 
 pub use book::Book;
 pub use book_batch::Batch;

@@ -21,7 +21,7 @@ const UNITS: u8 = 16;
 #[derive(Drop)]
 pub struct Served<W: World, R: Wait + Copy> {
     pub status: u8,
-    /// None where nothing was served: something could not be opened, memory was wanting before the threads had begun, or there was no
+    /// None where nothing was served: something could not be opened, it was out of memory before the threads had begun, or there was no
     /// thread for the door or the publisher.
     pub book: Option<Book<Tx<Item, R>>>,
     pub devices: Vec<DeviceDone<W::In, R>>,
@@ -31,7 +31,7 @@ pub struct Served<W: World, R: Wait + Copy> {
     pub world: W,
     /// How many links were dropped because too many sessions were there; at its greatest value it stays there.
     pub full: u64,
-    /// Whether want of memory was met.
+    /// Whether it was out of memory.
     pub no_memory: bool,
 }
 

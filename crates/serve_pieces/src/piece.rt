@@ -13,7 +13,7 @@ pub enum Ending {
     End,
     /// It failed.
     Failed,
-    /// Its reader met want of memory.
+    /// Its reader was out of memory.
     NoMemory,
 }
 

@@ -2,11 +2,11 @@
 use Rattle.std.specs.Prelude.{◌≡◌, ℕ, ◌≤◌, List, Option}
 use Rattle.gps_lane.specs.Ends.{Taking}
 use Rattle.gps_outside.specs.Counts.{Rose}
-use Rattle.gps_outside.specs.Told.{Stream}
+use Rattle.gps_outside.specs.Told.{Goes, Stream}
 use Rattle.serve_pieces.specs.Carried.{input_part}
 use Rattle.serve_workers.specs.declared.writer.WriterEnd.{WriterEnd}
 use Rattle.serve_workers.specs.declared.writer.WriterEnd.TheVariants.{WriteFault}
-use Rattle.serve_workers.specs.Readings.{IsInputPiece}
+use Rattle.serve_workers.specs.Readings.{IsInputPiece, WasRead}
 use Rattle.serve_workers.specs.Writing.{Writes}
 use Rattle.serve_threads.specs.declared.session.SessionLink.{SessionLink}
 use Rattle.serve_threads.specs.declared.session.LinkDone.{LinkDone}
@@ -19,8 +19,9 @@ pub record Wrote (end : WriterEnd) (rx rx' : Taking (List ℕ)) (before after : 
   pub faults_stay : faults ≤ faults'
   pub failed : end ≡ WriteFault → Rose faults faults'
 
--- both did their work on this link
+-- both did their work on this link, whose source was read at least once
 pub record SessionRuns {S K R : Type 0} (content : S → Option Stream) (faults quiets : S → ℕ) (written : K → Option (List ℕ)) (sink_faults : K → ℕ) (link : SessionLink S K R) (run : LinkDone S K R) : Type 0 where
   pub reads : Reads input_part IsInputPiece run.reader.ending link.pieces run.reader.pieces (content link.source) (content run.reader.source)
       (counts (faults link.source) (quiets link.source)) (counts (faults run.reader.source) (quiets run.reader.source))
+  pub read : Goes (WasRead (faults run.reader.source) (quiets run.reader.source)) (content link.source) (content run.reader.source)
   pub wrote : Wrote run.writer.end link.items run.writer.items (written link.sink) (written run.writer.sink) (sink_faults link.sink) (sink_faults run.writer.sink)

@@ -42,10 +42,10 @@ impl Alone {
         self.is.store(true, Ordering::SeqCst);
     }
 
-    /// How long to read.
+    /// How much to read.
     pub fn span(&self) -> Span {
         if self.is.load(Ordering::SeqCst) {
-            Span::Once
+            Span::Nothing
         } else {
             Span::Whole
         }
@@ -118,7 +118,7 @@ impl Bells {
 
 /// The bells of a session's two threads, whether one of them could not be started, and whether its writer and both have ended.
 ///
-/// The reader is told to end only once the writer has ended, which lets go of the link: a read that comes then finds the link's end, and so
+/// The reader is told to end only once the writer has ended, which closes the link: a read that comes then finds the link's end, and so
 /// its file is closed.
 #[derive(Drop)]
 pub struct SessionBells {

@@ -37,7 +37,7 @@ pub struct ReadingsDone {
     pub whole: bool,
 }
 
-/// A monitor promises that it made so many readings of this segment.
+/// A monitor promises that it made the given number of readings of this segment.
 #[derive(Drop)]
 pub struct MonitorPromise {
     pub segment: Snapshot<Arc<Segment>>,

@@ -1,6 +1,7 @@
-ghost use Rattle.std.specs.Prelude.{◌≡◌};
+ghost use Rattle.std.specs.Prelude.{◌≡◌, true};
 ghost use Rattle.serve_pieces.specs.Carried.{device_part, input_part};
-ghost use Rattle.serve_workers.specs.Readings.{IsDevicePiece, IsInputPiece};
+ghost use Rattle.gps_outside.specs.Told.{Goes};
+ghost use Rattle.serve_workers.specs.Readings.{IsDevicePiece, IsInputPiece, WasRead};
 ghost use Rattle.serve_threads.specs.Reading.{Reads, ReadsLines, counts};
 
 use crate::bells::Alone;
@@ -36,7 +37,9 @@ impl<S: Source, R, D: Dials> Promise<ReaderDone<S, R>> for DeviceReading<S, R, D
     ghost use Rattle.serve_workers.specs.Readings.{IsDevicePiece};
     ghost use Rattle.serve_threads.specs.Reading.{Reads, counts};
 
-    ghost kept_by = { λ p r. Reads device_part (IsDevicePiece D.may) r.ending p.pieces.value r.pieces (S.content p.source.value) (S.content r.source) (counts (S.faults p.source.value) (S.quiets p.source.value)) (counts (S.faults r.source) (S.quiets r.source)) };
+    ghost kept_by = { λ p r. Reads device_part (IsDevicePiece D.may) r.ending p.pieces.value r.pieces
+        (S.content p.source.value) (S.content r.source)
+        (counts (S.faults p.source.value) (S.quiets p.source.value)) (counts (S.faults r.source) (S.quiets r.source)) };
 }
 
 /// An edge reader promises that it put the lines that it took from this source into this lane.
@@ -49,10 +52,13 @@ pub struct EdgeReading<S: Source, R> {
 impl<S: Source, R> Promise<ReaderDone<S, R>> for EdgeReading<S, R> {
     ghost use Rattle.serve_threads.specs.Reading.{ReadsLines, counts};
 
-    ghost kept_by = { λ p r. ReadsLines r.ending p.pieces.value r.pieces (S.content p.source.value) (S.content r.source) (counts (S.faults p.source.value) (S.quiets p.source.value)) (counts (S.faults r.source) (S.quiets r.source)) };
+    ghost kept_by = { λ p r. ReadsLines r.ending p.pieces.value r.pieces
+        (S.content p.source.value) (S.content r.source)
+        (counts (S.faults p.source.value) (S.quiets p.source.value)) (counts (S.faults r.source) (S.quiets r.source)) };
 }
 
-/// Reads a device to its end.
+/// Reads a device to its end, or not at all if it has no thread.
+#[tactic(auto, using(gps_lane::proofs::Closing::more_put))]
 pub fn device_reader<S: Source, C: Clock, D: Dials, R: Wait + Copy>(
     rt: &R,
     alloc: Global,
@@ -63,6 +69,7 @@ pub fn device_reader<S: Source, C: Clock, D: Dials, R: Wait + Copy>(
     alone: &Alone,
     pump: &Bell,
 ) -> ReaderDone<S, R>
+    requires open { pieces.is_open ≡ true }
     ensures { Reads device_part (IsDevicePiece D.may) result.ending pieces result.pieces (S.content source) (S.content result.source)
         (counts (S.faults source) (S.quiets source)) (counts (S.faults result.source) (S.quiets result.source)) }
 {
@@ -85,7 +92,8 @@ pub fn device_reader<S: Source, C: Clock, D: Dials, R: Wait + Copy>(
     }
 }
 
-/// Reads a session's requests to their end.
+/// Reads a session's requests to their end. Its source is read at least once.
+#[tactic(auto, using(gps_lane::proofs::Closing::more_put))]
 pub fn session_reader<S: Source, R: Wait + Copy>(
     rt: &R,
     alloc: Global,
@@ -95,8 +103,10 @@ pub fn session_reader<S: Source, R: Wait + Copy>(
     alone: &Alone,
     pump: &Bell,
 ) -> ReaderDone<S, R>
-    ensures { Reads input_part IsInputPiece result.ending pieces result.pieces (S.content source) (S.content result.source)
+    requires open { pieces.is_open ≡ true }
+    ensures reads { Reads input_part IsInputPiece result.ending pieces result.pieces (S.content source) (S.content result.source)
         (counts (S.faults source) (S.quiets source)) (counts (S.faults result.source) (S.quiets result.source)) }
+    ensures read { Goes (WasRead (S.faults result.source) (S.quiets result.source)) (S.content source) (S.content result.source) }
 {
     let mut source = source;
     let mut pieces = pieces;
@@ -127,6 +137,7 @@ pub fn start_device<
     alone: &'s Alone,
     pump: &'s Bell,
 ) -> Work<ReaderDone<S, R>, DeviceReading<S, R, D>>
+    requires open { pieces.is_open ≡ true }
     ensures source { result.source.value ≡ source }
     ensures pieces { result.pieces.value ≡ pieces }
 {
@@ -143,7 +154,8 @@ pub fn start_device<
     )
 }
 
-/// Reads the edges of a device to their end.
+/// Reads the edges of a device to their end, or not at all if it has no thread.
+#[tactic(auto, using(gps_lane::proofs::Closing::more_put))]
 pub fn edge_reader<S: Source, R: Wait + Copy>(
     rt: &R,
     alloc: Global,
@@ -153,6 +165,7 @@ pub fn edge_reader<S: Source, R: Wait + Copy>(
     alone: &Alone,
     pump: &Bell,
 ) -> ReaderDone<S, R>
+    requires open { pieces.is_open ≡ true }
     ensures { ReadsLines result.ending pieces result.pieces (S.content source) (S.content result.source) (counts (S.faults source) (S.quiets source))
         (counts (S.faults result.source) (S.quiets result.source)) }
 {
@@ -177,6 +190,7 @@ pub fn start_edges<'s, E, S: Source + Send + 's, R: Wait + Copy + Send + Sync + 
     alone: &'s Alone,
     pump: &'s Bell,
 ) -> Work<ReaderDone<S, R>, EdgeReading<S, R>>
+    requires open { pieces.is_open ≡ true }
     ensures source { result.source.value ≡ source }
     ensures pieces { result.pieces.value ≡ pieces }
 {

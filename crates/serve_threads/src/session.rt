@@ -1,4 +1,4 @@
-ghost use Rattle.std.specs.Prelude.{◌≡◌};
+ghost use Rattle.std.specs.Prelude.{◌≡◌, true};
 ghost use Rattle.serve_threads.specs.Sessions.{SessionRuns, Wrote};
 
 use crate::bells::SessionBells;
@@ -79,8 +79,8 @@ fn session_writer<K: Sink, R: Wait + Copy>(
     WriterDone { sink, items, end }
 }
 
-/// The work of a session: its writer in a thread of its own, its reader here. Where no thread can be started, one read is made, the session
-/// is told to end for want of memory, and then it is written what it was given.
+/// The work of a session: its writer in a thread of its own, its reader here. If no thread can be started, nothing of its requests is taken,
+/// without any wait; the session is told to end because it is out of memory, and then it is written what it was given.
 pub fn attend<
     's,
     E,
@@ -96,6 +96,7 @@ pub fn attend<
     writers: Arc<SessionBells>,
     pump: &'s Bell,
 ) -> LinkDone<S, K, R>
+    requires open { link.pieces.is_open ≡ true }
     ensures { SessionRuns S.content S.faults S.quiets K.written K.faults link result }
 {
     let SessionLink {
@@ -147,6 +148,7 @@ pub fn start_session<
     own: &SessionBells,
     pump: &'s Bell,
 ) -> Work<LinkDone<S, K, R>, Attending<S, K, R>>
+    requires open { link.pieces.is_open ≡ true }
     ensures { result.link.value ≡ link }
 {
     let promise = Attending {
@@ -155,7 +157,9 @@ pub fn start_session<
     start(
         scope,
         promise,
-        move || attend(rt, alloc, scope, link, bells, writers, pump),
+        move || -> LinkDone<S, K, R>
+            requires { link.pieces.is_open ≡ true }
+        { attend(rt, alloc, scope, link, bells, writers, pump) },
         move || own.alone.leave(),
     )
 }

@@ -124,7 +124,7 @@ lines_first bytes piece rest done lines split are =
           ∙ ap (λ l. l ++ map text_of later) are,
     )
 
--- the first lines of the piece, where memory was wanting
+-- the first lines of the piece, out of memory
 pub first_put : (bytes piece rest : List ℕ) (kept kept' : LineCutterView) (before now : List Piece)
     → Cuts bytes piece rest kept before now → PutsLines put.NoMemory bytes piece kept' before now
 first_put bytes piece rest kept kept' before now cuts = record {

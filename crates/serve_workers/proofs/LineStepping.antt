@@ -16,7 +16,7 @@ use Rattle.serve_workers.specs.declared.edges.Put.{Put}
 use Rattle.serve_workers.specs.declared.edges.Put.TheVariants as was
 use Rattle.serve_workers.specs.Readings.{last_piece}
 use Rattle.serve_workers.specs.EdgeLines.{edge_lines, last_edge_line, line_pieces, AreFirst, AreLinesOf, TookLines, HandsLines, CutsLines, PutsLines, PutsLast, TookTurn, LinesIn, StandsIn, EdgeLineSteps}
-use Rattle.serve_workers.proofs.Stepping.{pass_on, all_on, some_on}
+use Rattle.serve_workers.proofs.Stepping.{pass_on, all_on, some_on, stays}
 
 passed_some : (bytes : List ℕ) (x y : Stream) → Passes bytes x y → TakesSome bytes x y
 passed_some bytes x y p = record { rest = y.left; next = p.next; joins = p.joins; kept = inl refl }
@@ -247,14 +247,9 @@ pub ends_as : (ending ending' : Ending) (bytes : List ℕ) (kept : LineCutterVie
     → ending ≡ ending' → EdgeLineSteps (Over ending) bytes kept put put' before after → EdgeLineSteps (Over ending') bytes kept put put' before after
 ends_as ending ending' bytes kept put put' before after is turns = subst (λ (e : Ending). EdgeLineSteps (Over e) bytes kept put put' before after) is turns
 
--- a reading that ends although its source has not ended
-pub lines_broken_off : (bytes : List ℕ) (kept : LineCutterView) (put put' : List Piece) (before after : Option Stream)
-    → EdgeLineSteps On bytes kept put put' before after → EdgeLineSteps (Over NoMemory) bytes kept put put' before after
-lines_broken_off bytes kept put put' before after turns = record {
-  more = turns.more;
-  lines = turns.lines;
-  puts = turns.puts;
-  are = ([], turns.are ∙ sym (append-nil (edge_lines bytes ++ turns.lines)));
-  stands = tt;
-  took = goes_as (Passes turns.more) (TakesSome turns.more) before after (passed_some turns.more) turns.took;
-}
+-- memory was wanting for the reading, and only that was put
+pub lines_refused : (result : Option Ending) (put : List Piece) (now : Option Stream)
+    → IfSome result (λ said. said ≡ NoMemory) → HandsLines result put (put ++ last_piece result) now now
+lines_refused result put now same =
+    handed_lines result NoMemory put put now now same
+    (record { bytes = []; lines = []; puts = sym (append-nil put); are = (edge_lines [] ++ last_edge_line [], refl); took = stop_took now now (stays now) })

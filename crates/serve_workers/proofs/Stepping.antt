@@ -164,19 +164,41 @@ unsaid part P last put mid before after turns = record {
   took = took_less last (flat_map part turns.pieces) before after turns.took;
 }
 
-passed_more : (bytes : List ℕ) (x y : Stream) → Passes bytes x y → TakesMore bytes x y
-passed_more bytes x y p =
-    some_more bytes x y (record { rest = y.left; next = p.next; joins = p.joins; kept = inl refl })
+-- the same of a read behind what left the content as it was
+pub was_read_on : (step : ReadStep) (buf : List ℕ) (first before after : Option Stream) (faults faults' quiets quiets' : ℕ)
+    → before ≡ first → FitsBuffer step (length buf) → Reads step buf before after
+    → (step ≡ Failed → Rose faults faults') → (step ≡ Quiet → Rose quiets quiets')
+    → Goes (WasRead faults' quiets') first after
+was_read_on step buf first before after faults faults' quiets quiets' same fits reads failed quiet =
+    subst (λ s. Goes (WasRead faults' quiets') s after) same (was_read step buf before after faults faults' quiets quiets' fits reads failed quiet)
 
--- a reading that ends although its source has not ended
-pub broken_off : (part : Piece → List ℕ) (P : Piece → Type 0) (put put' : List Piece) (before after : Option Stream)
-    → ReaderSteps part P On put put' before after → ReaderSteps part P (Over ending.NoMemory) put put' before after
-broken_off part P put put' before after turns = record {
-  pieces = turns.pieces;
-  puts = turns.puts;
-  good = turns.good;
-  took = goes_as (Passes (flat_map part turns.pieces)) (TakesMore (flat_map part turns.pieces)) before after (passed_more (flat_map part turns.pieces)) turns.took;
-}
+-- a source that is read once more, of which nothing is put
+pub dropped_all : (n : ℕ) (buf : List ℕ) (first before after : Option Stream) → before ≡ first → n ≤ 512 → Goes (Passes (take n buf)) before after
+    → Goes (TakesMore []) first after
+dropped_all n buf first before after same fits reads =
+    goes_as (Passes (take n buf)) (TakesMore []) first after (λ x y p. more_of n buf x y fits p) (subst (λ s. Goes (Passes (take n buf)) s after) same reads)
+
+pub nothing_came : (first before after : Option Stream) → before ≡ first → Goes Stays before after → Goes (TakesMore []) first after
+nothing_came first before after same stays =
+    goes_as Stays (TakesMore []) first after nothing_more (subst (λ s. Goes Stays s after) same stays)
+
+pub nothing_was_left : (first before after : Option Stream) → before ≡ first → Goes IsAtEnd before after → Goes (TakesMore []) first after
+nothing_was_left first before after same ends =
+    goes_as IsAtEnd (TakesMore []) first after (λ x y p. nothing_more x y p.same) (subst (λ s. Goes IsAtEnd s after) same ends)
+
+pub nothing_taken : (first before after : Option Stream) → before ≡ first → Goes MayLose before after → Goes (TakesSome []) first after
+nothing_taken first before after same fails =
+    goes_as MayLose (TakesSome []) first after
+    (λ x y p. record { rest = x.left; next = refl; joins = p.same ∙ sym (append-nil x.taken); kept = p.lost }) (subst (λ s. Goes MayLose s after) same fails)
+
+pub stays : (now : Option Stream) → Goes Stays now now
+stays None = tt
+stays (Some now) = refl
+
+-- nothing was put
+pub none_put : (part : Piece → List ℕ) (P : Piece → Type 0) (last : Ending) (put : List Piece) (before after : Option Stream)
+    → Took (Some last) [] before after → ReaderSteps part P (Over last) put put before after
+none_put part P last put before after took = record { pieces = []; puts = sym (append-nil put); good = tt; took = took }
 
 -- the last piece was put, or not
 pub handed : (part : Piece → List ℕ) (P : Piece → Type 0) (result : Option Ending) (last : Ending) (put mid : List Piece) (before after : Option Stream)
@@ -189,6 +211,18 @@ handed part P (Some said) last put mid before after same turns = record {
   good = turns.good;
   took = rw same turns.took;
 }
+
+-- only the last piece was put, or nothing
+pub handed_last : (part : Piece → List ℕ) (P : Piece → Type 0) (result : Option Ending) (last : Ending) (put : List Piece) (before after : Option Stream)
+    → IfSome result (λ said. said ≡ last) → Took (Some last) [] before after → HandsOn part P result put (put ++ last_piece result) before after
+handed_last part P result last put before after same took = handed part P result last put put before after same (none_put part P last put before after took)
+
+-- memory was wanting for the reading of a source that stayed as it was
+pub refused : (part : Piece → List ℕ) (P : Piece → Type 0) (result : Option Ending) (put : List Piece) (before after : Option Stream)
+    → after ≡ before → IfSome result (λ said. said ≡ ending.NoMemory) → HandsOn part P result put (put ++ last_piece result) before after
+refused part P result put before after still same =
+    handed_last part P result ending.NoMemory put before after same
+    (nothing_came before before after refl (subst (λ s. Goes Stays before s) (sym still) (stays before)))
 
 -- that it failed was said only where its faults rose
 pub said_cause : (result : Option Ending) (last : Ending) (before now : ℕ)

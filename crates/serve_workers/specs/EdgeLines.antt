@@ -35,8 +35,8 @@ line_pieces lines = map Line lines
 abbrev pub AreFirst : List (List ℕ) → List (List ℕ) → Type 0
 AreFirst first all = (rest : List (List ℕ)) × (all ≡ first ++ rest)
 
--- Which lines of the bytes were put. At the source's end the last line may lack its end; where memory was wanting, or the reader was told to end, they
--- are the first ones.
+-- Which lines of the bytes were put. At the source's end the last line may lack its end; if the reader was out of memory or was told
+-- to end, they are the first ones.
 abbrev pub AreLinesOf : Option Ending → List (List ℕ) → List ℕ → Type 0
 AreLinesOf (Some End) lines bytes = lines ≡ edge_lines bytes ++ last_edge_line bytes
 AreLinesOf (Some Failed) lines bytes = lines ≡ edge_lines bytes

@@ -42,8 +42,8 @@ last_piece (Some ending) = Last ending ∷ []
 abbrev pub TakesMore : List ℕ → Stream → Stream → Type 0
 TakesMore bytes before after = (more : List ℕ) × ((length more ≤ 512) × TakesSome (bytes ++ more) before after)
 
--- The bytes that were put are those taken from the source. At its end nothing is left; at its fault what was left may be lost. Where memory was wanting,
--- or the reader was told to end, at most 512 bytes were taken and not put.
+-- The bytes that were put are those taken from the source. At its end nothing is left; at its fault what was left may be lost. If the reader was
+-- out of memory or was told to end, at most 512 bytes were taken and not put.
 abbrev pub Took : Option Ending → List ℕ → Option Stream → Option Stream → Type 0
 Took (Some End) bytes before after = Goes (TakesAll bytes) before after
 Took (Some Failed) bytes before after = Goes (TakesSome bytes) before after

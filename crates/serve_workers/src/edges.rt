@@ -1,4 +1,4 @@
-ghost use Rattle.std.specs.Prelude.{◌≡◌, ◌≤◌, ℕ, List, [], Some};
+ghost use Rattle.std.specs.Prelude.{◌≡◌, ◌≤◌, ℕ, List, [], Some, true};
 ghost use Rattle.gps_outside.specs.Counts.{Rose};
 ghost use Rattle.serve_pieces.specs.declared.piece.Ending.{Ending};
 ghost use Rattle.serve_pieces.specs.Sizes.{IsShort};
@@ -35,7 +35,8 @@ fn put_line<R: Wait + Copy>(
     own: &Bell,
     pump: &Bell,
 ) -> Put
-    requires { IsShort text.now }
+    requires open { pieces.old.is_open ≡ true }
+    requires short { IsShort text.now }
     ensures puts { PutsLine result text.now pieces.old.put pieces.new.put }
     ensures lane { pieces.new ≡ record pieces.old { put = pieces.new.put } }
 {
@@ -62,6 +63,7 @@ fn put_lines<R: Wait + Copy>(
     own: &Bell,
     pump: &Bell,
 ) -> Put
+    requires open { pieces.old.is_open ≡ true }
     requires limit { cutter.old.limit ≡ edge_limit }
     requires stands { (bytes : List ℕ) × StandsFor cutter.old bytes }
     ensures limit { cutter.new.limit ≡ cutter.old.limit }
@@ -94,6 +96,7 @@ fn put_last<R: Wait + Copy>(
     own: &Bell,
     pump: &Bell,
 ) -> Put
+    requires open { pieces.old.is_open ≡ true }
     requires limit { cutter.now.limit ≡ edge_limit }
     requires stands { (bytes : List ℕ) × StandsFor cutter.now bytes }
     ensures puts { (bytes : List ℕ) → StandsFor cutter.now bytes → PutsLast result bytes pieces.old.put pieces.new.put }
@@ -116,6 +119,7 @@ fn cut_once<S: Source, R: Wait + Copy>(
     own: &Bell,
     pump: &Bell,
 ) -> ReaderStep
+    requires open { pieces.old.is_open ≡ true }
     requires limit { cutter.old.limit ≡ edge_limit }
     requires stands { (bytes : List ℕ) × StandsFor cutter.old bytes }
     ensures limit { cutter.new.limit ≡ cutter.old.limit }
@@ -154,8 +158,8 @@ fn cut_on<S: Source, R: Wait + Copy>(
     cutter: &mut LineCutter,
     own: &Bell,
     pump: &Bell,
-    span: Span,
 ) -> Option<Ending>
+    requires open { pieces.old.is_open ≡ true }
     requires limit { cutter.old.limit ≡ edge_limit }
     requires stands { StandsFor cutter.old [] }
     ensures limit { cutter.new.limit ≡ edge_limit }
@@ -167,11 +171,7 @@ fn cut_on<S: Source, R: Wait + Copy>(
 {
     'reads: for _ in rt.forever() {
         match cut_once(rt, alloc, source, pieces, cutter, own, pump) {
-            ReaderStep::On => {
-                if span == Span::Once {
-                    return Some(Ending::NoMemory);
-                }
-            }
+            ReaderStep::On => {}
             ReaderStep::Over(ending) => return Some(ending),
             ReaderStep::Closed => return None,
         }
@@ -187,8 +187,8 @@ fn cut_all<S: Source, R: Wait + Copy>(
     pieces: &mut Tx<Piece, R>,
     own: &Bell,
     pump: &Bell,
-    span: Span,
 ) -> Option<Ending>
+    requires open { pieces.old.is_open ≡ true }
     ensures cuts { CutsLines result pieces.old.put pieces.new.put (S.content source.old) (S.content source.new) }
     ensures lane { pieces.new ≡ record pieces.old { put = pieces.new.put } }
     ensures faults_stay { S.faults source.old ≤ S.faults source.new }
@@ -196,7 +196,7 @@ fn cut_all<S: Source, R: Wait + Copy>(
     ensures failed { StepHasCause (over result) (S.faults source.old) (S.faults source.new) }
 {
     let mut cutter = LineCutter::new(alloc, Limit::Text(LONGEST));
-    match cut_on(rt, alloc, source, pieces, &mut cutter, own, pump, span) {
+    match cut_on(rt, alloc, source, pieces, &mut cutter, own, pump) {
         Some(Ending::End) => match put_last(rt, alloc, pieces, &cutter, own, pump) {
             Put::Done => Some(Ending::End),
             Put::NoMemory => Some(Ending::NoMemory),
@@ -208,7 +208,7 @@ fn cut_all<S: Source, R: Wait + Copy>(
     }
 }
 
-/// Reads a source to its end, puts its lines, and behind them how the source ended.
+/// Reads a source to its end, unless it is to read nothing, puts its lines, and behind them how the source ended.
 fn put_edges<S: Source, R: Wait + Copy>(
     rt: &R,
     alloc: Global,
@@ -218,13 +218,17 @@ fn put_edges<S: Source, R: Wait + Copy>(
     pump: &Bell,
     span: Span,
 ) -> Option<Ending>
+    requires open { pieces.old.is_open ≡ true }
     ensures hands { HandsLines result pieces.old.put pieces.new.put (S.content source.old) (S.content source.new) }
     ensures lane { pieces.new ≡ record pieces.old { put = pieces.new.put } }
     ensures faults_stay { S.faults source.old ≤ S.faults source.new }
     ensures quiets_stay { S.quiets source.old ≤ S.quiets source.new }
     ensures failed { result ≡ Some Ending.Failed → Rose (S.faults source.old) (S.faults source.new) }
 {
-    let ending = cut_all(rt, alloc, source, pieces, own, pump, span)?;
+    if span == Span::Nothing {
+        return put_ending(rt, pieces, Ending::NoMemory, own, pump);
+    }
+    let ending = cut_all(rt, alloc, source, pieces, own, pump)?;
     put_ending(rt, pieces, ending, own, pump)
 }
 
@@ -240,6 +244,7 @@ pub fn read_edges<S: Source, R: Wait + Copy>(
     pump: &Bell,
     span: Span,
 ) -> Option<Ending>
+    requires open { pieces.old.is_open ≡ true }
     ensures hands { HandsLines result pieces.old.put pieces.new.put (S.content source.old) (S.content source.new) }
     ensures lane { pieces.new ≡ record pieces.old { put = pieces.new.put } }
     ensures faults_stay { S.faults source.old ≤ S.faults source.new }

@@ -10,8 +10,8 @@ use shm_monitor::{Monitor, Numbered, Reading};
 use shm_segment::Segment;
 use std::sync::Wait;
 
-/// Makes so many readings, and keeps the pairs that were taken with a new number: all that the monitor took, each number
-/// once. Fewer readings only for want of memory, and then the first of these pairs.
+/// Makes the given number of readings, and keeps the pairs that were taken with a new number: all that the monitor took, each number
+/// once. It makes fewer only when out of memory, and then keeps the first of these pairs.
 ///
 /// After a reading that gave nothing new it sleeps for a millisecond, or until its bell is rung, as long as that is not
 /// closed.

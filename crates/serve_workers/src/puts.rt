@@ -1,4 +1,4 @@
-ghost use Rattle.std.specs.Prelude.{◌≡◌, ◌++◌, IfSome};
+ghost use Rattle.std.specs.Prelude.{◌≡◌, ◌++◌, true, IfSome};
 ghost use Rattle.serve_workers.specs.Readings.{last_piece};
 ghost use Rattle.serve_workers.specs.Putting.{puts_if};
 
@@ -13,6 +13,7 @@ pub(crate) fn put<R: Wait + Copy>(
     piece: Piece,
     own: &Bell,
 ) -> bool
+    requires open { pieces.old.is_open ≡ true }
     ensures { pieces.new ≡ puts_if result piece pieces.old }
 {
     let mut next = piece;
@@ -40,6 +41,7 @@ pub(crate) fn put_ending<R: Wait + Copy>(
     own: &Bell,
     pump: &Bell,
 ) -> Option<Ending>
+    requires open { pieces.old.is_open ≡ true }
     ensures puts { pieces.new ≡ record pieces.old { put = pieces.old.put ++ last_piece result } }
     ensures ending { IfSome result (λ last. last ≡ ending) }
 {

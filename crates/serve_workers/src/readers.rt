@@ -1,9 +1,10 @@
-ghost use Rattle.std.specs.Prelude.{◌≡◌, ◌≤◌, Some};
+ghost use Rattle.std.specs.Prelude.{◌≡◌, ◌≤◌, [], Some, true};
 ghost use Rattle.gps_outside.specs.Counts.{Rose};
 ghost use Rattle.gps_outside.specs.Told.{Goes};
 ghost use Rattle.serve_pieces.specs.declared.piece.Ending.{Ending};
 ghost use Rattle.serve_pieces.specs.Carried.{device_part, input_part};
-ghost use Rattle.serve_workers.specs.Readings.{HandsOn, ReaderSteps, StepHasCause, over, WasRead, IsDevicePiece, IsInputPiece};
+ghost use Rattle.serve_workers.specs.declared.readers.ReaderStep.TheVariants.{Over};
+ghost use Rattle.serve_workers.specs.Readings.{HandsOn, ReaderSteps, StepHasCause, Took, over, WasRead, IsDevicePiece, IsInputPiece};
 
 use crate::maker::{Maker, Requests, Stamped};
 use crate::pauses::pause;
@@ -18,19 +19,19 @@ use std::sync::{Mutex, Wait};
 /// The bytes of one read.
 pub(crate) const READ: usize = 512;
 
-/// How long a reader reads.
+/// How much a reader reads.
 #[derive(Clone, Copy, Debug, PartialEq, Eq)]
 pub enum Span {
-    /// To its source's end.
+    /// All, to its source's end.
     Whole,
-    /// Once, because there was no thread for it; then it says that memory was wanting.
-    Once,
+    /// Nothing, because there is no thread for it, and no other thread may wait in a read of it; it says that it was out of memory.
+    Nothing,
 }
 
 /// What one step of a reader comes to.
 pub(crate) enum ReaderStep {
     On,
-    /// The source ended, or memory was wanting.
+    /// The source ended, or the reader was out of memory.
     Over(Ending),
     /// It was told to end.
     Closed,
@@ -46,6 +47,7 @@ fn read_once<M: Maker, S: Source, R: Wait + Copy>(
     own: &Bell,
     pump: &Bell,
 ) -> ReaderStep
+    requires open { pieces.old.is_open ≡ true }
     ensures turns { ReaderSteps M.part M.good result pieces.old.put pieces.new.put (S.content source.old) (S.content source.new) }
     ensures lane { pieces.new ≡ record pieces.old { put = pieces.new.put } }
     ensures read { Goes (WasRead (S.faults source.new) (S.quiets source.new)) (S.content source.old) (S.content source.new) }
@@ -89,8 +91,8 @@ fn read_on<M: Maker, S: Source, R: Wait + Copy>(
     pieces: &mut Tx<Piece, R>,
     own: &Bell,
     pump: &Bell,
-    span: Span,
 ) -> Option<Ending>
+    requires open { pieces.old.is_open ≡ true }
     ensures turns { ReaderSteps M.part M.good (over result) pieces.old.put pieces.new.put (S.content source.old) (S.content source.new) }
     ensures lane { pieces.new ≡ record pieces.old { put = pieces.new.put } }
     ensures read { Goes (WasRead (S.faults source.new) (S.quiets source.new)) (S.content source.old) (S.content source.new) }
@@ -100,11 +102,7 @@ fn read_on<M: Maker, S: Source, R: Wait + Copy>(
 {
     'reads: for _ in rt.forever() {
         match read_once(rt, alloc, maker, source, pieces, own, pump) {
-            ReaderStep::On => {
-                if span == Span::Once {
-                    return Some(Ending::NoMemory);
-                }
-            }
+            ReaderStep::On => {}
             ReaderStep::Over(ending) => return Some(ending),
             ReaderStep::Closed => return None,
         }
@@ -122,8 +120,8 @@ fn read_all<M: Maker, S: Source, R: Wait + Copy>(
     pieces: &mut Tx<Piece, R>,
     own: &Bell,
     pump: &Bell,
-    span: Span,
 ) -> Option<Ending>
+    requires open { pieces.old.is_open ≡ true }
     ensures hands { HandsOn M.part M.good result pieces.old.put pieces.new.put (S.content source.old) (S.content source.new) }
     ensures lane { pieces.new ≡ record pieces.old { put = pieces.new.put } }
     ensures read { Goes (WasRead (S.faults source.new) (S.quiets source.new)) (S.content source.old) (S.content source.new) }
@@ -131,17 +129,54 @@ fn read_all<M: Maker, S: Source, R: Wait + Copy>(
     ensures quiets_stay { S.quiets source.old ≤ S.quiets source.new }
     ensures failed { result ≡ Some Ending.Failed → Rose (S.faults source.old) (S.faults source.new) }
 {
-    let ending = read_on(rt, alloc, maker, source, pieces, own, pump, span);
+    let ending = read_on(rt, alloc, maker, source, pieces, own, pump);
     source.finish();
     put_ending(rt, pieces, ending?, own, pump)
+}
+
+/// Closes a source, and puts that its reader was out of memory.
+fn refuse<M: Maker, S: Source, R: Wait + Copy>(
+    rt: &R,
+    _maker: &M,
+    source: &mut S,
+    pieces: &mut Tx<Piece, R>,
+    own: &Bell,
+    pump: &Bell,
+) -> Option<Ending>
+    requires open { pieces.old.is_open ≡ true }
+    ensures hands { HandsOn M.part M.good result pieces.old.put pieces.new.put (S.content source.old) (S.content source.new) }
+    ensures lane { pieces.new ≡ record pieces.old { put = pieces.new.put } }
+    ensures faults { S.faults source.new ≡ S.faults source.old }
+    ensures quiets { S.quiets source.new ≡ S.quiets source.old }
+    ensures failed { result ≡ Some Ending.Failed → ⊥ }
+{
+    source.finish();
+    put_ending(rt, pieces, Ending::NoMemory, own, pump)
+}
+
+/// Closes a source and reads it once, which therefore does not wait. What comes all the same is dropped.
+fn read_closed<S: Source>(source: &mut S) -> Ending
+    ensures took { Took (Some result) [] (S.content source.old) (S.content source.new) }
+    ensures read { Goes (WasRead (S.faults source.new) (S.quiets source.new)) (S.content source.old) (S.content source.new) }
+    ensures faults_stay { S.faults source.old ≤ S.faults source.new }
+    ensures quiets_stay { S.quiets source.old ≤ S.quiets source.new }
+    ensures failed { StepHasCause (Over result) (S.faults source.old) (S.faults source.new) }
+{
+    source.finish();
+    let mut buf = [0u8; READ];
+    match source.read(&mut buf) {
+        ReadStep::Failed => Ending::Failed,
+        ReadStep::Got(_) => Ending::NoMemory,
+        ReadStep::Quiet => Ending::NoMemory,
+        ReadStep::End => Ending::NoMemory,
+    }
 }
 
 /// Reads a device to its end. Each read that gives bytes makes a piece of them, with the clock's stamp; the last piece
 /// tells how the source ended. None: it was told to end before that was put, by its own bell, which was closed before a read
 /// that gave nothing, or at a full lane.
 ///
-/// A reader that reads once makes one read, and its last piece tells that memory was wanting, unless that read was its source's end or
-/// fault.
+/// A reader that reads nothing tells that it was out of memory, and does not wait.
 ///
 /// It rings the pump after each piece, and sleeps on its own bell while its lane is full.
 pub fn read_device<S: Source, C: Clock, D: Dials, R: Wait + Copy>(
@@ -154,17 +189,21 @@ pub fn read_device<S: Source, C: Clock, D: Dials, R: Wait + Copy>(
     pump: &Bell,
     span: Span,
 ) -> Option<Ending>
+    requires open { pieces.old.is_open ≡ true }
     ensures hands { HandsOn device_part (IsDevicePiece D.may) result pieces.old.put pieces.new.put (S.content source.old) (S.content source.new) }
     ensures lane { pieces.new ≡ record pieces.old { put = pieces.new.put } }
-    ensures read { Goes (WasRead (S.faults source.new) (S.quiets source.new)) (S.content source.old) (S.content source.new) }
     ensures faults_stay { S.faults source.old ≤ S.faults source.new }
     ensures quiets_stay { S.quiets source.old ≤ S.quiets source.new }
     ensures failed { result ≡ Some Ending.Failed → Rose (S.faults source.old) (S.faults source.new) }
 {
-    read_all(rt, alloc, &Stamped(clock), source, pieces, own, pump, span)
+    if span == Span::Nothing {
+        return refuse(rt, &Stamped(clock), source, pieces, own, pump);
+    }
+    read_all(rt, alloc, &Stamped(clock), source, pieces, own, pump)
 }
 
-/// Reads the requests of a session to their end, as [`read_device`] reads a device. It makes at least one read.
+/// Reads the requests of a session to their end, as [`read_device`] reads a device. It makes at least one read; if it is to read nothing, it
+/// closes the source before that.
 pub fn read_session<S: Source, R: Wait + Copy>(
     rt: &R,
     alloc: Global,
@@ -174,6 +213,7 @@ pub fn read_session<S: Source, R: Wait + Copy>(
     pump: &Bell,
     span: Span,
 ) -> Option<Ending>
+    requires open { pieces.old.is_open ≡ true }
     ensures hands { HandsOn input_part IsInputPiece result pieces.old.put pieces.new.put (S.content source.old) (S.content source.new) }
     ensures lane { pieces.new ≡ record pieces.old { put = pieces.new.put } }
     ensures read { Goes (WasRead (S.faults source.new) (S.quiets source.new)) (S.content source.old) (S.content source.new) }
@@ -181,5 +221,9 @@ pub fn read_session<S: Source, R: Wait + Copy>(
     ensures quiets_stay { S.quiets source.old ≤ S.quiets source.new }
     ensures failed { result ≡ Some Ending.Failed → Rose (S.faults source.old) (S.faults source.new) }
 {
-    read_all(rt, alloc, &Requests, source, pieces, own, pump, span)
+    if span == Span::Nothing {
+        let ending = read_closed(source);
+        return put_ending(rt, pieces, ending, own, pump);
+    }
+    read_all(rt, alloc, &Requests, source, pieces, own, pump)
 }

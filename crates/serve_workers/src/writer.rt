@@ -1,10 +1,12 @@
-ghost use Rattle.std.specs.Prelude.{◌≡◌, ◌≤◌, [], ◌++◌};
+ghost use Rattle.std.specs.Prelude.{◌≡◌, ◌<◌, ◌≤◌, [], ◌++◌, false, length};
 ghost use Rattle.gps_outside.specs.Counts.{Rose};
+ghost use Rattle.gps_outside.specs.declared.sink.WriteStep.{WriteStep};
+ghost use Rattle.gps_outside.specs.Writes.{FitsPiece, Writes as WritesPiece, WritesAll};
 ghost use Rattle.serve_workers.specs.declared.writer.WriterEnd.{WriterEnd};
 ghost use Rattle.serve_workers.specs.Writing.{Gathers, Writes};
 
 use gps_lane::{Bell, Rx};
-use gps_outside::{Sink, write_all};
+use gps_outside::{Sink, WriteStep};
 use session_core::Item;
 use std::alloc::Global;
 use std::sync::Wait;
@@ -20,6 +22,42 @@ pub enum WriterEnd {
 
 /// The room for the items of one write.
 const ROOM: usize = 65_536;
+
+/// Writes a piece. Once the bell is closed, the sink is told before each write that what is still to be written is bounded.
+fn write_piece<K: Sink>(own: &Bell, sink: &mut K, piece: &[u8]) -> bool
+    ensures bytes { WritesAll result piece.now (K.written sink.old) (K.written sink.new) }
+    ensures faults_stay { K.faults sink.old ≤ K.faults sink.new }
+    ensures failed { result ≡ false → Rose (K.faults sink.old) (K.faults sink.new) }
+{
+    let mut rest = piece;
+    'writes: while !rest.is_empty() {
+        match write_some(own, sink, rest) {
+            WriteStep::Wrote(n) => rest = &rest[n..],
+            WriteStep::Failed => return false,
+        }
+    }
+    true
+}
+
+fn tell_end<K: Sink>(own: &Bell, sink: &mut K)
+    ensures bytes { K.written sink.new ≡ K.written sink.old }
+    ensures faults { K.faults sink.new ≡ K.faults sink.old }
+{
+    if own.is_closed() {
+        sink.end_soon();
+    }
+}
+
+fn write_some<K: Sink>(own: &Bell, sink: &mut K, piece: &[u8]) -> WriteStep
+    requires some { 0 < length piece.now }
+    ensures fits { FitsPiece result (length piece.now) }
+    ensures bytes { WritesPiece result piece.now (K.written sink.old) (K.written sink.new) }
+    ensures faults_stay { K.faults sink.old ≤ K.faults sink.new }
+    ensures failed { result ≡ WriteStep.Failed → Rose (K.faults sink.old) (K.faults sink.new) }
+{
+    tell_end(own, sink);
+    sink.write(piece)
+}
 
 /// Takes the items that wait, as far as the buffer's room goes. The item that goes past it is handed back.
 fn gather<R: Wait + Copy>(rt: &R, items: &mut Rx<Item, R>, joined: &mut Vec<u8>) -> Option<Item>
@@ -60,14 +98,14 @@ fn write_on<K: Sink, R: Wait + Copy>(
     'rounds: for _ in rt.forever() {
         let closed = own.is_closed();
         let over = gather(rt, items, &mut joined);
-        if !write_all(sink, joined.as_slice()) {
+        if !write_piece(own, sink, joined.as_slice()) {
             return WriterEnd::WriteFault;
         }
         let nothing = joined.is_empty();
         joined.clear();
         match over {
             Some(item) => {
-                if !write_all(sink, item.bytes()) {
+                if !write_piece(own, sink, item.bytes()) {
                     return WriterEnd::WriteFault;
                 }
             }
@@ -87,7 +125,8 @@ fn write_on<K: Sink, R: Wait + Copy>(
 /// Writes the items of a session until its bell is closed and none waits, or its sink fails, and says then that nothing
 /// follows, so that a reader of the same socket ends.
 ///
-/// It asks for 64 KB once, to join what waits; where they are refused, it writes item by item.
+/// It asks for 64 KB once, to join what waits; where they are refused, it writes item by item. Once its bell is closed, the sink is told that it
+/// ends soon, so that a client that takes little at a time does not hold it.
 pub fn write_items<K: Sink, R: Wait + Copy>(
     rt: &R,
     alloc: Global,

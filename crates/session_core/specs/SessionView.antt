@@ -18,7 +18,7 @@ pub record SessionView : Type 0 where
   pub policy : Policy
   pub requests : ℕ
   pub items : ℕ
-  pub spare : ℕ  -- for so many further marks room is taken
+  pub spare : ℕ  -- how many further marks room is taken for
 
 -- nothing is watched
 abbrev pub opening_policy : Policy

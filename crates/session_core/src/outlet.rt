@@ -27,8 +27,13 @@ pub trait Outlet: Drop {
     /// It holds exactly what it keeps, so that it is full exactly where it keeps as many items as it may hold.
     ghost exact: { Bool };
 
+    /// It takes items still.
+    ghost takes: { Self → Type 0 } = { λ _. Unit {0} };
+
     /// Takes no memory.
     fn push(&mut self, item: Item) -> Push
+        requires { takes self.old }
+        ensures takes { takes self.new }
         ensures kept { MatchPush result (kept self.new ≡ kept self.old ++ item ∷ []) (kept self.new ≡ kept self.old) }
         ensures full { result ≡ Push.Full → cap self.old ≤ length (kept self.old) }
         ensures exact { exact ≡ true → (result ≡ Push.Full) ↔ (cap self.old ≤ length (kept self.old)) }
@@ -38,7 +43,7 @@ pub trait Outlet: Drop {
 
 /// An outlet whose items are taken at another end.
 pub trait TwoEnded: Outlet {
-    ghost use Rattle.std.specs.Prelude.{◌≡◌, ℕ, List, ◌++◌, IfNone};
+    ghost use Rattle.std.specs.Prelude.{◌≡◌, ℕ, false, List, ◌++◌, IfNone};
     ghost use Rattle.std.specs.Option.{option_to_list};
     ghost use Rattle.session_core.specs.Naming.{OutletName};
 
@@ -52,9 +57,11 @@ pub trait TwoEnded: Outlet {
     /// The far end of this name belongs to the outlet of that name.
     ghost belongs: { OutletName → OutletName → Type 0 };
 
-    /// Takes one item at the far end and hands it on. Takes no memory.
-    fn settle(&mut self, far: &mut Self::Far) -> Option<Item>
+    /// Takes one item at the far end and hands it on. Takes no memory. Only if it is the end, so that nothing more is pushed, may the two give
+    /// back what memory they have.
+    fn settle(&mut self, far: &mut Self::Far, is_end: bool) -> Option<Item>
         requires { belongs (far_name far.old) (Self.name self.old) }
+        ensures takes { is_end ≡ false → Self.takes self.old → Self.takes self.new }
         ensures item { got far.new ≡ got far.old ++ option_to_list result }
         ensures prefix { (rest : List (List ℕ)) × (Self.kept self.new ≡ got far.new ++ rest) }
         ensures all { IfNone result (got far.new ≡ Self.kept self.new) }

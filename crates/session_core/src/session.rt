@@ -49,7 +49,8 @@ impl<O: Outlet> Model for Session<O> {
       spare = s.spare;
     } };
 
-    ghost invariant = { λ s. s.closing ≡ None → vec_len s.marks + s.spare ≤ vec_capacity s.marks };
+    ghost invariant = { λ s. (s.closing ≡ None → vec_len s.marks + s.spare ≤ vec_capacity s.marks)
+        × (s.closing ≡ None → O.takes s.outlet) };
 }
 
 /// The opening is no request.
@@ -67,6 +68,7 @@ impl<O: Outlet> Session<O> {
     /// A session without marks that watches nothing, with room for its opening. Where memory is refused, the outlet
     /// comes back.
     pub fn new(alloc: Global, outlet: O) -> Result<Session<O>, O>
+        requires { O.takes outlet }
         ensures fresh { IfOk result (λ s. s ≡ fresh (O.name outlet) (O.cap outlet) (O.kept outlet)) }
         ensures outlet { IfErr result (λ back. back ≡ outlet) }
         ensures agrees { (lines : Selection) (history : List Report) → IfOk result (λ s. Agrees lines history s []) }
@@ -93,7 +95,7 @@ impl<O: Outlet> Session<O> {
         }
     }
 
-    /// Takes room for so many further marks.
+    /// Takes room for the given number of further marks.
     #[tactic(auto, using(crate::proofs::Gaining::roomier))]
     pub fn reserve(&mut self, marks: u32) -> Result<(), NoMemory>
         ensures ok { OnOk result (self.new ≡ record self.old { spare = max self.old.spare marks }) }
@@ -113,6 +115,7 @@ impl<O: Outlet> Session<O> {
     }
 
     fn put(&mut self, item: Item) -> Push
+        requires open { self.old.closing ≡ None }
         ensures given { MatchPush result (self.new ≡ given item self.old) (self.new ≡ self.old) }
         ensures full { result ≡ Push.Full → self.old.cap ≤ length self.old.kept }
         ensures exact { O.exact ≡ true → (result ≡ Push.Full) ↔ (self.old.cap ≤ length self.old.kept) }
@@ -277,7 +280,7 @@ impl Session<PlainOutlet> {
 }
 
 impl<O: TwoEnded> Session<O> {
-    /// Takes one item at the far end and hands it on.
+    /// Takes one item at the far end and hands it on. A closed session is given no more, so its outlet may end with this.
     pub fn settle(&mut self, far: &mut O::Far) -> Option<Item>
         requires { O.belongs (O.far_name far.old) self.old.name }
         ensures same { self.new ≡ self.old }
@@ -286,6 +289,6 @@ impl<O: TwoEnded> Session<O> {
         ensures all { IfNone result (O.got far.new ≡ self.new.kept) }
         ensures far_name { O.far_name far.new ≡ O.far_name far.old }
     {
-        self.outlet.settle(far)
+        self.outlet.settle(far, self.closing.is_some())
     }
 }

@@ -34,7 +34,7 @@ use Rattle.session_runs.proofs.Answering.{answers_now, asked_joined, asked_longe
 use Rattle.session_runs.proofs.Zipping.{zip_unmapped, zip_weaker}
 
 -- the requests of longer input go on from those of the shorter
-requests_more : (bytes piece : List ℕ) → (more : List RawCommand) × (requests (bytes ++ piece) ≡ requests bytes ++ more)
+pub requests_more : (bytes piece : List ℕ) → (more : List RawCommand) × (requests (bytes ++ piece) ≡ requests bytes ++ more)
 requests_more bytes [] = ([], ap (requests_from 0) (append-nil bytes) ∙ sym (append-nil (requests bytes)))
 requests_more bytes (c ∷ piece) =
     let rest = requests_more (bytes ++ c ∷ []) piece in

@@ -19,7 +19,7 @@ use Rattle.report_book.specs.Knowing.{known_in}
 abbrev pub policy_of : List RawCommand → Policy
 policy_of asked = policy_at (length asked) asked
 
--- It began when so many entries of the whole log had come, and no fewer than at the moment before.
+-- It began when this number of entries of the whole log had come, and no fewer than at the moment before.
 pub record BeginsAt (log : List Entry) (from moment : ℕ) (stretch : Stretch) : Type 0 where
   pub after : from ≤ moment
   pub within : moment ≤ length log

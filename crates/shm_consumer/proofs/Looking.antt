@@ -21,7 +21,8 @@ use Rattle.shm_consumer.specs.Views.{after, counted, validated, fetched, pair_of
 use Rattle.shm_consumer.specs.Rule.{words_with, IsValid, IsRunning, IsRead, RisesStrictly, Fits, HoldsOf, IsRecounted, Agrees, may_give, may_take}
 use Rattle.shm_consumer.proofs.Keeps.{role_on, fits_set}
 use Rattle.shm_consumer.proofs.Storing.{valid_zero}
-use Rattle.shm_consumer.proofs.Reading.{word_count, word_valid, word_body, length_body, count_fits, whole, one, two, last_snoc, rises_snoc}
+use Rattle.shm_segment.proofs.Reading.{length_body, count_fits}
+use Rattle.shm_consumer.proofs.Reading.{word_count, word_valid, word_body, whole, one, two, last_snoc, rises_snoc}
 
 -- a load: the seat has a new view, which may depend on the value found
 looks : (first slots seat word : ℕ) (v : View) (next : ℕ → View) (tells : ℕ → Type 0) → ((n : ℕ) → (next n).role ≡ v.role)

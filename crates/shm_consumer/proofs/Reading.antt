@@ -1,5 +1,5 @@
 -- What the words say to the taker: count, valid, and the body at one count.
-use Rattle.std.proofs.Common.{◌≡◌, ℕ, zero, suc, ◌+◌, ◌-◌, ◌/◌, ◌%◌, ◌<◌, ◌≤◌, ◌^◌, List, [], ◌∷◌, ◌++◌, length, take, Some, refl, sym, ap, ◌∙◌, arith}
+use Rattle.std.proofs.Common.{◌≡◌, ℕ, zero, suc, ◌+◌, ◌-◌, ◌/◌, ◌%◌, ◌<◌, ◌≤◌, List, [], ◌∷◌, ◌++◌, length, take, Some, refl, sym, ap, ◌∙◌, arith}
 use Rattle.std.specs.Prelude.{slice_get, slice_index, slice_index_or}
 use Rattle.std.proofs.lemmas.Option.{slice_get-get_or}
 use Rattle.shm_segment.specs.declared.sample.Sample.{Sample}
@@ -32,19 +32,6 @@ word_body first samples stores valid (suc (suc (suc (suc (suc (suc zero)))))) h 
 word_body first samples stores valid (suc (suc (suc (suc (suc (suc (suc zero))))))) h = refl
 word_body first samples stores valid (suc (suc (suc (suc (suc (suc (suc (suc zero)))))))) h = refl
 word_body first samples stores valid (suc (suc (suc (suc (suc (suc (suc (suc (suc place))))))))) h = absurd (omega arith)
-
-pub length_body : (samples : List Sample) (stores : ℕ) → length (body_after samples stores) ≡ 9
-unfolding body_after
-length_body samples stores = refl
-
--- count is below 2 ^ 32
-pub count_fits : (first : ℕ) (samples : List Sample) (stores : ℕ) → IsSound first samples stores → count_after first stores < 2 ^ 32
-count_fits first samples stores sound =
-    let half = half_count first stores in
-    let reach = sound.reaches in
-    let numbers = sound.numbers in
-    let p : published_after stores ≤ length samples = omega arith in
-    omega arith
 
 -- what a body says that was read at one count: the published sample of its number
 pub whole : (first : ℕ) (samples : List Sample) (stores last count : ℕ) (body : List ℕ) → IsSound first samples stores → count_after first stores ≡ count → length body ≡ 9 → IsStill samples stores last count body

@@ -101,7 +101,7 @@ HasSteps (Consumed number sample) before after = after ≡ before + 13
 HasSteps (NotReady count valid) before after = after ≡ before + 2
 HasSteps (Clash before_count after_count) before after = after ≡ before + 12
 
--- a reading of this call that goes on, after so many loads
+-- a reading of this call that goes on, after n loads
 pub record HasLoaded (old now : Taking) (loads : ℕ) : Type 0 where
   pub same : now ≡ record { segment = old.segment; consumed = old.consumed; made = old.made ++ steps_of (NotReady 0 0) now.reading; reading = now.reading }
   pub long : length now.reading ≡ loads

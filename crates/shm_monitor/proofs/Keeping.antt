@@ -17,7 +17,8 @@ use Rattle.shm_segment.specs.Rule.{IsSound, IsTold, IsPublished, WasShown, IsWho
 use Rattle.shm_segment.proofs.Running.{half_count}
 use Rattle.shm_segment.proofs.Looking.{looks, splits, joins, nothing_told}
 use Rattle.shm_monitor.specs.Loads.{load, loaded, counted, IsFirstCount, validated, read, taken_after, recounted, IsRecounted, agreed, Agrees}
-use Rattle.shm_monitor.proofs.Whole.{word_count, word_body, word_valid, length_body, count_fits, whole}
+use Rattle.shm_segment.proofs.Reading.{length_body, count_fits}
+use Rattle.shm_monitor.proofs.Whole.{word_count, word_body, word_valid, whole}
 
 pub last_snoc : (low : ℕ) (xs : List Numbered) (pair : Numbered) → last_from low (xs ++ pair ∷ []) ≡ pair.number
 last_snoc low [] pair = refl

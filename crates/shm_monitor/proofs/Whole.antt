@@ -1,5 +1,5 @@
 -- What the words say to a monitor: count, valid, and the body at one count.
-use Rattle.std.proofs.Common.{◌≡◌, ℕ, zero, suc, ◌+◌, ◌-◌, ◌*◌, ◌/◌, ◌%◌, ◌<◌, ◌≤◌, ◌^◌, Bool, true, false, ◌&&◌, List, length, take, Some, refl, sym, ap, ◌∙◌, arith}
+use Rattle.std.proofs.Common.{◌≡◌, ℕ, zero, suc, ◌+◌, ◌-◌, ◌*◌, ◌/◌, ◌%◌, ◌<◌, ◌≤◌, Bool, true, false, ◌&&◌, List, length, take, Some, refl, sym, ap, ◌∙◌, arith}
 use Rattle.std.specs.Prelude.{nat_lt, slice_get, slice_index, slice_index_or, if◌then◌else◌, ◌==◌}
 use Rattle.std.proofs.lemmas.Bool.Decides.{nat_tests}
 use Rattle.std.proofs.lemmas.Option.{slice_get-get_or}
@@ -27,10 +27,6 @@ word_body first samples stores (suc (suc (suc (suc (suc (suc (suc zero))))))) h 
 word_body first samples stores (suc (suc (suc (suc (suc (suc (suc (suc zero)))))))) h = refl
 word_body first samples stores (suc (suc (suc (suc (suc (suc (suc (suc (suc place))))))))) h = absurd (omega arith)
 
-pub length_body : (samples : List Sample) (stores : ℕ) → length (body_after samples stores) ≡ 9
-unfolding body_after
-length_body samples stores = refl
-
 -- a valid that is not 0 says that a sample is published, and that none is being written
 pub word_valid : (first : ℕ) (samples : List Sample) (stores : ℕ) → 0 < slice_index (words_of first samples stores) 9 → (count_after first stores % 2 ≡ 0) × (1 ≤ published_after stores)
 unfolding words_of count_after
@@ -49,15 +45,6 @@ word_valid first samples stores some = by_case (stores % 13 == 0) refl some
         made_some true h = refl
         made_some false h = absurd (omega arith)
     by_case false test h = absurd (omega arith)
-
--- count is below 2 ^ 32
-pub count_fits : (first : ℕ) (samples : List Sample) (stores : ℕ) → IsSound first samples stores → count_after first stores < 2 ^ 32
-count_fits first samples stores sound =
-    let half = half_count first stores in
-    let reach = sound.reaches in
-    let numbers = sound.numbers in
-    let p : published_after stores ≤ length samples = omega arith in
-    omega arith
 
 -- what a body says that was read at one count: the published sample of its number
 pub whole : (first : ℕ) (samples : List Sample) (stores count : ℕ) (body : List ℕ) → IsSound first samples stores → count_after first stores ≡ count → length body ≡ 9 → IsWhole samples stores count body

@@ -57,7 +57,7 @@ after_load w value taken reading =
       reading = reading;
     }
 
--- the value does not end a reading of so many values
+-- the value does not end a reading of n values
 pub record ReadingGoesOn (w : MonitorView) (value : ℕ) : Type 0 where
   pub more : length w.reading < 11
   pub ready : length w.reading ≡ 1 → 0 < value

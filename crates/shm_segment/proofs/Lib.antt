@@ -1,6 +1,7 @@
 pub mod Samples
 pub mod Words
 pub mod Running
+pub mod Reading
 pub mod Keeps
 pub mod Storing
 pub mod Writing

@@ -124,7 +124,7 @@ abbrev pub StepsAs : Publishing → PubStep → Publishing → Type 0
 StepsAs old NothingToStore new = (old.phase ≡ Idle) × (new ≡ old)
 StepsAs old (Stored word value) new = (old.phase ≢ Idle) × IsStore old word value new
 
--- the seat is this segment's publisher, and has made so many stores of a sample
+-- the seat is this segment's publisher, and has made this number of stores of a sample
 pub record IsWriting (segment : SegmentId) (table : TableId) (me : Me (Unit {0}) View) (turn : ℕ) : Type 0 where
   pub part : table ≡ segment.table
   pub view : me ≡ (publisher segment.first me.0.known.samples me.0.known.stores, [])

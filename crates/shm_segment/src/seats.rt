@@ -32,7 +32,11 @@ impl Model for Account {
 
     ghost Value = { Accounted };
 
-    ghost view = { λ a. record { segment = record { table = a.seat.table_id; first = a.seat.me.0.first }; taken = a.seat.me.0.taken; kept = a.seat.me.0.kept } };
+    ghost view = { λ a. record {
+      segment = record { table = a.seat.table_id; first = a.seat.me.0.first };
+      taken = a.seat.me.0.taken;
+      kept = a.seat.me.0.kept;
+    } };
 
     ghost invariant = { λ a. a.seat.me ≡ (account a.seat.me.0.first a.seat.me.0.taken a.seat.me.0.kept, []) };
 }

@@ -34,7 +34,7 @@ satellite_of group =
       signal = None;
     }
 
--- so many satellites, one after the other
+-- n satellites, one after the other
 unfoldable pub satellites_of : ℕ → List ℕ → List Satellite
 satellites_of zero groups = []
 satellites_of (suc n) groups = satellite_of (take 12 groups) ∷ satellites_of n (drop 12 groups)

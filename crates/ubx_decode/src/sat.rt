@@ -54,7 +54,7 @@ fn satellite_of(group: &[u8]) -> Satellite
     }
 }
 
-/// The satellites of so many groups.
+/// The satellites of the given number of groups.
 #[tactic(auto, using(crate::proofs::Satellites::one_more), unfolding(crate::specs::Sat::satellites_of))]
 fn satellites_of(alloc: Global, count: usize, groups: &[u8]) -> Result<Vec<Satellite>, NoMemory>
     requires { length groups.now ≡ 12 * count }

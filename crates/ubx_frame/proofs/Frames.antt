@@ -240,7 +240,7 @@ last_two len xs long =
     none [] h = refl
     none (x ∷ more) h = absurd (omega arith)
 
--- a frame shape whose payload and sums are so many bytes
+-- a frame shape whose payload and sums have n bytes
 filled : (class id low high : ℕ) (tail : List ℕ) → list_all is_byte (class ∷ id ∷ low ∷ high ∷ tail) ≡ true
     → low + 256 * high ≤ 2048 → length tail ≡ low + 256 * high + 2 → IsShape (0xb5 ∷ 0x62 ∷ class ∷ id ∷ low ∷ high ∷ tail)
 filled class id low high tail all short long =

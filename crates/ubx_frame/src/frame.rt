@@ -10,7 +10,7 @@ const LONGEST_PAYLOAD: usize = 2048;
 /// What a list of bytes begins with.
 #[derive(Clone, Copy, Debug, PartialEq, Eq)]
 pub enum Shape {
-    /// The first so many bytes are a frame with the right checksum.
+    /// The first bytes, this number of them, are a frame with the right checksum.
     Whole(usize),
     /// The whole list is the beginning of a frame, as far as can be seen.
     Pending,
@@ -53,7 +53,7 @@ fn shape_behind_sync(rest: &[u8]) -> Shape
     }
 }
 
-/// The same where the payload has so many bytes.
+/// The same for a payload of the given length.
 #[tactic(auto, unfolding(crate::specs::Scan::shape_of_length))]
 fn shape_of_length(len: usize, rest: &[u8]) -> Shape
     requires { len ≤ 65535 }

@@ -14,6 +14,9 @@ use Rattle.hub_promise.specs.Parts.{InletsView}
 use Rattle.hub_promise.specs.Steps.{DeviceStep, MovesOn, stop_entries, with_bytes, with_edge}
 use Rattle.hub_promise.proofs.Forward.{moves_onward, quiet_onward}
 use Rattle.hub_promise.proofs.Arms.{fed_step, bytes_refused_step, bytes_last_step, bytes_useless_step, edged_step, edges_refused_step, edges_last_step, edges_useless_step, nothing_step}
+use Rattle.book_log.specs.Entries.{edged}
+use Rattle.gps_hub.specs.Pumping.{edge_entries}
+use Rattle.gps_hub.proofs.Told.{refused_line}
 use Rattle.gps_hub.proofs.device.edge.Goals as goal
 
 pub returns-in-Ok-clause-step : goal.returns-in-Ok-clause-step
@@ -27,3 +30,15 @@ returns-in-Err-clause-step g c = λ line x lane lasts reads there.
     let P : BookView × Option DeviceEnd × Option DeviceEnd → Type 0 = λ t. DeviceStep c.args.d t.0 c.refuse.new.book x (with_edge (Line line) x) t.1 t.2 lasts lasts in
     subst P (λ i. (c.in-Err.ensures.unchanged i, sym c.requires.going i, sym c.refuse.ensures.end i))
     (edges_refused_step c.edge.new.self c.refuse.new.book c.args.d (Line line) x lane lasts there c.refuse.ensures.lost c.refuse.ensures.earns)
+
+pub returns-in-Ok-clause-answer : goal.returns-in-Ok-clause-answer
+returns-in-Ok-clause-answer g c = λ line lasts reads. (
+  subst (λ o. MovesOn c.args.book.now c.edge.new.self (edge_entries c.args.d o)) reads
+      (inr (moves_onward false (turns_at c.args.book.now.log 1) c.args.book.now c.edge.new.self (edged c.args.d c.args.edge) c.show.ensures.holds c.in-Ok.ensures.edged c.in-Ok.ensures.earns)),
+  c.requires.going,
+)
+
+pub returns-in-Err-clause-answer : goal.returns-in-Err-clause-answer
+returns-in-Err-clause-answer g c = λ line lasts reads.
+    refused_line c.refuse.result c.in-Err.fault c.args.d (Line line) lasts c.refuse.new.end c.args.book.now c.refuse.new.book
+    c.refuse.ensures.answer c.refuse.ensures.memory c.refuse.ensures.end

@@ -14,6 +14,7 @@ use Rattle.hub_promise.specs.Parts.{InletsView}
 use Rattle.hub_promise.specs.Steps.{DeviceStep, MovesOn, stop_entries, with_bytes, with_edge}
 use Rattle.hub_promise.proofs.Forward.{moves_onward, quiet_onward}
 use Rattle.hub_promise.proofs.Arms.{fed_step, bytes_refused_step, bytes_last_step, bytes_useless_step, edged_step, edges_refused_step, edges_last_step, edges_useless_step, nothing_step}
+use Rattle.gps_hub.proofs.Told.{refused_line}
 use Rattle.gps_hub.proofs.device.edges_end.Goals as goal
 
 pub returns-in-Ok-clause-step : goal.returns-in-Ok-clause-step
@@ -30,3 +31,12 @@ returns-in-Err-clause-step g c = λ x lane there.
     let P : BookView × Option DeviceEnd × Option DeviceEnd → Type 0 = λ t. DeviceStep c.args.d t.0 c.refuse.new.book x (with_edge piece x) t.1 t.2 c.args.lasts.now c.args.lasts.now in
     subst P (λ i. (c.in-Err.ensures.unchanged i, sym c.requires.going i, sym c.refuse.ensures.end i))
     (edges_refused_step c.stop.new.book c.refuse.new.book c.args.d piece x lane c.args.lasts.now there c.refuse.ensures.lost c.refuse.ensures.earns)
+
+pub returns-in-Ok-clause-answer : goal.returns-in-Ok-clause-answer
+returns-in-Ok-clause-answer g c =
+    (c.in-Ok.ensures.stops, c.in-Ok.ensures.end ∙ ap (λ o. end_by [] o (Some c.args.ending)) (ap (λ (l : Lasts). l.bytes) c.lasts.view_is))
+
+pub returns-in-Err-clause-answer : goal.returns-in-Err-clause-answer
+returns-in-Err-clause-answer g c =
+    refused_line c.refuse.result c.in-Err.fault c.args.d (Last c.args.ending) c.args.lasts.now c.refuse.new.end c.args.book.now c.refuse.new.book
+    c.refuse.ensures.answer c.refuse.ensures.memory c.refuse.ensures.end

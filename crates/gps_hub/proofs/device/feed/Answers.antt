@@ -14,6 +14,8 @@ use Rattle.hub_promise.specs.Parts.{InletsView}
 use Rattle.hub_promise.specs.Steps.{DeviceStep, MovesOn, stop_entries, with_bytes, with_edge}
 use Rattle.hub_promise.proofs.Forward.{moves_onward, quiet_onward}
 use Rattle.hub_promise.proofs.Arms.{fed_step, bytes_refused_step, bytes_last_step, bytes_useless_step, edged_step, edges_refused_step, edges_last_step, edges_useless_step, nothing_step}
+use Rattle.book_log.specs.Entries.{fed}
+use Rattle.gps_hub.proofs.Told.{refused_bytes}
 use Rattle.gps_hub.proofs.device.feed.Goals as goal
 
 pub returns-in-Ok-clause-step : goal.returns-in-Ok-clause-step
@@ -28,3 +30,17 @@ returns-in-Err-clause-step g c = λ x lasts.
     let P : BookView × Option DeviceEnd × Option DeviceEnd → Type 0 = λ t. DeviceStep c.args.d t.0 c.refuse.new.book x (with_bytes piece x) t.1 t.2 lasts lasts in
     subst P (λ i. (c.in-Err.ensures.unchanged i, sym c.requires.going i, sym c.refuse.ensures.end i))
     (bytes_refused_step c.feed.new.self c.refuse.new.book c.args.d piece x lasts c.refuse.ensures.lost c.refuse.ensures.earns)
+
+pub returns-in-Ok-clause-answer : goal.returns-in-Ok-clause-answer
+returns-in-Ok-clause-answer g c = λ lasts.
+    let P : List ℕ → Type 0 = λ b. MovesOn c.args.book.now c.feed.new.self (fed c.args.d c.args.at b) in
+    let slice = c.as_slice.result.now in (
+      subst P c.as_slice.ensures.bytes
+          (inr (moves_onward false (turns_at c.args.book.now.log (length slice)) c.args.book.now c.feed.new.self (fed c.args.d c.args.at slice) c.show.ensures.holds c.in-Ok.ensures.fed c.in-Ok.ensures.earns)),
+      c.requires.going,
+    )
+
+pub returns-in-Err-clause-answer : goal.returns-in-Err-clause-answer
+returns-in-Err-clause-answer g c = λ lasts.
+    refused_bytes c.refuse.result c.in-Err.fault c.args.d (Bytes c.args.at c.args.bytes.now) lasts c.refuse.new.end c.args.book.now c.refuse.new.book
+    c.refuse.ensures.answer c.refuse.ensures.memory c.refuse.ensures.end

@@ -24,7 +24,7 @@ returns-in-Ok-clause-answer g c =
 pub returns-in-Err-clause-step : goal.returns-in-Err-clause-step
 returns-in-Err-clause-step g c = λ x.
     let P : BookView → Type 0 = λ b. HangsUp c.args.s NoMemory b c.hang_up.new.book in
-    hung_step c.args.book.now c.hang_up.new.book c.args.s NoMemory (Input c.args.bytes.now) x c.show.ensures.holds c.requires.open_one (λ _ _ _. tt) (subst P c.in-Err.ensures.unchanged c.hang_up.ensures)
+    hung_step c.args.book.now c.hang_up.new.book c.args.s NoMemory (Input c.args.bytes.now) x c.show.ensures.holds c.requires.open_one (λ _ _ _ _ _. tt) (subst P c.in-Err.ensures.unchanged c.hang_up.ensures)
 
 pub returns-in-Err-clause-answer : goal.returns-in-Err-clause-answer
 returns-in-Err-clause-answer g c =

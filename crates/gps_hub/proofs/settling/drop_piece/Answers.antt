@@ -7,5 +7,5 @@ use Rattle.gps_hub.proofs.settling.drop_piece.Goals as goal
 
 pub returns-clause-input : goal.returns-clause-input
 returns-clause-input g c =
-    gets_one c.args.pieces.now.put c.args.input.now c.settle.new.rx c.settle.result c.requires.once c.settle.ensures.rx
-    (subst (λ (t : Putting Piece). BeginsWith c.settle.new.rx.got t.put) c.settle.ensures.tx c.settle.ensures.prefix)
+    gets_one c.args.pieces.now.put c.args.input.now c.settle_or_close.new.rx c.settle_or_close.result c.requires.once c.settle_or_close.ensures.rx
+    (subst (λ (t : Putting Piece). BeginsWith c.settle_or_close.new.rx.got t.put) c.settle_or_close.ensures.tx c.settle_or_close.ensures.prefix)

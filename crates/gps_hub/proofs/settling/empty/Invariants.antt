@@ -4,6 +4,6 @@ use Rattle.gps_hub.proofs.settling.empty.Given as goal
 
 abbrev pub invariant-pieces : goal.invariant-pieces
 invariant-pieces g l = record {
-  pieces : l.pieces ≡ l.initial.pieces;
+  pieces : l.pieces ≡ record l.initial.pieces { is_open = l.pieces.is_open };
   input : GetsMore l.initial.input l.input;
 }

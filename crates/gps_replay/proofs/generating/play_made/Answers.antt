@@ -6,8 +6,8 @@ use Rattle.gps_replay.specs.Generated.{default_queue}
 use Rattle.gps_replay.proofs.Making.{caused}
 use Rattle.gps_replay.proofs.generating.play_made.Goals as goal
 
-pub returns-in-Ok-clause-cause : goal.returns-in-Ok-clause-cause
-returns-in-Ok-clause-cause g c = λ seed size few of.
+pub returns-clause-cause : goal.returns-clause-cause
+returns-clause-cause g c = λ seed size few of.
     let is : c.in-Ok.most ≡ length c.args.script = search rules in
     let played : HasPlayed c.play.result (closing_rules default_queue) c.in-Ok.most (Some (record { taken = []; left = c.args.script })) (Some c.play.new.source)
     (g.K.Sink.written c.args.sink.now) (g.K.Sink.written c.play.new.sink) = search rules in

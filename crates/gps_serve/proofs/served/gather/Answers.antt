@@ -7,6 +7,7 @@ use Rattle.gps_serve.specs.AtEnd.{gate_facts, sink_facts}
 use Rattle.gps_serve.specs.Lost.{IsNotLost}
 use Rattle.gps_serve.specs.Statuses.{EachWhole, HasStopped}
 use Rattle.gps_serve.specs.Units.{AreAtRest}
+use Rattle.gps_serve.proofs.Causes.{door_first}
 use Rattle.gps_serve.proofs.Gates.{gate_served, none_lost_in}
 use Rattle.report_book.specs.BookView.{BookView}
 use Rattle.gps_serve.proofs.Ends.{all_ended_by, at_end_of, devices_by, ends_count, monitors_by, not_lacked, units_few}
@@ -71,7 +72,7 @@ returns-clause-at_end g c =
     c.devices_done-devices.ensures.served c.devices_done-devices.ensures.ends c.sessions_done-sessions.ensures.book
     c.sessions_done-sessions.ensures.served c.monitors_done-monitors.ensures.book c.monitors_done-monitors.ensures.served c.monitors_done-monitors.ensures.numbers whole
     (gate_served sources sinks gates c.args.numbers.queue (g.W.Gate.Door.links c.args.first.value) door.gate door.full door.no_memory c.lacks.result door.seat _ _
-    c.requires.tended c.sessions_done-sessions.ensures.sources (λ e. c.lacked-no_memory.ensures.before (whole e)))
+    c.requires.tended c.sessions_done-sessions.ensures.links (λ e. c.lacked-no_memory.ensures.before (whole e)))
 
 pub returns-clause-three : goal.returns-clause-three
 returns-clause-three g c e = c.devices_done-devices.ensures.failed (c.status.ensures.three e)
@@ -81,6 +82,10 @@ returns-clause-first g c =
     let sources = source_facts g.W.In.Source.content g.W.In.Source.faults g.W.In.Source.quiets in
     first_of g.D.Dials.may sources _ _ _ c.status.ensures.three_first c.devices_done-devices.ensures.untold
     (whole_at_end _ _ sources _ _ _ _ _ (Some _) _ _ _ _ (returns-clause-at_end g c) refl)
+
+pub returns-clause-door : goal.returns-clause-door
+returns-clause-door g c =
+    door_first g.W.Gate.Door.faults c.args.ended.door.gate (Some c.args.ended.door.gate) c.args.ended.door.failed _ refl c.requires.sound c.status.ensures.door
 
 pub returns-clause-eight : goal.returns-clause-eight
 returns-clause-eight g c e = c.requires.cause (c.status.ensures.eight e)

@@ -6,6 +6,7 @@ use Rattle.serve_end_settling.specs.Runs.{source_facts}
 use Rattle.gps_serve.specs.AtEnd.{AtEnd, gate_facts, sink_facts, settings_of}
 use Rattle.gps_serve.specs.Runs.{RanOn}
 use Rattle.gps_serve.specs.Units.{CountFromZero}
+use Rattle.gps_serve.proofs.Causes.{gate_sound}
 use Rattle.gps_serve.proofs.Taking.{devices_read}
 use Rattle.gps_serve.proofs.Dials.{may_give}
 use Rattle.gps_serve.proofs.Ends.{devices_ran_on, segments_count, watchers_ran_on}
@@ -40,6 +41,11 @@ gather-requires-clause-monitors g c κs within =
 
 pub gather-requires-clause-from : goal.gather-requires-clause-from
 gather-requires-clause-from g c κs within = subst CountFromZero (ap (λ (t : Terms). t.segments) (sym c.requires.terms)) c.requires.from
+
+pub gather-requires-clause-sound : goal.gather-requires-clause-sound
+gather-requires-clause-sound g c κs within =
+    let none : g.W.Gate.Door.faults c.in-Ok-set_up.setup.door.gate ≡ 0 = cc (c.in-Ok-set_up.ensures.door, c.begin_of-door.ensures.gate, c.requires.sound) in
+    gate_sound c.in-Some.ended.door.failed (g.W.Gate.Door.faults c.in-Ok-set_up.setup.door.gate) (g.W.Gate.Door.faults c.in-Some.ended.door.gate) c.in-Some.ensures.fails none
 
 pub returns-clause-reads : goal.returns-clause-reads
 returns-clause-reads g c some =

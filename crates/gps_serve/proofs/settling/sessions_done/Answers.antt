@@ -2,7 +2,7 @@ use Rattle.std.proofs.Common.{◌∙◌, length, refl, sym, ap, subst, arith}
 use Rattle.report_book.specs.BookView.{BookView}
 use Rattle.serve_end_settling.specs.Runs.{source_facts}
 use Rattle.gps_serve.specs.AtEnd.{sink_facts}
-use Rattle.gps_serve.specs.Readies.{AllServed, IsSourceOf}
+use Rattle.gps_serve.specs.Readies.{AllServed, IsLeftOfLink}
 use Rattle.gps_serve.proofs.Sessions.{is_next, next_session, none_left, same_book, sessions_all, sessions_begin, sessions_more, some_left}
 use Rattle.gps_serve.proofs.Zips.{ran_begin, ran_end, ran_next}
 use Rattle.gps_serve.proofs.settling.sessions_done.Goals as goal
@@ -10,7 +10,7 @@ use Rattle.gps_serve.proofs.settling.sessions_done.Goals as goal
 pub sessions-init : goal.sessions-init
 sessions-init g c = record {
   so_far = sessions_begin _ _ _ _ _ _ _ _ c.requires.ready c.into_iter-inputs.ensures.rest c.into_iter-runs.ensures.rest c.requires.none;
-  sources = ran_begin _ _ _ _ c.into_iter-runs.ensures.rest c.requires.none;
+  links = ran_begin _ _ _ _ c.into_iter-runs.ensures.rest c.requires.none;
   book = refl;
   all = c.opened-number-end.ensures;
   count = omega (arith, c.requires.empty, c.into_iter-runs.ensures.len);
@@ -37,7 +37,8 @@ sessions-preserved g c = record {
       (sessions_more _ _ _ _ _ _ _ _ _ _ _ _
       (next_session _ _ _ _ _ _ _ _ _ _ _ _ c.sessions.invariant.so_far c.next_of-input.ensures c.next_of-run.ensures)
       c.settled.ensures.number c.settled.ensures.input c.settled.ensures.outlet c.push_reserved.ensures.items);
-  sources = ran_next IsSourceOf _ _ _ _ _ _ _ c.sessions.invariant.sources c.next_of-run.ensures c.settled.ensures.source c.push_reserved.ensures.items;
+  links = ran_next (IsLeftOfLink (source_facts g.S.Source.content g.S.Source.faults g.S.Source.quiets) (sink_facts g.K.Sink.written g.K.Sink.faults)) _ _ _ _ _ _ _
+      c.sessions.invariant.links c.next_of-run.ensures c.settled.ensures.link c.push_reserved.ensures.items;
   book = c.settled.ensures.book ∙ c.sessions.invariant.book;
   all = c.sessions.invariant.all ∙ ap (λ (b : BookView). length b.sessions) (sym c.settled.ensures.book);
   count = omega (arith, c.push_reserved.ensures.len, c.sessions.invariant.count, ap length c.next_of-run.ensures);
@@ -52,7 +53,7 @@ returns-clause-served g c =
     let test = c.sessions-test.false in
     subst P c.sessions.invariant.book (sessions_all _ _ _ _ _ _ _ _ c.sessions.invariant.so_far (omega (arith, test, c.sessions.invariant.all)))
 
-pub returns-clause-sources : goal.returns-clause-sources
-returns-clause-sources g c =
+pub returns-clause-links : goal.returns-clause-links
+returns-clause-links g c =
     let test = c.sessions-test.false in
-    ran_end _ _ _ _ c.sessions.invariant.sources (none_left _ _ _ _ _ _ _ _ c.sessions.invariant.so_far (omega (arith, test, c.sessions.invariant.all)))
+    ran_end _ _ _ _ c.sessions.invariant.links (none_left _ _ _ _ _ _ _ _ c.sessions.invariant.so_far (omega (arith, test, c.sessions.invariant.all)))

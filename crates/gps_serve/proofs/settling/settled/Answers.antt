@@ -8,6 +8,9 @@ session_done-requires-clause-input g c =
     input_lane_at (source_facts g.S.Source.content g.S.Source.faults g.S.Source.quiets) (sink_facts g.K.Sink.written g.K.Sink.faults) c.args.book.now.sessions c.args.number
     c.args.input c.args.run c.requires.there c.requires.ready
 
+pub returns-clause-link : goal.returns-clause-link
+returns-clause-link g c = record { source = c.session_done.ensures.source; sink = c.session_done.ensures.wrote }
+
 pub returns-clause-input : goal.returns-clause-input
 returns-clause-input g c =
     input_served_at (source_facts g.S.Source.content g.S.Source.faults g.S.Source.quiets) (sink_facts g.K.Sink.written g.K.Sink.faults) c.args.book.now.sessions c.args.number

@@ -1,30 +1,14 @@
-use Rattle.gps_words.specs.declared.command.CommandLine.TheVariants.{Decode, Pseudo, Replay, Generate, Lines}
 use Rattle.gpsrelay.proofs.Commands.{completes, ends, read_fault, write_fault}
 use Rattle.gpsrelay.proofs.run.run.Goals as goal
 
-pub returns-clause-decode : goal.returns-clause-decode
-returns-clause-decode g c = λ history asked. c.do_words-status.ensures.does (Decode history) asked
-
-pub returns-clause-pseudo : goal.returns-clause-pseudo
-returns-clause-pseudo g c = λ history asked. c.do_words-status.ensures.does (Pseudo history) asked
-
-pub returns-clause-replay : goal.returns-clause-replay
-returns-clause-replay g c = λ history queue asked. c.do_words-status.ensures.does (Replay history queue) asked
-
-pub returns-clause-generate : goal.returns-clause-generate
-returns-clause-generate g c = λ seed size asked. c.do_words-status.ensures.does (Generate seed size) asked
-
-pub returns-clause-lines : goal.returns-clause-lines
-returns-clause-lines g c = λ asked. c.do_words-status.ensures.does Lines asked
-
 pub returns-clause-read_fault : goal.returns-clause-read_fault
-returns-clause-read_fault g c = read_fault _ _ _ _ _ _ _ _ _ _ _ _ _ _ c.do_words-status.ensures.only c.do_words-status.ensures.does
+returns-clause-read_fault g c = read_fault _ _ _ _ _ c.do_words-status.ensures.only c.do_words-status.ensures.does
 
 pub returns-clause-write_fault : goal.returns-clause-write_fault
-returns-clause-write_fault g c = write_fault _ _ _ _ _ _ _ _ _ _ _ _ _ _ c.do_words-status.ensures.only c.do_words-status.ensures.does
+returns-clause-write_fault g c = write_fault _ _ _ _ _ c.do_words-status.ensures.only c.do_words-status.ensures.does
 
 pub returns-clause-ends : goal.returns-clause-ends
-returns-clause-ends g c = λ command asked sound. ends _ _ _ _ _ _ _ _ _ _ _ _ _ command (c.do_words-status.ensures.does command asked) sound
+returns-clause-ends g c = λ command asked sound. ends _ _ _ _ command (c.do_words-status.ensures.does command asked) sound
 
 pub returns-clause-complete : goal.returns-clause-complete
-returns-clause-complete g c = λ command asked within sound. completes _ _ _ _ _ _ _ _ _ _ _ _ _ command (c.do_words-status.ensures.does command asked) within sound
+returns-clause-complete g c = λ command asked within sound. completes _ _ _ _ command (c.do_words-status.ensures.does command asked) within sound

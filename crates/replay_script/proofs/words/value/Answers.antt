@@ -1,5 +1,5 @@
 use Rattle.std.proofs.Common.{arith}
-use Rattle.replay_script.proofs.Digits.{value_more, value_fits}
+use Rattle.pps_edges.proofs.Digits.{value_more, value_fits}
 use Rattle.replay_script.proofs.words.value.Goals as goal
 
 pub overflow_mul-number : goal.overflow_mul-number

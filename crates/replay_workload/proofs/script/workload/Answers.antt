@@ -1,3 +1,5 @@
+use Rattle.std.proofs.Common.{◌≤◌, ◌+◌, ◌*◌, length, arith}
+use Rattle.replay_workload.proofs.Lengths.{bounded}
 use Rattle.replay_workload.proofs.Seconds.{none_yet, one_more}
 use Rattle.replay_workload.proofs.script.workload.Goals as goal
 
@@ -8,3 +10,11 @@ seconds-init c =
 pub seconds-preserved : goal.seconds-preserved
 seconds-preserved c =
     one_more _ _ _ _ _ _ _ c.seconds.invariant c.next-drawn.ensures.value c.next-drawn.ensures.small c.five_digits.ensures c.in_ok-push_second.ensures
+
+pub returns-clause-bound : goal.returns-clause-bound
+returns-clause-bound c =
+    let end : c.seconds.t ≤ c.args.size = c.seconds.auto.t-end in
+    let few : c.args.size ≤ 10_000 = c.requires.to in
+    let short : length c.seconds.out ≤ 147 + 1_184 * c.seconds.t =
+    bounded c.args.seed c.seconds.t c.seconds.out (omega (arith, end, few)) c.seconds.invariant.script_is in
+    omega (arith, short, end)

@@ -2,14 +2,14 @@ use Rattle.std.proofs.Common.{◌∙◌, ap, arith}
 use Rattle.gps_lane.specs.Ends.{Putting}
 use Rattle.serve_pieces.specs.declared.piece.Piece.{Piece}
 use Rattle.serve_workers.specs.declared.readers.ReaderStep.TheVariants.{On, Over, Closed}
-use Rattle.serve_workers.proofs.LineStepping.{line_turns_on, lines_broken_off}
+use Rattle.serve_workers.proofs.LineStepping.{line_turns_on}
 use Rattle.serve_workers.proofs.edges.cut_on.Goals as goal
 
 pub reads-preserved : goal.reads-preserved
 reads-preserved g c = record {
   limit = c.in-On.ensures.limit ∙ c.reads.invariant.limit;
   turns = line_turns_on On _ _ _ _ _ _ _ _ _ c.reads.invariant.turns c.in-On.ensures.turns;
-  lane = c.cut_once.ensures.lane ∙ ap (λ (end : Putting Piece). record { lane = end.lane; cap = end.cap; put = c.cut_once.new.pieces.put }) c.reads.invariant.lane;
+  lane = c.cut_once.ensures.lane ∙ ap (λ (end : Putting Piece). record end { put = c.cut_once.new.pieces.put }) c.reads.invariant.lane;
   faults = omega (arith, c.reads.invariant.faults, c.cut_once.ensures.faults_stay);
   quiets = omega (arith, c.reads.invariant.quiets, c.cut_once.ensures.quiets_stay);
 }
@@ -19,6 +19,3 @@ returns-in-Over-clause-turns g c = line_turns_on (Over c.in-Over.ending) _ _ _ _
 
 pub returns-in-Closed-clause-turns : goal.returns-in-Closed-clause-turns
 returns-in-Closed-clause-turns g c = line_turns_on Closed _ _ _ _ _ _ _ _ _ c.reads.invariant.turns c.in-Closed.ensures.turns
-
-pub returns-then-eq-clause-turns : goal.returns-then-eq-clause-turns
-returns-then-eq-clause-turns g c = lines_broken_off _ _ _ _ _ _ (line_turns_on On _ _ _ _ _ _ _ _ _ c.reads.invariant.turns c.in-On.ensures.turns)

@@ -20,7 +20,7 @@ cuts-preserved-in-Done g c = record {
   cuts = λ bytes stands.
       line_put bytes _ _ _ _ _ _ _ c.in-Ok-Line.line c.in-Ok-Line.used _ (c.cuts.invariant.cuts bytes stands) (c.cuts.invariant.limit ∙ c.requires.limit)
       (steps_as _ _ _ _ _ c.in-Ok-Line.field-0-is c.in-Ok-Line.ensures.steps) (c.text_of.ensures ∙ ap text_of c.as_slice.ensures) c.in-Done.ensures.puts;
-  lane = c.put_line.ensures.lane ∙ ap (λ (end : Putting Piece). record { lane = end.lane; cap = end.cap; put = c.put_line.new.pieces.put }) c.cuts.invariant.lane;
+  lane = c.put_line.ensures.lane ∙ ap (λ (end : Putting Piece). record end { put = c.put_line.new.pieces.put }) c.cuts.invariant.lane;
 }
 
 pub cuts-preserved-in-Done-2 : goal.cuts-preserved-in-Done-2
@@ -29,7 +29,7 @@ cuts-preserved-in-Done-2 g c = record {
   cuts = λ bytes stands.
       line_put bytes _ _ _ _ _ _ _ c.in-Ok-Line.line c.in-Ok-Line.used _ (c.cuts.invariant.cuts bytes stands) (c.cuts.invariant.limit ∙ c.requires.limit)
       (steps_as _ _ _ _ _ c.in-Ok-Line.field-0-is c.in-Ok-Line.ensures.steps) (c.text_of.ensures ∙ ap text_of c.as_slice.ensures) c.in-Done.ensures.puts;
-  lane = c.put_line.ensures.lane ∙ ap (λ (end : Putting Piece). record { lane = end.lane; cap = end.cap; put = c.put_line.new.pieces.put }) c.cuts.invariant.lane;
+  lane = c.put_line.ensures.lane ∙ ap (λ (end : Putting Piece). record end { put = c.put_line.new.pieces.put }) c.cuts.invariant.lane;
 }
 
 pub cuts-preserved : goal.cuts-preserved

@@ -1,4 +1,4 @@
-use Rattle.serve_workers.proofs.Stepping.{broken_off, turns_on}
+use Rattle.serve_workers.proofs.Stepping.{turns_on}
 use Rattle.serve_workers.proofs.readers.read_on.Goals as goal
 
 pub returns-in-Over-clause-turns : goal.returns-in-Over-clause-turns
@@ -6,6 +6,3 @@ returns-in-Over-clause-turns g c = turns_on _ _ _ _ _ _ _ _ _ c.reads.invariant.
 
 pub returns-in-Closed-clause-turns : goal.returns-in-Closed-clause-turns
 returns-in-Closed-clause-turns g c = turns_on _ _ _ _ _ _ _ _ _ c.reads.invariant.turns c.in-Closed.ensures.turns
-
-pub returns-then-eq-clause-turns : goal.returns-then-eq-clause-turns
-returns-then-eq-clause-turns g c = broken_off _ _ _ _ _ _ (turns_on _ _ _ _ _ _ _ _ _ c.reads.invariant.turns c.in-On.ensures.turns)

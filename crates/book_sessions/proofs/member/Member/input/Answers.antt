@@ -2,27 +2,27 @@ use Rattle.std.proofs.Common.{◌≡◌, None, not, ◌&&◌, take, max, sym, ap
 use Rattle.std.specs.List.{list_any}
 use Rattle.book_replies.specs.Replies.{answered}
 use Rattle.book_sessions.specs.MemberView.{MemberView}
-use Rattle.book_sessions.specs.Answering.{Inputs, enables}
-use Rattle.book_sessions.proofs.Answered.{input_put, watched_now}
+use Rattle.book_sessions.specs.Answering.{AnswersCut, enables}
+use Rattle.book_sessions.proofs.Answered.{answers_put, watched_now}
 use Rattle.book_sessions.proofs.member.Member.input.Goals as goal
 
-pub returns-clause-gains : goal.returns-clause-gains
-returns-clause-gains g c =
+pub returns-clause-answers : goal.returns-clause-answers
+returns-clause-answers g c =
     let old : MemberView = record { session = c.self.inside.session; cutter = c.self.inside.cutter; watched = c.self.inside.watched } in
     let P : MemberView → Type 0 = λ a. a.session.closing ≡ None in
-    let Q : MemberView → Type 0 = λ a. Inputs g.O.Outlet.exact c.args.known.now c.args.names.now c.args.place c.args.piece.now a c.rest.new.self in
+    let Q : MemberView → Type 0 = λ a. AnswersCut g.O.Outlet.exact c.args.known.now c.args.names.now c.args.place c.args.cut.requests.items c.args.cut.cutter a c.rest.new.self in
     let none : old.session.closing ≡ None = subst P (sym c.self.view_is) c.requires.open in
     subst Q c.self.view_is
-    (input_put g.O.Outlet.exact c.args.known.now c.args.names.now c.args.place c.args.piece.now c.in_ok-cut.cut.requests.items c.as_slice.result.now c.in_ok-cut.cut.cutter _
+    (answers_put g.O.Outlet.exact c.args.known.now c.args.names.now c.args.place c.args.cut.requests.items c.as_slice.result.now c.args.cut.cutter _
     (max c.self.inside.session.spare c.in_ok-count.count) c.policy.result.now c.in_ok-replies.replies.items c.reserve.new.self old c.put_all.new.self c.rest.new.self none (c.self.invariant none)
-    c.in_ok-cut.ensures.gains c.in_ok-reserve.ensures.ok c.put-requests.ensures.cutter c.policy.ensures c.as_slice.ensures.value c.in_ok-replies.ensures c.put_all.ensures c.rest.ensures)
+    c.in_ok-reserve.ensures.ok c.put-requests.ensures.cutter c.policy.ensures c.as_slice.ensures.value c.in_ok-replies.ensures c.put_all.ensures c.rest.ensures)
 
 pub returns-clause-watched : goal.returns-clause-watched
 returns-clause-watched g c =
-    let inputs : Inputs g.O.Outlet.exact c.args.known.now c.args.names.now c.args.place c.args.piece.now c.args.self.now c.rest.new.self = returns-clause-gains g c in
+    let inputs : AnswersCut g.O.Outlet.exact c.args.known.now c.args.names.now c.args.place c.args.cut.requests.items c.args.cut.cutter c.args.self.now c.rest.new.self = returns-clause-answers g c in
     let before = ap (λ (a : MemberView). a.watched) c.self.view_is in
     let now = ap (λ (a : MemberView). a.watched) c.self-2.view_is in
     let is : c.is_new.result ≡ (not c.args.self.now.watched && c.rest.new.self.watched) =
     c.is_new.ensures ∙ ap (λ b. not b && c.self-2.inside.watched) before ∙ ap (λ b. not c.args.self.now.watched && b) now in
-    watched_now c.args.self.now c.rest.new.self (list_any enables (take inputs.count (answered c.args.known.now c.args.names.now c.args.self.now.session.policy inputs.requests))) c.is_new.result
+    watched_now c.args.self.now c.rest.new.self (list_any enables (take inputs.count (answered c.args.known.now c.args.names.now c.args.self.now.session.policy c.args.cut.requests.items))) c.is_new.result
     inputs.puts.watched is

@@ -1,6 +1,6 @@
 use Rattle.std.proofs.Common.{List, sym, subst, arith, ◌<◌, length, ap, ◌∙◌}
 use Rattle.book_sessions.specs.MemberView.{MemberView}
-use Rattle.book_sessions.specs.Answering.{Inputs}
+use Rattle.book_sessions.specs.Answering.{AnswersCut}
 use Rattle.book_sessions.specs.Roster.{IsAfterAll, Changes, IsOpenAt}
 use Rattle.book_sessions.proofs.Listening.{listening_heard}
 use Rattle.book_sessions.proofs.Places.{after_input}
@@ -9,7 +9,7 @@ use Rattle.book_sessions.proofs.roster.Roster.input.Goals as goal
 
 pub invariant_of-self-2 : goal.invariant_of-self-2
 invariant_of-self-2 g c =
-    let changed = c.in_ok-watched.ensures.input in
+    let changed = c.in_ok-watched.ensures.answers in
     let P : List MemberView → Type 0 = λ l. IsOpenAt c.args.s l in
     let was_open = subst P (sym c.self.view_is) c.requires.open in (
       changed_roster c.self.inside.live.items c.self.inside.recent.items c.keep_open.new.numbers.items c.self.inside.watched _ c.args.s changed.0 c.self.inside.members.items c.input_at.new.members.items
@@ -19,14 +19,14 @@ invariant_of-self-2 g c =
           (c.in_ok-listening.ensures ∙ c.self.invariant.0.live_ones) was_open changed.1 c.keep_listening.ensures,
     )
 
-pub returns-clause-input : goal.returns-clause-input
-returns-clause-input g c =
-    let P : List MemberView → Type 0 = λ l. Changes c.args.s (Inputs g.O.Outlet.exact c.args.known.now c.args.names.now c.args.place c.args.piece.now) l c.input_at.new.members.items in
-    subst P c.self.view_is c.in_ok-watched.ensures.input
+pub returns-clause-answers : goal.returns-clause-answers
+returns-clause-answers g c =
+    let P : List MemberView → Type 0 = λ l. Changes c.args.s (AnswersCut g.O.Outlet.exact c.args.known.now c.args.names.now c.args.place c.args.cut.requests.items c.args.cut.cutter) l c.input_at.new.members.items in
+    subst P c.self.view_is c.in_ok-watched.ensures.answers
 
 pub returns-clause-after : goal.returns-clause-after
 returns-clause-after g c = λ later low after.
     let P : List MemberView → Type 0 = λ l. IsAfterAll later l in
     let within : c.args.s < length c.self.inside.members.items = omega (arith, ap length c.self.view_is, c.requires.exists) in
-    after_input g.O.Outlet.exact c.args.known.now c.args.names.now c.args.place c.args.s c.args.piece.now c.self.inside.members.items c.input_at.new.members.items
-    c.in_ok-watched.ensures.input within later low (subst P (sym c.self.view_is) after)
+    after_input g.O.Outlet.exact c.args.known.now c.args.names.now c.args.place c.args.s c.args.cut.requests.items c.args.cut.cutter c.self.inside.members.items c.input_at.new.members.items
+    c.in_ok-watched.ensures.answers within later low (subst P (sym c.self.view_is) after)

@@ -1,7 +1,8 @@
-use Rattle.std.proofs.Common.{◌≡◌, ◌<◌, ℕ, List, Option, Some, None, get_or, set, length, sym, ap, ◌∙◌, subst, arith}
+use Rattle.std.proofs.Common.{◌≡◌, ◌<◌, ℕ, List, ◌++◌, Option, Some, None, get_or, set, length, sym, ap, ◌∙◌, subst, arith}
+use Rattle.book_log.specs.Entries.{Entry}
 use Rattle.hub_promise.specs.DaemonHub.{MayGoOn}
 use Rattle.hub_promise.specs.declared.ends.DeviceEnd.{DeviceEnd}
-use Rattle.hub_promise.specs.Keeping.{HubKeeps, Lasts}
+use Rattle.hub_promise.specs.Keeping.{DeviceKeeps, HubKeeps, Lasts}
 use Rattle.hub_promise.specs.Parts.{HubView, InletsView, Terms, parts_of}
 use Rattle.hub_promise.proofs.Going.{device_free}
 use Rattle.hub_promise.proofs.Hubs.{hub_device}
@@ -68,7 +69,7 @@ invariant_of-self g c =
           (subst (λ (n : ℕ). get_or c.self.inside.inlets.items n x ≡ x) c.from-at.ensures (sym c.index_mut.ensures.value))
           (there_after g c)
           (subst (λ (n : ℕ). get_or c.self.inside.lasts.items n l ≡ l) c.from-at.ensures (sym c.index_mut-2.ensures.value))
-          (may_after g c) c.show.ensures.holds (looked_names c.pump-pumped.result x new.inlets new.end c.pump-pumped.ensures.answer) c.pump-pumped.ensures.step),
+          (going_after g c) (may_after g c) c.show.ensures.holds (looked_names c.pump-pumped.result c.args.d x new.inlets l new.end c.self.inside.book new.book c.pump-pumped.ensures.answer) c.pump-pumped.ensures.step),
       c.self.invariant.1,
     )
 
@@ -83,10 +84,16 @@ returns-clause-pumped g c =
     let n = c.self.invariant.0.count in
     let m = c.self.invariant.0.ends_count in
     let here = subst (λ (n : ℕ). get_or c.self.inside.inlets.items n x ≡ x) at (sym c.index_mut.ensures.value) in
+    let l = c.index_mut-2.result.now in
+    let now = subst (λ (n : ℕ). get_or c.self.inside.lasts.items n l ≡ l) at (sym c.index_mut-2.ensures.value) in
+    let log : List Entry = c.self.invariant.0.over.0 ++ c.self.inside.book.log.log in
+    let keeps : DeviceKeeps log c.args.d x None l =
+    subst (λ (t : InletsView × Option DeviceEnd × Lasts). DeviceKeeps log c.args.d t.0 t.1 t.2) (λ i. (here i, (there_after g c ∙ going_after g c) i, now i))
+    (c.self.invariant.0.over.1.devices c.args.d x e l lt) in
     let none : get_or c.self.inside.ends.items c.args.d None ≡ None = subst (λ (o : Option DeviceEnd). get_or c.self.inside.ends.items c.args.d o ≡ o) (going_after g c) (there_after g c) in
     let P : HubView × ℕ → Type 0 = λ t. DevicePumped c.pump-pumped.result c.args.d t.0 (record h { book = new.book; inlets = set c.self.inside.inlets.items t.1 new.inlets; ends = set c.self.inside.ends.items t.1 new.end }) in
     subst P (λ i. (c.self.view_is i, sym at i))
-    (device_pumped h c.args.d new.book x new.inlets e new.end (omega arith) (omega arith) here (there_after g c) c.pump-pumped.result (may_after g c, none) c.pump-pumped.ensures.answer c.pump-pumped.ensures.empty)
+    (device_pumped h c.args.d new.book x new.inlets e new.end (omega arith) (omega arith) here (there_after g c) c.pump-pumped.result log l keeps (may_after g c, none) c.pump-pumped.ensures.answer c.pump-pumped.ensures.empty)
 
 pub returns-clause-others : goal.returns-clause-others
 returns-clause-others g c =

@@ -1,10 +1,11 @@
-use Rattle.std.proofs.Common.{◌≡◌, ◌≤◌, ◌<◌, ℕ, Bool, false, length, ap, sym, subst, arith}
+use Rattle.std.proofs.Common.{◌<◌, false, length, refl, sym, subst, ◌∙◌, ap}
 use Rattle.book_log.proofs.Owned.{are_named}
 use Rattle.book_log.specs.Entries.{fed, edged, ended}
 use Rattle.book_log.specs.DeviceLogView.{turns_at}
 use Rattle.report_book.specs.BookView.{BookView, turned_if}
 use Rattle.report_book.specs.Moves.{Earns}
-use Rattle.report_book.proofs.Calls.{after_if, is_device, moved, roomy}
+use Rattle.report_book.proofs.Calls.{after_if, is_device, limit_kept, moved}
+use Rattle.report_book.proofs.Ending.{needs_no_room}
 use Rattle.report_book.proofs.book.Book.end_device.Goals as goal
 
 pub put-requires-clause-after : goal.put-requires-clause-after
@@ -18,20 +19,23 @@ put-requires-clause-named g c =
 
 pub put-requires-clause-room : goal.put-requires-clause-room
 put-requires-clause-room g c =
-    let short : length c.in_ok-added.added.batch.reports ≤ 2568 = let short = c.in_ok-added.ensures.few in omega arith in
-    roomy c.args.d c.reserve.new.self.spare c.in_ok-added.added.batch.reports c.in_ok-reserve.ensures.room c.in_ok-added.ensures.own short
+    needs_no_room c.args.d c.self.inside.units.spare c.self.inside.log c.end_device.new.self c.in_ok-added.added.batch.reports c.self.invariant.log c.in_ok-added.ensures.adds
 
 pub invariant_of-self-2 : goal.invariant_of-self-2
 invariant_of-self-2 g c =
-    (moved g.O.Outlet.exact c.self.inside.names c.self.inside.log c.end_device.new.self c.self.inside.roster c.put.new.roster c.self.inside.units.units c.reserve.new.self.units c.put.new.units.units
+    (moved g.O.Outlet.exact c.self.inside.names c.self.inside.log c.end_device.new.self c.self.inside.roster c.put.new.roster c.self.inside.units.units c.self.inside.units.units c.put.new.units.units
     false c.in_ok-added.added.turned c.in_ok-added.added.first (ended c.args.d) c.in_ok-added.added.batch.reports
-    c.self.invariant c.in_ok-added.ensures.turned c.in_ok-added.ensures.first c.reserve.ensures.units c.in_ok-added.ensures.holds c.in_ok-added.ensures.adds
+    c.self.invariant c.in_ok-added.ensures.turned c.in_ok-added.ensures.first refl c.in_ok-added.ensures.holds c.in_ok-added.ensures.adds
     c.put.ensures.turned c.put.ensures.carried c.put.ensures.sessions c.put.ensures.units).holds
 
 pub returns-clause-earns : goal.returns-clause-earns
 returns-clause-earns g c =
     let P : BookView → Type 0 = λ b. Earns b (record { names = c.self.inside.names; log = c.end_device.new.self; sessions = c.put.new.roster; units = c.put.new.units.units }) (ended c.args.d) in
-    subst P c.self.view_is ((moved g.O.Outlet.exact c.self.inside.names c.self.inside.log c.end_device.new.self c.self.inside.roster c.put.new.roster c.self.inside.units.units c.reserve.new.self.units c.put.new.units.units
+    subst P c.self.view_is ((moved g.O.Outlet.exact c.self.inside.names c.self.inside.log c.end_device.new.self c.self.inside.roster c.put.new.roster c.self.inside.units.units c.self.inside.units.units c.put.new.units.units
     false c.in_ok-added.added.turned c.in_ok-added.added.first (ended c.args.d) c.in_ok-added.added.batch.reports
-    c.self.invariant c.in_ok-added.ensures.turned c.in_ok-added.ensures.first c.reserve.ensures.units c.in_ok-added.ensures.holds c.in_ok-added.ensures.adds
+    c.self.invariant c.in_ok-added.ensures.turned c.in_ok-added.ensures.first refl c.in_ok-added.ensures.holds c.in_ok-added.ensures.adds
     c.put.ensures.turned c.put.ensures.carried c.put.ensures.sessions c.put.ensures.units).earns)
+
+pub returns-clause-limit : goal.returns-clause-limit
+returns-clause-limit g c =
+    limit_kept false c.self.inside.log c.end_device.new.self (ended c.args.d) c.in_ok-added.added.batch.reports c.in_ok-added.ensures.adds ∙ ap (λ (b : BookView). b.log.limit) c.self.view_is

@@ -1,10 +1,10 @@
-use Rattle.std.proofs.Common.{◌≡◌, ◌≤◌, ◌<◌, ℕ, Bool, false, length, ap, sym, subst, arith}
+use Rattle.std.proofs.Common.{◌≡◌, ◌≤◌, ◌<◌, ℕ, Bool, false, length, ap, sym, subst, arith, ◌∙◌}
 use Rattle.book_log.proofs.Owned.{are_named}
 use Rattle.book_log.specs.Entries.{fed, edged, ended}
 use Rattle.book_log.specs.DeviceLogView.{turns_at}
 use Rattle.report_book.specs.BookView.{BookView, turned_if}
 use Rattle.report_book.specs.Moves.{Earns}
-use Rattle.report_book.proofs.Calls.{after_if, is_device, moved, roomy}
+use Rattle.report_book.proofs.Calls.{after_if, is_device, limit_kept, moved, roomy}
 use Rattle.report_book.proofs.book.Book.feed.Goals as goal
 
 pub put-requires-clause-after : goal.put-requires-clause-after
@@ -19,7 +19,7 @@ put-requires-clause-named g c =
 pub put-requires-clause-room : goal.put-requires-clause-room
 put-requires-clause-room g c =
     let short : length c.in_ok-added.added.batch.reports ≤ 2568 = let short = c.in_ok-added.ensures.few in let piece = c.requires.piece in omega arith in
-    roomy c.args.d c.reserve.new.self.spare c.in_ok-added.added.batch.reports c.in_ok-reserve.ensures.room c.in_ok-added.ensures.own short
+    roomy c.args.d 2568 c.reserve.new.self.spare c.in_ok-added.added.batch.reports c.in_ok-reserve.ensures.room c.in_ok-added.ensures.own short
 
 pub invariant_of-self-2 : goal.invariant_of-self-2
 invariant_of-self-2 g c =
@@ -35,3 +35,7 @@ returns-clause-earns g c =
     (turns_at c.self.inside.log (length c.args.bytes.now)) c.in_ok-added.added.turned c.in_ok-added.added.first (fed c.args.d c.args.at c.args.bytes.now) c.in_ok-added.added.batch.reports
     c.self.invariant c.in_ok-added.ensures.turned c.in_ok-added.ensures.first c.reserve.ensures.units c.in_ok-added.ensures.holds c.in_ok-added.ensures.adds
     c.put.ensures.turned c.put.ensures.carried c.put.ensures.sessions c.put.ensures.units).earns)
+
+pub returns-clause-limit : goal.returns-clause-limit
+returns-clause-limit g c =
+    limit_kept (turns_at c.self.inside.log (length c.args.bytes.now)) c.self.inside.log c.feed.new.self (fed c.args.d c.args.at c.args.bytes.now) c.in_ok-added.added.batch.reports c.in_ok-added.ensures.adds ∙ ap (λ (b : BookView). b.log.limit) c.self.view_is

@@ -1,4 +1,4 @@
-use Rattle.std.proofs.Common.{subst, refl}
+use Rattle.std.proofs.Common.{ap, ◌∙◌, subst, refl}
 use Rattle.book_log.specs.Entries.{lost}
 use Rattle.report_book.specs.BookView.{BookView}
 use Rattle.report_book.specs.Moves.{AddsQuietly, Earns}
@@ -18,3 +18,6 @@ pub returns-clause-earns : goal.returns-clause-earns
 returns-clause-earns g c =
     let P : BookView → Type 0 = λ b. Earns b (record { names = c.self.inside.names; log = c.lose_device.new.self; sessions = c.self.inside.roster; units = c.self.inside.units.units }) (lost c.args.d) in
     subst P c.self.view_is (quiet c.self.inside.names c.self.inside.log c.lose_device.new.self c.self.inside.roster c.self.inside.units.units (lost c.args.d) c.self.invariant c.lose_device.ensures.holds c.lose_device.ensures.adds).1
+
+pub returns-clause-limit : goal.returns-clause-limit
+returns-clause-limit g c = c.lose_device.ensures.adds.limit ∙ ap (λ (b : BookView). b.log.limit) c.self.view_is

@@ -1,0 +1,142 @@
+ghost use Rattle.std.specs.Prelude.{◌≡◌, ◌≤◌, length, IfOk};
+
+use crate::reader_source::is_quiet;
+use crate::{Sink, WriteStep};
+use std::io::{self, ErrorKind, Write};
+use std::marker::Model;
+use std::net::{Shutdown, TcpStream};
+use std::time::{Clock, Duration};
+
+/// How many milliseconds one call of the system waits for room. A client that takes a little at a time leaves room that only the next call
+/// sees, so this is a part of the second.
+pub(crate) const STEP: u64 = 100;
+
+/// A client that takes nothing for this number of milliseconds is a fault.
+const PATIENCE: u64 = 1_000;
+
+/// How many milliseconds the writing of what is left may take, once the sink was told that it ends soon.
+const LEFT: u64 = 10_000;
+
+/// How often a write is tried. More than fit into the time that it has.
+const TRIES: u32 = 10_000;
+
+/// The link of a client as a sink, a TCP stream with no buffer between: each try of a write is one call of the system.
+///
+/// It is seen as the number of its faults, and tells no content. A write is a fault where the client takes nothing for a second; a client that
+/// is slow but takes what it is sent keeps its link. Once the sink was told that it ends soon, all that is left has ten seconds, however the
+/// client takes it. A write that a signal interrupts begins anew.
+#[derive(Drop)]
+pub struct LinkSink<R> {
+    machine: R,
+    stream: Option<TcpStream>,
+    // When the time for what is left is over, by the machine's clock.
+    end: Option<Duration>,
+    faults: u64,
+}
+
+impl<R> Model for LinkSink<R> {
+    ghost use Rattle.std.specs.Prelude.{ℕ};
+
+    ghost Value = { ℕ };
+
+    ghost view = { λ s. s.faults };
+}
+
+fn timed_out() -> io::Error {
+    io::Error::from(ErrorKind::TimedOut)
+}
+
+impl<R> LinkSink<R> {
+    /// Writes to a TCP stream whose writes time out after [`STEP`].
+    pub(crate) fn of_stream(machine: R, stream: TcpStream) -> LinkSink<R>
+        ensures { result ≡ 0 }
+    {
+        LinkSink {
+            machine,
+            stream: Some(stream),
+            end: None,
+            faults: 0,
+        }
+    }
+
+    fn is_late(&self, now: Duration) -> bool {
+        match self.end {
+            Some(end) => now >= end,
+            None => false,
+        }
+    }
+}
+
+impl<R: Clock> LinkSink<R> {
+    /// Writes, and tries again until some bytes were taken or the time is over.
+    fn write_out(&self, mut stream: &TcpStream, piece: &[u8]) -> io::Result<usize>
+        ensures { IfOk result (λ n. n ≤ length piece.now) }
+    {
+        let mut since = self.machine.monotonic()?;
+        let mut now = since;
+        'tries: for _ in 0..TRIES {
+            if self.is_late(now) {
+                return Err(timed_out());
+            }
+            match stream.write(piece) {
+                Err(error) if error.kind() == ErrorKind::Interrupted => {
+                    now = self.machine.monotonic()?;
+                    since = now;
+                }
+                Err(error) if is_quiet(&error) => {
+                    if now.saturating_sub(since) >= Duration::from_millis(PATIENCE) {
+                        return Err(timed_out());
+                    }
+                    now = self.machine.monotonic()?;
+                }
+                other => return other,
+            }
+        }
+        Err(timed_out())
+    }
+
+    fn write_once(&self, piece: &[u8]) -> io::Result<usize>
+        ensures { IfOk result (λ n. n ≤ length piece.now) }
+    {
+        match &self.stream {
+            Some(stream) => self.write_out(stream, piece),
+            None => Err(io::Error::from(ErrorKind::NotConnected)),
+        }
+    }
+}
+
+impl<R: Clock + Drop> Sink for LinkSink<R> {
+    ghost use Rattle.std.specs.Prelude.{None};
+
+    ghost faults = { λ s. s };
+
+    ghost written = { λ _. None };
+
+    fn write(&mut self, piece: &[u8]) -> WriteStep {
+        match self.write_once(piece) {
+            Ok(n) if n > 0 => WriteStep::Wrote(n),
+            _ => {
+                self.faults = self.faults.saturating_add(1);
+                WriteStep::Failed
+            }
+        }
+    }
+
+    /// From the first time on, all that is left has ten seconds.
+    fn end_soon(&mut self) {
+        if self.end.is_some() {
+            return;
+        }
+        if let Ok(now) = self.machine.monotonic() {
+            self.end = Some(now.saturating_add(Duration::from_millis(LEFT)));
+        }
+    }
+
+    /// The stream is shut down on both sides, so that a read of it that waits ends at once, and is closed.
+    fn finish(&mut self) {
+        if let Some(stream) = &self.stream {
+            let _ = stream.shutdown(Shutdown::Both);
+        }
+        self.stream = None;
+    }
+}

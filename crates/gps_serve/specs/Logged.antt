@@ -1,0 +1,59 @@
+-- The main sentence of `serve`: what the log has of a device that has ended is what its source held.
+use Rattle.std.specs.Prelude.{◌≡◌, ◌<◌, ℕ, Bool, List, ◌++◌, length, get_or, Option, Some, IsSome}
+use Rattle.std.specs.List.{AllZip}
+use Rattle.gps_fixed.specs.Moment.{Moment}
+use Rattle.book_log.specs.Entries.{Entry, stream}
+use Rattle.book_log.specs.Standing.{StandsFor}
+use Rattle.device_core.specs.Stream.{bytes_in}
+use Rattle.gps_outside.specs.ReadSteps.{TakesAll}
+use Rattle.gps_outside.specs.Told.{Goes}
+use Rattle.gps_world.specs.declared.place.Place.{Place}
+use Rattle.hub_promise.specs.declared.ends.DeviceEnd.TheVariants.{Ended}
+use Rattle.packet_cut.specs.Packets.{bytes_of}
+use Rattle.report_book.specs.BookView.{BookView}
+use Rattle.serve_end_parts.specs.declared.done.DeviceDone.{DeviceDone}
+use Rattle.serve_end_parts.specs.declared.done.MonitorDone.{MonitorDone}
+use Rattle.serve_end_parts.specs.declared.done.SessionDone.{SessionDone}
+use Rattle.serve_end_settling.specs.Runs.{SourceFacts}
+use Rattle.gps_serve.specs.AtEnd.{AtEnd, BytesHeld, DaemonSettings, GateFacts, SinkFacts}
+use Rattle.gps_serve.specs.Doors.{Way}
+use Rattle.gps_serve.specs.Starts.{IsUnreadBy}
+
+-- the log of a whole run, of which the book keeps the last part
+abbrev pub IsLogOf : BookView → List Entry → Type 0
+IsLogOf book log = (forgotten : List Entry) × (StandsFor book.log.opening forgotten × (log ≡ forgotten ++ book.log.log))
+
+-- the bytes of a device in a log
+abbrev pub logged_bytes : ℕ → List Entry → List ℕ
+logged_bytes d log = bytes_of (bytes_in (stream d log))
+
+-- The bytes in the log are all that the device's source gave, from which nothing was taken before, and nothing is left in it.
+pub record IsLogged {S R : Type 0} (facts : SourceFacts S) (bytes : List ℕ) (done : DeviceDone S R) : Type 0 where
+  pub first : S
+  pub unread : IsUnreadBy facts first
+  pub source : S
+  pub source_is : done.source ≡ Some source
+  pub takes : Goes (TakesAll bytes) (facts.content first) (facts.content source)
+
+-- each source has modelled contents
+abbrev pub AreModelled : {S : Type 0} → SourceFacts S → Type 0
+AreModelled {S} facts = (source : S) → IsSome (facts.content source)
+
+-- Device by device, if it has ended: its bytes in the log are all that its source gave; and if contents are modelled, they are those that the
+-- world held at its place.
+pub record AreLogged {S R : Type 0} (facts : SourceFacts S) (behind : Place → Option (List ℕ)) (log : List Entry) (places : List Place)
+    (devices : List (DeviceDone S R)) : Type 0 where
+  pub given : (d : ℕ) (done : DeviceDone S R) → d < length devices → (get_or devices d done).end ≡ Some Ended
+      → IsLogged facts (logged_bytes d log) (get_or devices d done)
+  pub held : (d : ℕ) (place : Place) (done : DeviceDone S R) (held : List ℕ) → d < length devices → (get_or devices d done).end ≡ Some Ended
+      → AreModelled facts → behind (get_or places d place) ≡ Some held → logged_bytes d log ≡ held
+
+-- of all that a daemon hands back
+abbrev pub EndedAreLogged : {G S K : Type 0} → Type 0 → SourceFacts S → SinkFacts K → GateFacts G S K → Type 0
+EndedAreLogged {G} {S} {K} R sources sinks gates =
+    (told : DaemonSettings) (may : Option (List Moment)) (links : Option (List (Way S K))) (full : ℕ) (no_memory : Bool) (book : BookView)
+    (devices : List (DeviceDone S R)) (sessions : List (SessionDone S K R)) (monitors : List MonitorDone) (given : Option G)
+    (behind : Place → Option (List ℕ)) (places : List Place)
+    → AtEnd told may sources sinks gates links full no_memory book devices sessions monitors given
+    → AllZip (BytesHeld behind sources) places devices
+    → (log : List Entry) × (IsLogOf book log × AreLogged sources behind log places devices)

@@ -1,0 +1,39 @@
+-- The texts of numbers and their lengths.
+use Rattle.std.proofs.Common.{◌≡◌, ℕ, ◌/◌, ◌%◌, ◌<◌, ◌≤◌, ◌+◌, ◌^◌, List, [], ◌∷◌, ◌++◌, length, ap, ◌∙◌, arith, append_assoc, length-append}
+use Rattle.std.proofs.lemmas.Fmt.{decimal_step, length-decimal-le}
+use Rattle.std.specs.Fmt.{decimal}
+use Rattle.gps_fixed.proofs.TextLaws.{decimal_one, decimal_two, decimal_three}
+
+pub one_long : (n : ℕ) → n < 10 → length (decimal n) ≡ 1
+one_long n h = ap length (decimal_one n h)
+
+pub two_long : (n : ℕ) → 10 ≤ n → n < 100 → length (decimal n) ≡ 2
+two_long n ten hundred = ap length (decimal_two n ten hundred)
+
+pub three_long : (n : ℕ) → 100 ≤ n → n < 1_000 → length (decimal n) ≡ 3
+three_long n hundred thousand = ap length (decimal_three n hundred thousand)
+
+-- a number of four digits or more, by its thousands and its last three digits
+pub in_thousands : (n : ℕ) → 1_000 ≤ n → n < 2 ^ 64
+    → decimal n ≡ decimal (n / 1_000) ++ (48 + n / 100 % 10) ∷ (48 + n / 10 % 10) ∷ (48 + n % 10) ∷ []
+in_thousands n long small =
+    let a : n / 10 / 10 ≡ n / 100 = omega arith in
+    let b : n / 100 / 10 ≡ n / 1_000 = omega arith in
+    rw (
+      decimal_step n (omega (arith, long)) small,
+      decimal_step (n / 10) (omega (arith, long)) (omega (arith, small)),
+      a,
+      decimal_step (n / 100) (omega (arith, long)) (omega (arith, small)),
+      b,
+      append_assoc,
+      append_assoc,
+    )
+
+pub three_more : (n : ℕ) → 1_000 ≤ n → n < 2 ^ 64 → length (decimal n) ≡ length (decimal (n / 1_000)) + 3
+three_more n long small = ap length (in_thousands n long small) ∙ length-append (decimal (n / 1_000)) _
+
+pub at_most_ten : (n : ℕ) → n < 2 ^ 32 → length (decimal n) ≤ 10
+at_most_ten n small = length-decimal-le 10 n (omega arith) (omega (arith, small)) (omega (arith, small))
+
+pub thousands_at_most_seven : (n : ℕ) → n < 2 ^ 32 → length (decimal (n / 1_000)) ≤ 7
+thousands_at_most_seven n small = length-decimal-le 7 (n / 1_000) (omega arith) (omega (arith, small)) (omega (arith, small))

@@ -1,0 +1,124 @@
+//! Pieces of a text that are written into an array of bytes, so that no piece asks for memory. Each function gives the place behind its piece.
+
+ghost use Rattle.std.specs.Prelude.{◌≡◌, ◌<◌, ◌≤◌, ◌+◌, ◌%◌, ◌∷◌, ◌++◌, [], length, take};
+ghost use Rattle.std.specs.Fmt.{decimal};
+ghost use Rattle.json_line.specs.Json.{member, member_if, signed, truth};
+ghost use Rattle.json_line.specs.Names.{label_of};
+
+use crate::names::{Key, label};
+
+#[inline(always)]
+pub fn place_byte(room: &mut [u8], at: usize, byte: u8) -> usize
+    requires { at < length room.old }
+    ensures bytes { take result room.new ≡ take at room.old ++ byte ∷ [] }
+    ensures room { length room.new ≡ length room.old }
+    ensures end { result ≡ at + 1 }
+{
+    room[at] = byte;
+    at + 1
+}
+
+#[inline(always)]
+pub fn place_text(room: &mut [u8], at: usize, text: &[u8]) -> usize
+    requires { at + length text.now ≤ length room.old }
+    ensures bytes { take result room.new ≡ take at room.old ++ text.now }
+    ensures room { length room.new ≡ length room.old }
+    ensures end { result ≡ at + length text.now }
+{
+    let end = at + text.len();
+    room[at..end].copy_from_slice(text);
+    end
+}
+
+fn digit(n: u32) -> u8
+    ensures { result ≡ 48 + n % 10 }
+{
+    b'0' + (n % 10) as u8
+}
+
+/// A whole number, in decimal digits without leading zeros. Most have one to three.
+#[cycle(number)]
+#[inline(always)]
+#[tactic(auto, using(gps_fixed::proofs::TextLaws::decimal_one, gps_fixed::proofs::TextLaws::decimal_two, gps_fixed::proofs::TextLaws::decimal_three, crate::proofs::Numbers::one_long, crate::proofs::Numbers::two_long, crate::proofs::Numbers::three_long))]
+pub fn place_number(room: &mut [u8], at: usize, n: u32) -> usize
+    requires { at + 10 ≤ length room.old }
+    ensures bytes { take result room.new ≡ take at room.old ++ decimal n }
+    ensures room { length room.new ≡ length room.old }
+    ensures end { result ≡ at + length (decimal n) }
+    ensures most { result ≤ at + 10 }
+{
+    match n {
+        0..=9 => place_byte(room, at, digit(n)),
+        10..=99 => place_text(room, at, &[digit(n / 10), digit(n)]),
+        100..=999 => place_text(room, at, &[digit(n / 100), digit(n / 10), digit(n)]),
+        _ => place_long(room, at, n),
+    }
+}
+
+#[cycle(number)]
+#[inline(never)]
+fn place_long(room: &mut [u8], at: usize, n: u32) -> usize
+    requires room { at + 10 ≤ length room.old }
+    requires long { 1_000 ≤ n }
+    ensures bytes { take result room.new ≡ take at room.old ++ decimal n }
+    ensures room { length room.new ≡ length room.old }
+    ensures end { result ≡ at + length (decimal n) }
+    ensures most { result ≤ at + 10 }
+{
+    let behind = place_number(room, at, n / 1_000);
+    place_text(room, behind, &[digit(n / 100), digit(n / 10), digit(n)])
+}
+
+/// What stands before the value of a member.
+#[inline(always)]
+fn place_label(room: &mut [u8], at: usize, key: Key) -> usize
+    requires { at + length (label_of key) ≤ length room.old }
+    ensures bytes { take result room.new ≡ take at room.old ++ label_of key }
+    ensures room { length room.new ≡ length room.old }
+    ensures end { result ≡ at + length (label_of key) }
+{
+    place_text(room, at, label(key))
+}
+
+/// A number, where there is one.
+#[inline(always)]
+#[tactic(auto, unfolding(crate::specs::Json::member_if))]
+pub fn place_number_if(room: &mut [u8], at: usize, key: Key, value: Option<u32>) -> usize
+    requires short { length (label_of key) ≤ 10 }
+    requires room { at + 20 ≤ length room.old }
+    ensures bytes { take result room.new ≡ take at room.old ++ member_if key decimal value }
+    ensures room { length room.new ≡ length room.old }
+    ensures end { result ≤ at + 20 }
+{
+    match value {
+        Some(value) => {
+            let behind = place_label(room, at, key);
+            place_number(room, behind, value)
+        }
+        None => at,
+    }
+}
+
+/// A number with a sign, where there is one.
+#[inline(always)]
+#[tactic(auto, unfolding(crate::specs::Json::member_if, crate::specs::Json::signed))]
+pub fn place_signed_if(room: &mut [u8], at: usize, key: Key, value: Option<i32>) -> usize
+    requires short { length (label_of key) ≤ 10 }
+    requires room { at + 21 ≤ length room.old }
+    ensures bytes { take result room.new ≡ take at room.old ++ member_if key signed value }
+    ensures room { length room.new ≡ length room.old }
+    ensures end { result ≤ at + 21 }
+{
+    match value {
+        Some(value) => {
+            let behind = place_label(room, at, key);
+            if value < 0 {
+                let behind = place_byte(room, behind, b'-');
+                place_number(room, behind, value.unsigned_abs())
+            } else {
+                place_number(room, behind, value.unsigned_abs())
+            }
+        }
+        None => at,
+    }
+}

@@ -1,0 +1,198 @@
+#!/usr/bin/env python3
+"""Clients that take little or nothing, and a system that starts no more threads, over the built program: what they cost is bounded, and nobody
+waits for them. Every wait is bounded.
+
+Use: slow_clients.py PROGRAM [NAME..]. Prints a line for each check, and ends with 1 if one fails. NAME picks some of the parts.
+"""
+import os
+import shutil
+import sys
+import tempfile
+import threading
+import time
+
+from harness import VERSION, Daemon, TcpDevice, check, run_parts, second, until, within
+
+PROGRAM = os.path.abspath(sys.argv[1])
+NOBODY = "61234"  # a user of whom nothing else runs, since a limit of threads counts all threads of a user
+WATCH = b'?WATCH={"json":true};'
+SMALL = 2048
+
+
+def fixes(count):
+    """Sentences of this number of fixes; each is told once the next one begins."""
+    return b"".join(second(t, "RMC") for t in range(count + 1))
+
+
+def started(*words):
+    device = TcpDevice()
+    return Daemon(PROGRAM, *words, device.word).listening(), device.take()
+
+
+def watching(daemon):
+    """A client with a small buffer, which watches."""
+    client = daemon.client(buffer=SMALL)
+    client.line()
+    client.send(WATCH)
+    return client
+
+
+class Takers:
+    """Takes this number of bytes from each client by turns, with a pause between, until it is told to stop."""
+
+    def __init__(self, clients, size, pause):
+        self.told, self.clients, self.size, self.pause = threading.Event(), clients, size, pause
+        for client in clients:
+            client.socket.setblocking(False)
+        self.thread = threading.Thread(target=self.take)
+        self.thread.start()
+
+    def take(self):
+        while not self.told.wait(self.pause):
+            for client in self.clients:
+                try:
+                    client.socket.recv(self.size)
+                except OSError:
+                    pass
+
+    def stop(self):
+        self.told.set()
+        self.thread.join()
+        for client in self.clients:
+            client.close()
+
+
+def draining():
+    """64 clients that are closed, but take 2,000 bytes each 0.3 s of what is left: no more than sixteen come beside them, and after ten seconds
+    all are gone."""
+    daemon, device = started("--queue", "8192")
+    before = daemon.threads()
+    takers = Takers([watching(daemon) for _ in range(64)], 2000, 0.3)
+    time.sleep(0.5)
+    device.send(fixes(30_000))
+    until(lambda: daemon.client().receive(len(VERSION), 1), 20)  # it is greeted once one of the 64 is closed; the others follow
+    start = time.monotonic()
+    time.sleep(0.5)
+    later = [daemon.client() for _ in range(40)]
+    greeted = sum(client.receive(len(VERSION), 5) == VERSION for client in later)
+    threads = daemon.threads() - before
+    print(f"        beside 64 clients that take slowly {greeted} of 40 are greeted, and the clients have {threads} threads", flush=True)
+    within("closed clients that still take: others are served beside them", greeted >= 16, greeted)
+    within("closed clients that still take: no more than 80 have threads", threads <= 2 * 80, threads)
+    for client in later:
+        client.close()
+    gone = until(lambda: daemon.threads() <= before, 20)
+    took = time.monotonic() - start
+    takers.stop()
+    within("closed clients that still take: after ten seconds all are gone", gone and took < 13, took)
+    client = daemon.client()
+    check("closed clients that still take: the next one is served", VERSION, client.line())
+    client.close()
+    device.end()
+    check("closed clients that still take: status", 0, daemon.wait()[0])
+
+
+def slow_end():
+    """At the daemon's end a client takes 2,000 bytes each 0.3 s of the megabytes that are left: the daemon ends within some ten seconds."""
+    daemon, device = started("--queue", "65536")
+    client = watching(daemon)
+    time.sleep(0.2)
+    device.send(fixes(20_000))
+    takers = Takers([client], 2000, 0.3)
+    start = time.monotonic()
+    device.end()
+    status = daemon.wait(30)[0]
+    took = time.monotonic() - start
+    takers.stop()
+    print(f"        it ended after {took:.1f} s", flush=True)
+    within("a client that takes slowly at the end: the daemon ends within 12 s", took < 12, took)
+    check("a client that takes slowly at the end: status", 0, status)
+
+
+def slow_reader():
+    """A client that takes 200 bytes each 0.1 s through a small buffer is slow, but takes: it keeps its link, and loses nothing."""
+    count = 20_000
+    daemon, device = started("--queue", "65536")
+    client = watching(daemon)
+    time.sleep(0.2)
+    threads = daemon.threads()
+    device.send(fixes(count))
+    start, found = time.monotonic(), bytearray()
+    while time.monotonic() - start < 20 and daemon.threads() >= threads:
+        found += client.receive(200)
+        time.sleep(0.1)
+    took = time.monotonic() - start
+    within("a reader that is slow keeps its link for 20 s", took >= 20, took)
+    while found.count(b'"TPV"') < count and (data := client.receive()):
+        found += data
+    check("a reader that is slow loses nothing", count, found.count(b'"TPV"'))
+    client.close()
+    device.end()
+    check("a reader that is slow: status", 0, daemon.wait()[0])
+
+
+def deaf():
+    """A client that takes nothing is ended after a second."""
+    daemon, device = started("--queue", "65536")
+    client = watching(daemon)
+    time.sleep(0.2)
+    before = daemon.threads()
+    start = time.monotonic()
+    device.send(fixes(20_000))
+    gone = until(lambda: daemon.threads() < before, 10)
+    took = time.monotonic() - start
+    within("a client that takes nothing is ended after some second", gone and 1 <= took <= 5, took)
+    client.close()
+    device.end()
+    check("a client that takes nothing: status", 0, daemon.wait()[0])
+
+
+class FewThreads(Daemon):
+    """A daemon that may have this number of threads, started as another user."""
+
+    def __init__(self, folder, most, *words):
+        program = os.path.join(folder, "gpsrelay")
+        if not os.path.exists(program):
+            os.chmod(folder, 0o755)
+            os.chmod(shutil.copy(PROGRAM, program), 0o755)
+        self.most = most
+        super().__init__(program, *words, folder="/")
+
+    def call(self, program, words):
+        return ["setpriv", f"--reuid={NOBODY}", f"--regid={NOBODY}", "--clear-groups", "prlimit", f"--nproc={self.most}",
+                *super().call(program, words)]
+
+
+def few_threads():
+    """No thread for a device that is silent, nor for a client: the others are served, and nothing waits for these."""
+    if os.getuid() != 0 or not (shutil.which("setpriv") and shutil.which("prlimit")):
+        print("        few threads: left out, as it wants root, setpriv and prlimit", flush=True)
+        return
+    with tempfile.TemporaryDirectory() as folder:
+        # The daemon, its publisher and its door have three threads; a fourth one reads the first device.
+        for most in 4, 3:
+            device, silent = TcpDevice("gps0"), TcpDevice("gps1")
+            words = [device.word] if most == 4 else []
+            daemon = FewThreads(folder, most, *words, silent.word)
+            if most == 4:
+                client = daemon.client()
+                check(f"{most} threads: a client is greeted", VERSION, client.line())
+                check(f"{most} threads: and closed", None, client.line())
+                device.take().send(fixes(1))
+                device.end()
+            status = daemon.wait(10)[0]
+            check(f"{most} threads: status", 7, status)
+            check(f"{most} threads: the silent device is lost", True, f"{silent.word.partition('=')[2]} was lost: out of memory" in daemon.said())
+            device.close()
+            silent.close()
+
+
+def main():
+    parts = [deaf, few_threads, draining, slow_end, slow_reader]
+    for name in sys.argv[2:]:
+        if name not in [part.__name__ for part in parts]:
+            sys.exit(f"slow_clients.py: no part {name}")
+    sys.exit(run_parts(*[part for part in parts if not sys.argv[2:] or part.__name__ in sys.argv[2:]]))
+
+
+main()

@@ -11,8 +11,8 @@ refused. Output, status and standard error are compared. A stream that differs i
 """
 import os
 import random
+import signal
 import struct
-import subprocess
 import sys
 import tempfile
 import time
@@ -313,10 +313,53 @@ def cases(number):
     return [(["decode", *short], given), (["pseudo", *short], given), (["replay", *played], script(rng, given))]
 
 
-def outcome(program, words, given):
-    """What a run gives: its output, its status, and what stands on standard error."""
-    done = subprocess.run(["gpsrelay", *words], executable=program, input=given, capture_output=True, timeout=SECONDS, close_fds=False)
-    return done.stdout, done.returncode, done.stderr
+class Files:
+    """A worker's files in memory: the input of its runs, and what they write to their two outputs."""
+
+    def __init__(self):
+        self.handles = [os.memfd_create(name) for name in ("input", "output", "errors")]
+
+    def fill(self, given):
+        self.empty(0)
+        os.pwrite(self.handles[0], given, 0)
+
+    def empty(self, number):
+        os.ftruncate(self.handles[number], 0)
+        os.lseek(self.handles[number], 0, os.SEEK_SET)
+
+    def content(self, number):
+        return os.pread(self.handles[number], os.fstat(self.handles[number]).st_size, 0)
+
+
+FILES = None  # of this worker
+
+
+def begin_worker():
+    global FILES
+    FILES = Files()
+    signal.signal(signal.SIGALRM, give_up)
+
+
+def give_up(number, where):
+    raise TimeoutError(f"a run took more than {SECONDS} seconds")
+
+
+def outcome(program, words):
+    """What a run over the worker's input gives: its output, its status, and what stands on standard error."""
+    os.lseek(FILES.handles[0], 0, os.SEEK_SET)
+    FILES.empty(1)
+    FILES.empty(2)
+    actions = [(os.POSIX_SPAWN_DUP2, handle, number) for number, handle in enumerate(FILES.handles)]
+    pid = os.posix_spawn(program, ["gpsrelay", *words], os.environ, file_actions=actions)
+    signal.alarm(SECONDS)
+    try:
+        _, status = os.waitpid(pid, 0)
+    except TimeoutError:
+        os.kill(pid, signal.SIGKILL)
+        raise
+    finally:
+        signal.alarm(0)
+    return FILES.content(1), os.waitstatus_to_exitcode(status), FILES.content(2)
 
 
 def compared(call):
@@ -324,7 +367,8 @@ def compared(call):
     number, old, new = call
     differing, statuses, read, written = [], Counter(), 0, 0
     for words, given in cases(number):
-        one, other = outcome(old, words, given), outcome(new, words, given)
+        FILES.fill(given)
+        one, other = outcome(old, words), outcome(new, words)
         statuses[f"{words[0]} {one[1]}"] += 1
         read, written = read + len(given), written + len(one[0])
         if one != other:
@@ -349,7 +393,7 @@ def main():
     first = int(sys.argv[4]) if len(sys.argv) == 5 else 1
     numbers = range(first, first + int(sys.argv[3]))
     statuses, read, written, failed, folder, begin = Counter(), 0, 0, 0, None, time.monotonic()
-    with Pool(os.cpu_count()) as pool:
+    with Pool(os.cpu_count(), begin_worker) as pool:
         for number, differing, here, came, went in pool.imap_unordered(compared, ((number, old, new) for number in numbers), chunksize=8):
             statuses, read, written = statuses + here, read + came, written + went
             failed += bool(differing)

@@ -1,4 +1,4 @@
-ghost use Rattle.std.specs.Prelude.{◌≡◌, ◌≤◌, ◌<◌, ◌∷◌, ◌++◌, [], None, IfOk, length};
+ghost use Rattle.std.specs.Prelude.{◌≡◌, ◌≤◌, ◌<◌, ◌∷◌, ◌++◌, [], None, IfOk, OnOk, length};
 ghost use Rattle.std.specs.Option.{option_or};
 ghost use Rattle.book_batch.specs.Sharing.{SharesLines, shares_of};
 ghost use Rattle.book_log.specs.DeviceLogView.{AreOf};
@@ -25,22 +25,25 @@ struct Listed {
     sky: Option<Sky>,
 }
 
-fn newer_fix(body: &Body, before: Option<Fix>) -> Option<Fix>
-    ensures { result ≡ option_or (fix_in body.now) before }
+/// A fix takes the place of the last one.
+#[inline(always)]
+fn renew_fix(last: &mut Option<Fix>, body: &Body)
+    ensures { last.new ≡ option_or (fix_in body.now) last.old }
 {
-    match body {
-        Body::Tpv(fix) => Some(*fix),
-        _ => before,
+    if let Body::Tpv(fix) = body {
+        *last = Some(*fix);
     }
 }
 
-fn newer_sky(body: &Body, before: Option<Sky>) -> Result<Option<Sky>, NoMemory>
-    ensures { IfOk result (λ sky. sky ≡ option_or (sky_in body.now) before) }
+/// A sky takes the place of the last one.
+#[inline(always)]
+fn renew_sky(last: &mut Option<Sky>, body: &Body) -> Result<(), NoMemory>
+    ensures { OnOk result (last.new ≡ option_or (sky_in body.now) last.old) }
 {
-    match body {
-        Body::Sky(sky) => Ok(Some(sky.copy()?)),
-        _ => Ok(before),
+    if let Body::Sky(sky) = body {
+        *last = Some(sky.copy()?);
     }
+    Ok(())
 }
 
 /// Room for the given number of reports, and in it the announcement of a first byte, where there is one.
@@ -76,8 +79,8 @@ fn list(
     let mut fix = None;
     let mut sky = None;
     for body in bodies {
-        fix = newer_fix(&body, fix);
-        sky = newer_sky(&body, sky)?;
+        renew_fix(&mut fix, &body);
+        renew_sky(&mut sky, &body)?;
         reports.push(Report { device, body })?;
     }
     Ok(Listed { reports, fix, sky })

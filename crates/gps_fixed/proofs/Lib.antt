@@ -5,3 +5,4 @@ pub mod NumeralTheorem
 pub mod RatioLaws
 pub mod ScaledTheorem
 pub mod TextLaws
+pub mod WholeLaws

@@ -16,6 +16,9 @@ pub struct Numeral {
     pub magnitude: u64,
 }
 
+/// The most digits before a point.
+pub(crate) const MOST_BEFORE: usize = 9;
+
 /// The digits that begin a text: how many, at most nine, and the number that they write.
 #[derive(Clone, Copy)]
 struct Digits {
@@ -81,7 +84,8 @@ fn leading_digits(text: &[u8]) -> Option<Digits>
 
 /// The numeral of at most nine digits, with their value, and what stands behind them.
 #[tactic(auto, using(crate::proofs::NumeralLaws::no_fraction, crate::proofs::NumeralLaws::scaled_small, crate::proofs::NumeralLaws::whole_small))]
-fn numeral_behind(decimals: u8, whole: &[u8], value: u64, rest: &[u8]) -> Option<Numeral>
+#[inline(always)]
+pub(crate) fn numeral_behind(decimals: u8, whole: &[u8], value: u64, rest: &[u8]) -> Option<Numeral>
     requires decimals { decimals ≤ 9 }
     requires digits { list_all is_ascii_digit whole.now ≡ true }
     requires few { length whole.now ≤ 9 }
@@ -118,7 +122,8 @@ fn are_digits(text: &[u8]) -> bool
 }
 
 /// The number that at most eighteen digits write; `None` where one of them is no digit.
-fn number_of(text: &[u8]) -> Option<u64>
+#[inline(always)]
+pub(crate) fn number_of(text: &[u8]) -> Option<u64>
     requires few { length text.now ≤ 18 }
     ensures value { result ≡ if_digits (list_all is_ascii_digit text.now) (number text.now) }
     ensures small { IfSome result (λ n. n < 10 ^ length text.now) }

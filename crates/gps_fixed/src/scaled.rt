@@ -1,8 +1,9 @@
 ghost use Rattle.std.specs.Prelude.{◌≡◌, ◌↔◌, ◌+◌, ◌^◌, ◌<◌, ◌≤◌, ℤ, Some, IfSome};
-ghost use Rattle.std.specs.Option.{option_map};
-ghost use Rattle.gps_fixed.specs.Scaled.{has_minus, without_minus, signed, magnitude, scaled, digits_of, whole_of, IsScaled};
+ghost use Rattle.std.specs.Option.{option_and_then, option_map};
+ghost use Rattle.gps_fixed.specs.Scaled.{has_minus, has_whole, magnitude_if, without_minus, signed, magnitude, scaled, digits_of, whole_of, IsScaled};
 
-use crate::read_numeral;
+use crate::numeral::{MOST_BEFORE, number_of, numeral_behind};
+use crate::{Numeral, read_numeral};
 
 /// Reads a fixed point number: an optional `-`, then 0 to 9 digits, then optionally `.` and any number of digits,
 /// with at least one digit in all. The answer is the value times `10^decimals`, further digits dropped.
@@ -53,13 +54,33 @@ pub fn read_magnitude(text: &[u8], decimals: u8) -> Option<u64>
 }
 
 /// Reads exactly `count` digits, and optionally a point and at least one digit behind it; times `10^decimals`, further digits dropped.
-#[tactic(auto, unfolding(crate::specs::Scaled::digits_of))]
+/// Where the count is a constant, the digits before the point are read without a loop.
+#[inline(always)]
+#[tactic(auto, using(crate::proofs::WholeLaws::none_long, crate::proofs::WholeLaws::none_short, crate::proofs::WholeLaws::none_first, crate::proofs::WholeLaws::all_read))]
 pub fn read_digits(text: &[u8], count: usize, decimals: u8) -> Option<u64>
     requires { decimals ≤ 9 }
     ensures value { result ≡ digits_of count decimals text.now }
     ensures small { IfSome result (λ n. n < 10 ^ (count + decimals)) }
 {
-    match read_numeral(text, decimals) {
+    if count > MOST_BEFORE {
+        return None;
+    }
+    if count > text.len() {
+        return None;
+    }
+    let (whole, rest) = text.split_at(count);
+    match number_of(whole) {
+        Some(value) => whole_magnitude(numeral_behind(decimals, whole, value, rest), count),
+        None => None,
+    }
+}
+
+/// The magnitude of a numeral with this number of digits before its point.
+#[inline(always)]
+fn whole_magnitude(numeral: Option<Numeral>, count: usize) -> Option<u64>
+    ensures { result ≡ option_and_then (λ n. magnitude_if (has_whole count n) n) numeral }
+{
+    match numeral {
         Some(numeral) if numeral.has_whole(count) => Some(numeral.magnitude),
         _ => None,
     }

@@ -7,8 +7,8 @@ use crate::{Sink, Source, write_all};
 use std::alloc::Global;
 use std::marker::Model;
 
-/// At most this many bytes wait.
-const ROOM: usize = 32_768;
+/// At most this many bytes wait. The lines of 32,768 bytes of sentences, which are read ahead, make two writes.
+const ROOM: usize = 40_960;
 
 /// Bytes on their way to a sink. They wait for further ones, so that many pieces make one write.
 ///

@@ -35,5 +35,8 @@ three_more n long small = ap length (in_thousands n long small) ∙ length-appen
 pub at_most_ten : (n : ℕ) → n < 2 ^ 32 → length (decimal n) ≤ 10
 at_most_ten n small = length-decimal-le 10 n (omega arith) (omega (arith, small)) (omega (arith, small))
 
+pub at_most_twenty : (n : ℕ) → n < 2 ^ 64 → length (decimal n) ≤ 20
+at_most_twenty n small = length-decimal-le 20 n (omega arith) (omega (arith, small)) (omega (arith, small))
+
 pub thousands_at_most_seven : (n : ℕ) → n < 2 ^ 32 → length (decimal (n / 1_000)) ≤ 7
 thousands_at_most_seven n small = length-decimal-le 7 (n / 1_000) (omega arith) (omega (arith, small)) (omega (arith, small))

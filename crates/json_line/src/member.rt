@@ -1,11 +1,12 @@
-ghost use Rattle.std.specs.Prelude.{◌≡◌, ◌≤◌, ◌++◌, OnOk};
+ghost use Rattle.std.specs.Prelude.{◌≡◌, ◌≤◌, ◌++◌, OnOk, length, take};
 ghost use Rattle.std.specs.Fmt.{decimal};
-ghost use Rattle.gps_fixed.specs.Text.{iso_of, scaled_text};
+ghost use Rattle.gps_fixed.specs.Text.{iso_of};
 ghost use Rattle.json_line.specs.Json.{fixed, hundredths, member, member_if, quoted, time, truth};
 ghost use Rattle.json_line.specs.Lines.{seconds};
 
 use crate::names::{Key, push_label};
-use gps_fixed::{Bytes, NoMemory, Stamp, push_decimal, push_iso, push_scaled};
+use crate::placing::{place_label, place_scaled, place_whole};
+use gps_fixed::{Bytes, NoMemory, Stamp, push_decimal, push_iso};
 use gps_report::Name;
 
 /// A whole number. It stays a call, so that the code of each member is short.
@@ -55,12 +56,28 @@ pub fn push_truth(out: &mut Bytes, key: Key, value: bool) -> Result<(), NoMemory
     }
 }
 
-#[tactic(auto, unfolding(crate::specs::Json::member))]
+/// As many bytes as a label and a number have at most, and more. They are put together on the stack, so that a member asks for memory once.
+const ROOM: usize = 48;
+
+#[inline(always)]
+#[tactic(auto, unfolding(crate::specs::Json::member), using(crate::proofs::Labels::is_short))]
+fn place_member_of_whole(room: &mut [u8], key: Key, value: u64) -> usize
+    requires { 48 ≤ length room.old }
+    ensures bytes { take result room.new ≡ member key (decimal value) }
+    ensures room { length room.new ≡ length room.old }
+    ensures end { result ≤ 48 }
+{
+    let behind = place_label(room, 0, key);
+    place_whole(room, behind, value)
+}
+
+#[inline(always)]
 pub fn push_number(out: &mut Bytes, key: Key, value: u64) -> Result<(), NoMemory>
     ensures { OnOk result (out.new ≡ out.old ++ member key (decimal value)) }
 {
-    push_label(out, key)?;
-    push_whole(out, value)
+    let mut room = [0u8; ROOM];
+    let end = place_member_of_whole(&mut room, key, value);
+    out.extend_from_slice(&room[..end])
 }
 
 /// The whole seconds of a stamp.
@@ -72,27 +89,33 @@ pub fn push_seconds(out: &mut Bytes, key: Key, at: Stamp) -> Result<(), NoMemory
     push_whole(out, at.sec.unsigned_abs())
 }
 
-#[tactic(auto, unfolding(crate::specs::Json::fixed))]
-fn push_decimals(out: &mut Bytes, value: i64, decimals: u8) -> Result<(), NoMemory>
-    requires from { 1 ≤ decimals }
-    requires to { decimals ≤ 9 }
-    ensures { OnOk result (out.new ≡ out.old ++ fixed decimals value) }
+#[inline(always)]
+#[tactic(auto, unfolding(crate::specs::Json::member, crate::specs::Json::fixed), using(crate::proofs::Labels::is_short))]
+fn place_member_of_fixed(room: &mut [u8], key: Key, value: i64, decimals: u8) -> usize
+    requires few { decimals ≤ 9 }
+    requires room { 48 ≤ length room.old }
+    ensures bytes { take result room.new ≡ member key (fixed decimals value) }
+    ensures room { length room.new ≡ length room.old }
+    ensures end { result ≤ 48 }
 {
-    push_scaled(out, value, decimals)
+    let behind = place_label(room, 0, key);
+    place_scaled(room, behind, value, decimals)
 }
 
-#[tactic(auto, unfolding(crate::specs::Json::member))]
+#[inline(always)]
 pub fn push_fixed(out: &mut Bytes, key: Key, value: i64, decimals: u8) -> Result<(), NoMemory>
     requires from { 1 ≤ decimals }
     requires to { decimals ≤ 9 }
     ensures { OnOk result (out.new ≡ out.old ++ member key (fixed decimals value)) }
 {
-    push_label(out, key)?;
-    push_decimals(out, value, decimals)
+    let mut room = [0u8; ROOM];
+    let end = place_member_of_fixed(&mut room, key, value, decimals);
+    out.extend_from_slice(&room[..end])
 }
 
 /// A number with decimals, where there is one.
-#[tactic(auto, unfolding(crate::specs::Json::member_if))]
+#[inline(always)]
+#[tactic(auto, unfolding(crate::specs::Json::member_if, crate::specs::Json::member))]
 pub fn push_fixed_if(
     out: &mut Bytes,
     key: Key,
@@ -104,24 +127,18 @@ pub fn push_fixed_if(
     ensures { OnOk result (out.new ≡ out.old ++ member_if key (fixed decimals) value) }
 {
     match value {
-        Some(value) => {
-            push_label(out, key)?;
-            push_decimals(out, value, decimals)
-        }
+        Some(value) => push_fixed(out, key, value, decimals),
         None => Ok(()),
     }
 }
 
 /// Hundredths with two decimals, where there are some.
-#[tactic(auto, unfolding(crate::specs::Json::member_if, crate::specs::Json::hundredths))]
+#[tactic(auto, unfolding(crate::specs::Json::member_if, crate::specs::Json::member, crate::specs::Json::fixed, crate::specs::Json::hundredths))]
 pub fn push_hundredths_if(out: &mut Bytes, key: Key, value: Option<u32>) -> Result<(), NoMemory>
     ensures { OnOk result (out.new ≡ out.old ++ member_if key hundredths value) }
 {
     match value {
-        Some(value) => {
-            push_label(out, key)?;
-            push_scaled(out, i64::from(value), 2)
-        }
+        Some(value) => push_fixed(out, key, i64::from(value), 2),
         None => Ok(()),
     }
 }

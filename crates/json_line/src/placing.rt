@@ -1,11 +1,13 @@
 //! Pieces of a text that are written into an array of bytes, so that no piece asks for memory. Each function gives the place behind its piece.
 
-ghost use Rattle.std.specs.Prelude.{◌≡◌, ◌<◌, ◌≤◌, ◌+◌, ◌%◌, ◌∷◌, ◌++◌, [], length, take};
+ghost use Rattle.std.specs.Prelude.{◌≡◌, ◌<◌, ◌≤◌, ◌+◌, ◌%◌, ◌^◌, ◌∷◌, ◌++◌, [], length, take};
 ghost use Rattle.std.specs.Fmt.{decimal};
+ghost use Rattle.gps_fixed.specs.Text.{digits_in, scaled_text, unsigned_text};
 ghost use Rattle.json_line.specs.Json.{member, member_if, signed, truth};
 ghost use Rattle.json_line.specs.Names.{label_of};
 
 use crate::names::{Key, label};
+use itoa::Buffer;
 
 #[inline(always)]
 pub fn place_byte(room: &mut [u8], at: usize, byte: u8) -> usize
@@ -69,9 +71,136 @@ fn place_long(room: &mut [u8], at: usize, n: u32) -> usize
     place_text(room, behind, &[digit(n / 100), digit(n / 10), digit(n)])
 }
 
+#[inline(never)]
+#[tactic(auto, using(crate::proofs::Numbers::at_most_twenty))]
+fn place_formatted(room: &mut [u8], at: usize, n: u64) -> usize
+    requires { at + 20 ≤ length room.old }
+    ensures bytes { take result room.new ≡ take at room.old ++ decimal n }
+    ensures room { length room.new ≡ length room.old }
+    ensures end { result ≤ at + 20 }
+{
+    let mut digits = Buffer::new();
+    place_text(room, at, digits.format(n).as_bytes())
+}
+
+/// The same of a number of 64 bits.
+#[inline(always)]
+pub fn place_whole(room: &mut [u8], at: usize, n: u64) -> usize
+    requires { at + 20 ≤ length room.old }
+    ensures bytes { take result room.new ≡ take at room.old ++ decimal n }
+    ensures room { length room.new ≡ length room.old }
+    ensures end { result ≤ at + 20 }
+{
+    if n < 1_000 {
+        place_number(room, at, n as u32)
+    } else {
+        place_formatted(room, at, n)
+    }
+}
+
+fn nine_digits(n: u32) -> [u8; 9]
+    ensures { result ≡ digits_in 9 n }
+{
+    [
+        digit(n / 100_000_000),
+        digit(n / 10_000_000),
+        digit(n / 1_000_000),
+        digit(n / 100_000),
+        digit(n / 10_000),
+        digit(n / 1_000),
+        digit(n / 100),
+        digit(n / 10),
+        digit(n),
+    ]
+}
+
+#[tactic(auto, using(gps_fixed::proofs::TextLaws::last_digits))]
+fn place_some_of_nine(room: &mut [u8], at: usize, n: u32, count: u8) -> usize
+    requires few { count ≤ 9 }
+    requires room { at + 9 ≤ length room.old }
+    ensures bytes { take result room.new ≡ take at room.old ++ digits_in count n }
+    ensures room { length room.new ≡ length room.old }
+    ensures end { result ≤ at + 9 }
+{
+    let nine = nine_digits(n);
+    place_text(room, at, &nine[9 - count as usize..])
+}
+
+/// The last `count` digits of a number.
+#[inline(always)]
+fn place_digits(room: &mut [u8], at: usize, n: u32, count: u8) -> usize
+    requires few { count ≤ 9 }
+    requires room { at + 9 ≤ length room.old }
+    ensures bytes { take result room.new ≡ take at room.old ++ digits_in count n }
+    ensures room { length room.new ≡ length room.old }
+    ensures end { result ≤ at + 9 }
+{
+    match count {
+        2 => place_text(room, at, &[digit(n / 10), digit(n)]),
+        3 => place_text(room, at, &[digit(n / 100), digit(n / 10), digit(n)]),
+        4 => place_text(
+            room,
+            at,
+            &[digit(n / 1_000), digit(n / 100), digit(n / 10), digit(n)],
+        ),
+        _ => place_some_of_nine(room, at, n, count),
+    }
+}
+
+#[inline(always)]
+fn unit_of(decimals: u8) -> u64
+    requires { decimals ≤ 9 }
+    ensures { result ≡ 10 ^ decimals }
+{
+    match decimals {
+        0 => 1,
+        1 => 10,
+        2 => 100,
+        3 => 1_000,
+        4 => 10_000,
+        5 => 100_000,
+        6 => 1_000_000,
+        7 => 10_000_000,
+        8 => 100_000_000,
+        _ => 1_000_000_000,
+    }
+}
+
+#[inline(always)]
+#[tactic(auto, using(gps_fixed::proofs::TextLaws::unit_some, gps_fixed::proofs::TextLaws::rest_small))]
+fn place_unsigned(room: &mut [u8], at: usize, magnitude: u64, decimals: u8) -> usize
+    requires few { decimals ≤ 9 }
+    requires room { at + 30 ≤ length room.old }
+    ensures bytes { take result room.new ≡ take at room.old ++ unsigned_text decimals magnitude }
+    ensures room { length room.new ≡ length room.old }
+    ensures end { result ≤ at + 30 }
+{
+    let unit = unit_of(decimals);
+    let behind = place_whole(room, at, magnitude / unit);
+    let behind = place_byte(room, behind, b'.');
+    place_digits(room, behind, (magnitude % unit) as u32, decimals)
+}
+
+/// `value / 10^decimals` with exactly `decimals` decimals: `-` only for a value below zero, no leading zeros.
+#[inline(always)]
+pub fn place_scaled(room: &mut [u8], at: usize, value: i64, decimals: u8) -> usize
+    requires few { decimals ≤ 9 }
+    requires room { at + 31 ≤ length room.old }
+    ensures bytes { take result room.new ≡ take at room.old ++ scaled_text decimals value }
+    ensures room { length room.new ≡ length room.old }
+    ensures end { result ≤ at + 31 }
+{
+    if value < 0 {
+        let behind = place_byte(room, at, b'-');
+        place_unsigned(room, behind, value.unsigned_abs(), decimals)
+    } else {
+        place_unsigned(room, at, value.unsigned_abs(), decimals)
+    }
+}
+
 /// What stands before the value of a member.
 #[inline(always)]
-fn place_label(room: &mut [u8], at: usize, key: Key) -> usize
+pub fn place_label(room: &mut [u8], at: usize, key: Key) -> usize
     requires { at + length (label_of key) ≤ length room.old }
     ensures bytes { take result room.new ≡ take at room.old ++ label_of key }
     ensures room { length room.new ≡ length room.old }

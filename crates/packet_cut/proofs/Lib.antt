@@ -5,3 +5,4 @@ mod Stamps
 mod Steps
 mod CutLaws
 mod Rule
+mod Fronts

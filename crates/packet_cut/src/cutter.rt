@@ -114,14 +114,18 @@ impl Cutter {
 }
 
 /// Lets the first bytes go.
+#[tactic(auto, using(crate::proofs::Fronts::none_gone, crate::proofs::Fronts::front_gone))]
 fn drop_front(kept: &mut Vec<(Stamp, u8)>, count: usize)
     ensures items { kept.new.items ≡ drop count kept.old.items }
     ensures room { vec_capacity kept.new ≡ vec_capacity kept.old }
 {
-    let count = count.min(kept.len());
-    kept.rotate_left(count);
-    let len = kept.len() - count;
-    kept.truncate(len);
+    let len = kept.len();
+    let count = count.min(len);
+    if count == 0 {
+        return;
+    }
+    kept.copy_within(count..len, 0);
+    kept.truncate(len - count);
 }
 
 /// Adds bytes for which there is room.

@@ -1,7 +1,8 @@
 -- The sums of a list, from the sums of the columns of its rows of sixteen bytes.
-use Rattle.std.proofs.Common.{◌≡◌, ℕ, zero, suc, ◌+◌, ◌*◌, ◌/◌, ◌%◌, ◌<◌, List, [], ◌∷◌, ◌++◌, length, length-append, refl, sym, ap, ◌∙◌, add_assoc, mul_comm, arith}
+use Rattle.std.proofs.Common.{◌≡◌, ℕ, zero, suc, ◌+◌, ◌*◌, ◌/◌, ◌%◌, ◌<◌, List, [], ◌∷◌, ◌++◌, ◌≤◌, length, take, drop, length-append, length-drop, take-add, refl, sym, subst, ap, ◌∙◌, add_assoc, mul_comm, arith}
 use Rattle.std.specs.Prelude.{fold, replicate}
 use Rattle.std.specs.Simd.Lanes.{sum_l, fold_l, zip2}
+use Rattle.std.proofs.lemmas.List.{length-take-le}
 use Rattle.std.proofs.lemmas.List.Sums.{fold-append}
 use Rattle.ubx_frame.specs.declared.checksum.Sums.{Sums}
 use Rattle.ubx_frame.specs.Checksum.{after_byte, sums_of, weighted}
@@ -100,7 +101,7 @@ row_sums : (c e d r wc wd wr c' e' wc' : ℕ) → c % 256 ≡ d % 256 → (16 * 
     → (c' % 256 ≡ (d + r) % 256) × ((16 * e' + wc') % 256 ≡ (wd + 16 * d + wr) % 256)
 row_sums c e d r wc wd wr c' e' wc' a b columns earlier weights = (omega arith, omega arith)
 
-pub row_more : (columns earlier done row : List ℕ) → length row ≡ 16 → RowsAre columns earlier done
+row_more : (columns earlier done row : List ℕ) → length row ≡ 16 → RowsAre columns earlier done
     → RowsAre (zip2 add_bytes columns row) (zip2 add_bytes earlier columns) (done ++ row)
 row_more columns earlier done row long rows =
     let same : length columns ≡ length row = rows.width ∙ sym long in
@@ -114,6 +115,21 @@ row_more columns earlier done row long rows =
       width = length-zip columns row same ∙ rows.width;
       width_too = length-zip earlier columns same_too ∙ rows.width_too;
     }
+
+-- the row at a place of the bytes
+row_at : (columns earlier bytes : List ℕ) (at : ℕ) → at + 16 ≤ length bytes → RowsAre columns earlier (take at bytes)
+    → RowsAre (zip2 add_bytes columns (take 16 (drop at bytes))) (zip2 add_bytes earlier columns) (take (at + 16) bytes)
+row_at columns earlier bytes at within rows =
+    subst (RowsAre _ _) (sym (take-add at 16 bytes))
+    (row_more columns earlier (take at bytes) (take 16 (drop at bytes))
+    (length-take-le 16 (drop at bytes) (omega (arith, within, length-drop at bytes))) rows)
+
+pub row_added : (columns earlier more later bytes : List ℕ) (at next : ℕ) → next ≡ at + 16 → next ≤ length bytes
+    → more ≡ zip2 add_bytes columns (take 16 (drop at bytes)) → later ≡ zip2 add_bytes earlier columns
+    → RowsAre columns earlier (take at bytes) → RowsAre more later (take next bytes)
+row_added columns earlier more later bytes at next behind within is is' rows =
+    let short : at + 16 ≤ length bytes = omega (arith, behind, within) in
+    rw (behind, is, is') (row_at columns earlier bytes at short rows)
 
 -- the lanes of a vector, added up
 pub fold_adds : (a : ℕ) (xs : List ℕ) → fold_l add_bytes (a % 256) xs ≡ (a + sum_l xs) % 256

@@ -4,8 +4,8 @@
 //! columns are added side by side. A byte counts in the second sum once for each byte from it to the end, so sixteen times for each row
 //! behind its own, and in its own row by its place.
 
-ghost use Rattle.std.specs.Prelude.{◌≡◌, ◌+◌, ◌*◌, ◌%◌, fold};
-ghost use Rattle.std.specs.Simd.Lanes.{sum_l};
+ghost use Rattle.std.specs.Prelude.{◌≡◌, ◌+◌, ◌*◌, ◌%◌, ◌≤◌, drop, fold, length, take};
+ghost use Rattle.std.specs.Simd.Lanes.{sum_l, zip2};
 ghost use Rattle.ubx_frame.specs.Checksum.{after_byte, sums_of, weighted};
 ghost use Rattle.ubx_frame.specs.Scan.{is_right};
 
@@ -26,6 +26,20 @@ const LANES: usize = 16;
 /// How often each byte of a row counts in the second sum at the end of that row.
 const WEIGHTS: [u8; LANES] = [16, 15, 14, 13, 12, 11, 10, 9, 8, 7, 6, 5, 4, 3, 2, 1];
 
+/// How many rows are added in one turn, while that number is left.
+const ROWS: usize = 4;
+
+/// One more row: its bytes go to the columns, and what the columns were before it to their sums after each row.
+#[inline(always)]
+fn add_row(columns: &mut u8x16, earlier: &mut u8x16, covered: &[u8], at: usize)
+    requires { at + 16 ≤ length covered.now }
+    ensures columns { columns.new ≡ zip2 (λ a b. (a + b) % 256) columns.old (take 16 (drop at covered.now)) }
+    ensures earlier { earlier.new ≡ zip2 (λ a b. (a + b) % 256) earlier.old columns.old }
+{
+    *earlier += *columns;
+    *columns += u8x16::from_slice(&covered[at..]);
+}
+
 /// The sums of the bytes that a frame's checksum covers.
 fn sum_up(covered: &[u8]) -> Sums
     ensures { result ≡ sums_of covered.now }
@@ -33,9 +47,15 @@ fn sum_up(covered: &[u8]) -> Sums
     let mut columns = u8x16::splat(0);
     let mut earlier = u8x16::splat(0);
     let mut at = 0;
-    while covered.len() - at >= LANES {
-        earlier += columns;
-        columns += u8x16::from_slice(&covered[at..]);
+    'turns: while covered.len() - at >= ROWS * LANES {
+        add_row(&mut columns, &mut earlier, covered, at);
+        add_row(&mut columns, &mut earlier, covered, at + LANES);
+        add_row(&mut columns, &mut earlier, covered, at + 2 * LANES);
+        add_row(&mut columns, &mut earlier, covered, at + 3 * LANES);
+        at += ROWS * LANES;
+    }
+    'rows: while covered.len() - at >= LANES {
+        add_row(&mut columns, &mut earlier, covered, at);
         at += LANES;
     }
     add_each(join(columns, earlier), &covered[at..])

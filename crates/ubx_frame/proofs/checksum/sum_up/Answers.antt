@@ -1,23 +1,36 @@
-use Rattle.std.proofs.Common.{fold, ◌-◌, ◌≤◌, length, take, drop, take-add, length-drop, subst, sym, ap, ◌∙◌, arith}
-use Rattle.std.proofs.lemmas.List.{take-append-drop, length-take-le, take_all}
+use Rattle.std.proofs.Common.{◌≡◌, fold, ◌+◌, ◌-◌, ◌≤◌, length, take, drop, length-drop, refl, ap, ◌∙◌, arith}
+use Rattle.std.proofs.lemmas.List.{take-append-drop, take_all}
 use Rattle.ubx_frame.specs.Checksum.{after_byte, sums_of}
-use Rattle.ubx_frame.proofs.Rows.{RowsAre, row_more, rows_end}
+use Rattle.ubx_frame.proofs.Rows.{row_added, rows_end}
 use Rattle.ubx_frame.proofs.checksum.sum_up.Goals as goal
 
-pub loop-at-preserved : goal.loop-at-preserved
-loop-at-preserved c =
+pub turns-preserved : goal.turns-preserved
+turns-preserved c =
+    let bytes = c.args.covered.now in
+    let at = c.turns.at in
+    let within : at + 64 ≤ length bytes = omega (arith, c.turns-test.true, c.turns.invariant.within) in
     record {
-      within = omega arith;
-      rows = subst (RowsAre _ _) (sym (take-add c.loop-at.at 16 c.args.covered.now))
-          (row_more c.loop-at.columns c.loop-at.earlier (take c.loop-at.at c.args.covered.now) (take 16 (drop c.loop-at.at c.args.covered.now))
-          (length-take-le 16 (drop c.loop-at.at c.args.covered.now) (omega (arith, length-drop c.loop-at.at c.args.covered.now))) c.loop-at.invariant.rows);
+      within = within;
+      rows =
+          row_added _ _ _ _ bytes (at + 48) (at + 64) (omega arith) within c.add_row-in-turns-3.ensures.columns c.add_row-in-turns-3.ensures.earlier
+          (row_added _ _ _ _ bytes (at + 32) (at + 48) (omega arith) (omega (arith, within)) c.add_row-in-turns-2.ensures.columns c.add_row-in-turns-2.ensures.earlier
+          (row_added _ _ _ _ bytes (at + 16) (at + 32) (omega arith) (omega (arith, within)) c.add_row-in-turns.ensures.columns c.add_row-in-turns.ensures.earlier
+          (row_added _ _ _ _ bytes at (at + 16) (omega arith) (omega (arith, within)) c.add_row.ensures.columns c.add_row.ensures.earlier c.turns.invariant.rows)));
+    }
+
+pub rows-preserved : goal.rows-preserved
+rows-preserved c =
+    let within : c.rows.at + 16 ≤ length c.args.covered.now = omega (arith, c.rows-test.true, c.rows.invariant.within) in
+    record {
+      within = within;
+      rows = row_added _ _ _ _ c.args.covered.now c.rows.at (c.rows.at + 16) refl within c.add_row-in-rows.ensures.columns c.add_row-in-rows.ensures.earlier c.rows.invariant.rows;
     }
 
 pub returns : goal.returns
 returns c =
-    let reach : length (drop c.loop-at.at c.args.covered.now) ≤ length c.args.covered.now - c.loop-at.at = omega (arith, length-drop c.loop-at.at c.args.covered.now) in
+    let reach : length (drop c.rows.at c.args.covered.now) ≤ length c.args.covered.now - c.rows.at = omega (arith, length-drop c.rows.at c.args.covered.now) in
     c.add_each.ensures
-    ∙ ap (fold after_byte c.join.result) (take_all (length c.args.covered.now - c.loop-at.at) (drop c.loop-at.at c.args.covered.now) reach)
-    ∙ rows_end c.join.result c.loop-at.columns c.loop-at.earlier (take c.loop-at.at c.args.covered.now) (drop c.loop-at.at c.args.covered.now)
-    c.join.ensures.a c.join.ensures.b c.loop-at.invariant.rows
-    ∙ ap sums_of (take-append-drop c.loop-at.at c.args.covered.now)
+    ∙ ap (fold after_byte c.join.result) (take_all (length c.args.covered.now - c.rows.at) (drop c.rows.at c.args.covered.now) reach)
+    ∙ rows_end c.join.result c.rows.columns c.rows.earlier (take c.rows.at c.args.covered.now) (drop c.rows.at c.args.covered.now)
+    c.join.ensures.a c.join.ensures.b c.rows.invariant.rows
+    ∙ ap sums_of (take-append-drop c.rows.at c.args.covered.now)

@@ -13,6 +13,7 @@ import threading
 import time
 
 from harness import Client, Daemon, FifoDevice, exit_status, run, sample, within
+from packets import sentence
 
 PROGRAM = os.path.abspath(sys.argv[1])
 FEW = [*range(2_000, 6_000, 100), *range(6_000, 24_000, 1_000)]  # kilobytes
@@ -101,9 +102,36 @@ def served(name, given):
     report(name, {7}, seen, wrong)
 
 
+def full_outlets(sessions, items):
+    """A script at whose end each session's outlet keeps this number of items: the opening, a WATCH answer, and sentences."""
+    line = sentence("GPTXT,01,01,02," + "x" * 60)
+    opened = b"".join(b'open %d\nsay %d ?WATCH={"nmea":true};\n' % (s, s) for s in range(sessions))
+    pieces = [6] * ((items - 2) // 6) + [(items - 2) % 6]
+    return b"device g\n" + opened + b"".join(b"bytes 0 1717243200.000000000 %s\n" % (line * n).hex().encode() for n in pieces if n)
+
+
+def ended(sessions, items):
+    """The end of a script whose outlets are full: with far less room than its lines take, and then with ever closer to too little."""
+    given, words = full_outlets(sessions, items), ["replay", "--queue", str(items)]
+    status, whole, _ = run(PROGRAM, *words, given=given, kilobytes=30_000)
+    found = (status, len(whole) >> 20, whole.count(b"\n"), whole[-40:])
+    good = found[:3] == (0, 45, sessions * (items + 1)) and whole.endswith(b"s%d drained daemonend %d\n" % (sessions - 1, items))
+    within(f"the end of {sessions} sessions with full outlets, 45 MB of lines, in 30 MB", good, found)
+    low, high, seen, wrong = 8_000, 30_000, set(), []
+    while high - low > 50:
+        kilobytes = (low + high) // 2
+        status, out, _ = run(PROGRAM, *words, given=given, kilobytes=kilobytes)
+        seen.add(status)
+        if status not in (0, 7) or not whole.startswith(out) or (status == 0) != (len(out) == len(whole)):
+            wrong.append((kilobytes, status, len(out)))
+        low, high = (low, kilobytes) if status == 0 else (kilobytes, high)
+    report("the same end", {0, 7}, seen, wrong)
+
+
 tried("decode", ["decode"], sample("drive.nmea"))
 tried("pseudo", ["pseudo"], sample("drive.nmea"))
 tried("replay", ["replay"], sample("two_devices.script"))
 tried("generate", ["generate", "--seed", "1", "--size", "100"], b"")
+ended(32, 16_384)
 served("serve", sample("drive.nmea"))
 sys.exit(exit_status())

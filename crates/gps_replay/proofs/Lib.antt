@@ -1,4 +1,5 @@
 pub mod AllPlayed
+pub mod Endings
 pub mod MadeLines
 pub mod MadeStates
 pub mod Making

@@ -4,7 +4,7 @@ ghost use Rattle.replay_player.specs.States.{new_state};
 
 use crate::script::Script;
 use gps_fixed::{Bytes, NoMemory};
-use line_player::{LineStep, PlaysLines};
+use line_player::{EndStep, LineStep, PlaysLines};
 use std::alloc::Global;
 
 /// The lines of a script, of whose output the closing lines alone are written.
@@ -32,7 +32,7 @@ impl Quiet {
 }
 
 impl PlaysLines for Quiet {
-    ghost use Rattle.gps_replay.specs.Closings.{closing_rules};
+    ghost use Rattle.gps_replay.specs.Closings.{ClosesWith, closing_rules};
     ghost use Rattle.gps_replay.specs.Scripts.{IsReplaying};
     ghost use Rattle.replay_player.specs.States.{State as ScriptState};
 
@@ -42,13 +42,25 @@ impl PlaysLines for Quiet {
 
     ghost stands = { λ q state. IsReplaying q.script.queue q.script.player state };
 
+    ghost ends = { λ q left. ClosesWith q.script.queue q.script.player left };
+
+    ghost steps_left = { λ _. 0 };
+
     #[tactic(auto, using(crate::proofs::Silent::silently, crate::proofs::Silent::rules_same))]
     fn line(&mut self, text: &[u8], _out: &mut Bytes) -> Result<LineStep, NoMemory> {
         self.unwritten.clear();
         self.script.line(text, &mut self.unwritten)
     }
 
-    fn finish(&mut self, out: &mut Bytes) -> Result<(), NoMemory> {
-        self.script.finish_quietly(out)
+    #[tactic(auto, using(crate::proofs::Endings::closes))]
+    fn end(&mut self) -> Result<(), NoMemory> {
+        Ok(())
+    }
+
+    /// The closing lines are few, and stand in one part.
+    #[tactic(auto, using(crate::proofs::Endings::closing_state, crate::proofs::Endings::closed))]
+    fn end_step(&mut self, out: &mut Bytes) -> Result<EndStep, NoMemory> {
+        self.script.finish_quietly(out)?;
+        Ok(EndStep::Last)
     }
 }

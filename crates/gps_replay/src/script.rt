@@ -1,11 +1,11 @@
 ghost use Rattle.std.specs.Prelude.{◌≡◌, ◌≤◌, ◌++◌, Some, OnOk};
-ghost use Rattle.gps_replay.specs.Scripts.{IsReplaying};
+ghost use Rattle.gps_replay.specs.Scripts.{IsReplaying, end_step_of};
 ghost use Rattle.replay_player.specs.Ends.{closings_at_end};
 ghost use Rattle.replay_player.specs.States.{State, new_state};
 
 use gps_fixed::{Bytes, NoMemory};
-use line_player::{LineStep, PlaysLines};
-use replay_player::Player;
+use line_player::{EndStep, LineStep, PlaysLines};
+use replay_player::{Player, ScriptEnd};
 use replay_script::event_of;
 use std::alloc::Global;
 
@@ -14,14 +14,29 @@ use std::alloc::Global;
 pub(crate) struct Script {
     alloc: Global,
     queue: u32,
-    /// None once a line was refused, or memory was wanted.
+    /// None once a line was refused, the script has ended, or memory was wanted.
     player: Option<Player>,
+    /// What is left, once the script has ended.
+    end: Option<ScriptEnd>,
 }
 
 fn put(place: &mut Option<Player>, player: Player)
     ensures { place.new ≡ Some player }
 {
     *place = Some(player);
+}
+
+fn put_end(place: &mut Option<ScriptEnd>, end: ScriptEnd)
+    ensures { place.new ≡ Some end }
+{
+    *place = Some(end);
+}
+
+/// The step of an end that adds more, or nothing more.
+fn end_step_of(more: bool) -> EndStep
+    ensures { result ≡ end_step_of more }
+{
+    if more { EndStep::More } else { EndStep::Last }
 }
 
 impl Script {
@@ -38,6 +53,7 @@ impl Script {
             alloc,
             queue,
             player: Some(Player::new(alloc, limit)),
+            end: None,
         }
     }
 
@@ -56,7 +72,7 @@ impl Script {
 
 impl PlaysLines for Script {
     ghost use Rattle.gps_replay.specs.Run.{rules_of};
-    ghost use Rattle.gps_replay.specs.Scripts.{IsReplaying};
+    ghost use Rattle.gps_replay.specs.Scripts.{HasLeft, IsReplaying, most_steps};
     ghost use Rattle.replay_player.specs.States.{State as ScriptState};
 
     ghost State = { ScriptState };
@@ -64,6 +80,10 @@ impl PlaysLines for Script {
     ghost rules = { λ s. rules_of s.queue };
 
     ghost stands = { λ s state. IsReplaying s.queue s.player state };
+
+    ghost ends = { λ s left. HasLeft s.end left };
+
+    ghost steps_left = { λ s. most_steps s.end };
 
     #[tactic(auto, using(crate::proofs::Turns::no_event, crate::proofs::Turns::refused, crate::proofs::Turns::made))]
     fn line(&mut self, text: &[u8], out: &mut Bytes) -> Result<LineStep, NoMemory> {
@@ -82,9 +102,25 @@ impl PlaysLines for Script {
         }
     }
 
-    fn finish(&mut self, out: &mut Bytes) -> Result<(), NoMemory> {
+    #[tactic(auto, using(crate::proofs::Endings::has_left))]
+    fn end(&mut self) -> Result<(), NoMemory> {
         match self.player.take() {
-            Some(player) => player.finish(out),
+            Some(player) => {
+                let end = player.end()?;
+                put_end(&mut self.end, end);
+                Ok(())
+            }
+            None => unreachable!(),
+        }
+    }
+
+    #[tactic(auto, using(crate::proofs::Endings::part_of, crate::proofs::Endings::is_more))]
+    fn end_step(&mut self, out: &mut Bytes) -> Result<EndStep, NoMemory> {
+        match &mut self.end {
+            Some(end) => {
+                let more = end.step(out)?;
+                Ok(end_step_of(more))
+            }
             None => unreachable!(),
         }
     }

@@ -9,7 +9,7 @@ use Rattle.line_player.specs.declared.plays_lines.LineStep.{LineStep}
 use Rattle.line_player.specs.declared.plays_lines.LineStep.TheVariants.{Made, Refused}
 use Rattle.line_player.specs.Rules.{Rules, effect_within}
 use Rattle.line_player.specs.Courses.{Course, bad_line, course_of, course_so_far, due_at_end, due_so_far, ended_texts, gone_on, output_of, whole_course, with_line, written_so_far}
-use Rattle.line_player.specs.LineSteps.{IsAt, IsDue, RunsLast, RunsLines, StepDone, ended_course}
+use Rattle.line_player.specs.LineSteps.{IsAt, IsDue, IsDueAtEnd, RunsLast, RunsLines, StepDone, ended_course}
 use Rattle.line_player.proofs.Courses.{course_on, more_than, next_line, not_more, so_far_ended}
 
 refused_is : (refused : Option ℕ) (number : ℕ) → refused ≡ Some number → refused ≢ None
@@ -122,29 +122,32 @@ last_long rules bytes cutter count stands due at long =
     whole_on rules bytes (omega (arith, past)) ∙ next_line rules c (open_line bytes) None at.none (effect_past rules c.state (open_line bytes) past) in
     (ap (λ x. x.refused) made ∙ ap (λ k. Some (k + 1)) at.number, refl, ap (λ x. x.written) made)
 
-pub end_made : {X : Type 0} (rules other : Rules X) (bytes : List ℕ) (cutter : LineCutterView) (count count' : ℕ) (stands stands' : X → Type 0) (due due' due'' : List ℕ)
+pub end_made : {X : Type 0} (rules other : Rules X) (bytes : List ℕ) (cutter : LineCutterView) (count count' : ℕ) (stands stands' : X → Type 0) (ends : List ℕ → Type 0) (due due' : List ℕ)
     → IsAt rules bytes cutter count stands → due ≡ [] → RunsLast (Ok Made) rules bytes count' stands' due due' → other ≡ rules
-    → ((state : X) → stands' state → due'' ≡ due' ++ other.end_writes state)
-    → IsDue (Ok Made) (whole_course rules bytes).refused (written_so_far rules bytes) (output_of rules bytes) due''
-end_made rules other bytes cutter count count' stands stands' due due' due'' at none runs same writes =
+    → ((state : X) → stands' state → ends (other.end_writes state))
+    → IsDueAtEnd (Ok Made) (whole_course rules bytes).refused (written_so_far rules bytes) (output_of rules bytes) ends due'
+end_made rules other bytes cutter count count' stands stands' ends due due' at none runs same ended =
     let c : Course _ = whole_course rules bytes in
     let last : List ℕ = rules.end_writes c.state in
     let more : List ℕ = runs.2.0 in
-    let held : due' ≡ more = runs.2.1 ∙ ap (λ d. d ++ more) none in
-    let wrote : due'' ≡ due' ++ last = subst (λ r. due'' ≡ due' ++ r.end_writes c.state) same (writes c.state runs.1) in (
+    let held : due' ≡ more = runs.2.1 ∙ ap (λ d. d ++ more) none in (
       runs.0,
-      ap (due_at_end rules c) runs.0
-          ∙ ap (λ w. w ++ last) runs.2.2
-          ∙ append_assoc (ended_course rules bytes).written more last
-          ∙ ap (λ w. w ++ (more ++ last)) (sym (written_is rules bytes cutter count stands at))
-          ∙ ap (λ d. written_so_far rules bytes ++ d) (sym (wrote ∙ ap (λ d. d ++ last) held)),
+      (
+        last,
+        subst (λ (r : Rules _). ends (r.end_writes c.state)) same (ended c.state runs.1),
+        ap (due_at_end rules c) runs.0
+            ∙ ap (λ w. w ++ last) runs.2.2
+            ∙ append_assoc (ended_course rules bytes).written more last
+            ∙ ap (λ w. w ++ (more ++ last)) (sym (written_is rules bytes cutter count stands at))
+            ∙ ap (λ d. written_so_far rules bytes ++ (d ++ last)) (sym held),
+      ),
     )
 
-pub end_refused : {X : Type 0} (rules : Rules X) (bytes : List ℕ) (cutter : LineCutterView) (count count' : ℕ) (stands stands' : X → Type 0) (due due' due'' : List ℕ)
+pub end_refused : {X : Type 0} (rules : Rules X) (bytes : List ℕ) (cutter : LineCutterView) (count count' : ℕ) (stands stands' : X → Type 0) (ends : List ℕ → Type 0) (due due' due'' : List ℕ)
     → IsAt rules bytes cutter count stands → due ≡ [] → RunsLast (Ok Refused) rules bytes count' stands' due due'
     → due'' ≡ due' ++ bad_line (count' + 1)
-    → IsDue (Ok Refused) (whole_course rules bytes).refused (written_so_far rules bytes) (output_of rules bytes) due''
-end_refused rules bytes cutter count count' stands stands' due due' due'' at none runs wrote =
+    → IsDueAtEnd (Ok Refused) (whole_course rules bytes).refused (written_so_far rules bytes) (output_of rules bytes) ends due''
+end_refused rules bytes cutter count count' stands stands' ends due due' due'' at none runs wrote =
     let line : List ℕ = bad_line (count' + 1) in (
       refused_is (whole_course rules bytes).refused (count' + 1) runs.0,
       ap (due_at_end rules (whole_course rules bytes)) runs.0

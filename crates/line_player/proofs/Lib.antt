@@ -2,5 +2,6 @@ pub mod Courses
 pub mod Running
 pub mod Dues
 pub mod Writing
+pub mod Ending
 pub mod Reading
 pub mod Complete

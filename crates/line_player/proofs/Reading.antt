@@ -18,7 +18,7 @@ use Rattle.line_player.specs.Rules.{Effect, Rules, effect_within}
 use Rattle.line_player.specs.Courses.{Course, bad_line, course_so_far, due_at_end, due_so_far, ended_texts, gone_on, long_texts, new_course, output_of, unless, whole_course, with_line, written_so_far}
 use Rattle.line_player.specs.Outcomes.{outcome_of}
 use Rattle.line_player.specs.Played.{Ends, HasReadAll, HasReadSoFar, HasPlayed}
-use Rattle.line_player.specs.LineSteps.{IsAt, Writes, Written, ended_course}
+use Rattle.line_player.specs.LineSteps.{IsAt, Writes, WritesAtEnd, Written, ended_course}
 use Rattle.line_player.proofs.Courses.{course_on, so_far_on}
 use Rattle.line_player.proofs.Running.{none_long}
 use Rattle.line_player.proofs.Dues.{none_so_far, written_is}
@@ -173,14 +173,16 @@ broken_off NoMemoryFault rules most bytes before source after sink sink' sink'' 
 -- a fault at the source's end
 end_broken : {X : Type 0} (fault : Fault) (rules : Rules X) (most : ℕ) (bytes before : List ℕ) (source after : Option Stream) (sink sink' sink'' : Option (List ℕ))
     → HasReadAll most bytes source after → Goes (Appends before) sink sink' → IsPrefix before (output_of rules bytes)
-    → Writes {X = Unit {0}} (Err fault) (whole_course rules bytes).refused before (output_of rules bytes) sink' sink''
+    → WritesAtEnd {X = Unit {0}} (Err fault) (whole_course rules bytes).refused before (output_of rules bytes) sink' sink''
     → Ends (outcome_of fault) rules most bytes source after sink sink''
 end_broken BadLine rules most bytes before source after sink sink' sink'' read wrote grown w =
     inr (read, w.0, all_due before (output_of rules bytes) sink sink' sink'' wrote w.1)
 end_broken Sink rules most bytes before source after sink sink' sink'' read wrote grown w =
     inr (read, part_due before (output_of rules bytes) sink sink' sink'' wrote w)
-end_broken NoMemoryFault rules most bytes before source after sink sink' sink'' read wrote grown w =
-    inr (read, none_due before (output_of rules bytes) sink sink' sink'' wrote grown w)
+end_broken NoMemoryFault rules most bytes before source after sink sink' sink'' read wrote grown (inl same) =
+    inr (read, none_due before (output_of rules bytes) sink sink' sink'' wrote grown same)
+end_broken NoMemoryFault rules most bytes before source after sink sink' sink'' read wrote grown (inr w) =
+    inr (read, part_due before (output_of rules bytes) sink sink' sink'' wrote w)
 
 pub broken_in_piece : {X : Type 0} (n : ℕ) (rules : Rules X) (most : ℕ) (buf : List ℕ) (budget budget' : Budget) (cutter : LineCutterView) (count : ℕ) (stands : X → Type 0) (fault : Fault)
     (source now after : Option Stream) (quiets quiets' quiets'' : ℕ) (sink sink' sink'' : Option (List ℕ))
@@ -237,12 +239,12 @@ pub ended : {X : Type 0} (rules : Rules X) (most : ℕ) (buf : List ℕ) (budget
     → UnderWay rules most budget cutter count stands source now quiets quiets' sink sink'
     → Hands End buf now after
     → ((bytes : List ℕ) → IsAt rules bytes cutter count stands
-    → Writes {X = Unit {0}} (Ok tt) (whole_course rules bytes).refused (written_so_far rules bytes) (output_of rules bytes) sink' sink'')
+    → WritesAtEnd {X = Unit {0}} (Ok tt) (whole_course rules bytes).refused (written_so_far rules bytes) (output_of rules bytes) sink' sink'')
     → HasPlayed Done rules most source after sink sink''
 ended rules most buf budget cutter count stands source now after quiets quiets' sink sink' sink'' u handed writes =
     let read : (length u.bytes ≤ most) × Goes (TakesAll u.bytes) source after =
     ends_at_end most u.bytes buf budget source now after quiets quiets' u.taken handed in
-    let w : Writes {X = Unit {0}} (Ok tt) (whole_course rules u.bytes).refused (written_so_far rules u.bytes) (output_of rules u.bytes) sink' sink'' = writes u.bytes u.at in
+    let w : WritesAtEnd {X = Unit {0}} (Ok tt) (whole_course rules u.bytes).refused (written_so_far rules u.bytes) (output_of rules u.bytes) sink' sink'' = writes u.bytes u.at in
     record {
       bytes = u.bytes;
       ends = (read, w.0, all_due (written_so_far rules u.bytes) (output_of rules u.bytes) sink sink' sink'' u.wrote w.1);
@@ -253,7 +255,7 @@ pub broken_at_end : {X : Type 0} (rules : Rules X) (most : ℕ) (buf : List ℕ)
     → UnderWay rules most budget cutter count stands source now quiets quiets' sink sink'
     → Hands End buf now after
     → ((bytes : List ℕ) → IsAt rules bytes cutter count stands
-    → Writes {X = Unit {0}} (Err fault) (whole_course rules bytes).refused (written_so_far rules bytes) (output_of rules bytes) sink' sink'')
+    → WritesAtEnd {X = Unit {0}} (Err fault) (whole_course rules bytes).refused (written_so_far rules bytes) (output_of rules bytes) sink' sink'')
     → (outcome : PlayOutcome) → outcome ≡ outcome_of fault
     → HasPlayed outcome rules most source after sink sink''
 broken_at_end rules most buf budget cutter count stands fault source now after quiets quiets' sink sink' sink'' u handed writes outcome is =

@@ -1,11 +1,13 @@
 -- What a player's line does, and what the parts of a play say: where it stands, what is due, and what was written.
-use Rattle.std.specs.Prelude.{◌≡◌, ◌≢◌, ℕ, ◌+◌, false, List, ◌++◌, Option, Some, None, Result, Ok, Err}
+use Rattle.std.specs.Prelude.{◌≡◌, ◌≢◌, ◌⊎◌, ℕ, ◌+◌, false, List, ◌++◌, Option, Some, None, Result, Ok, Err}
 use Rattle.gps_fixed.specs.declared.no_memory.NoMemory.{NoMemory}
 use Rattle.gps_outside.specs.Counts.{Rose}
 use Rattle.gps_outside.specs.Told.{Goes, Appends, AppendsPart}
 use Rattle.line_cut.specs.Limits.{is_too_long}
 use Rattle.line_cut.specs.Lines.{open_line}
 use Rattle.line_cut.specs.Standing.{LineCutterView, StandsFor}
+use Rattle.line_player.specs.declared.plays_lines.EndStep.{EndStep}
+use Rattle.line_player.specs.declared.plays_lines.EndStep.TheVariants.{More, Last}
 use Rattle.line_player.specs.declared.plays_lines.LineStep.{LineStep}
 use Rattle.line_player.specs.declared.plays_lines.LineStep.TheVariants.{Made, Refused}
 use Rattle.line_player.specs.declared.outcome.Fault.{Fault}
@@ -19,6 +21,13 @@ abbrev pub StepDone : {X : Type 0} → Result LineStep NoMemory → Rules X → 
 StepDone (Ok Made) rules state text stands out out' = (e : Effect _) × (rules.effect state text ≡ Some e) × stands e.state × (out' ≡ out ++ e.written)
 StepDone (Ok Refused) rules state text stands out out' = (rules.effect state text ≡ None) × (out' ≡ out)
 StepDone (Err _) rules state text stands out out' = Unit {0}
+
+-- The next part of what the end writes stands behind what the buffer held, and the rest is left; or all of it stands there. Out of memory,
+-- nothing is known.
+abbrev pub EndPart : Result EndStep NoMemory → List ℕ → (List ℕ → Type 0) → List ℕ → List ℕ → Type 0
+EndPart (Ok More) left ends out out' = (part : List ℕ) × (rest : List ℕ) × (left ≡ part ++ rest) × ends rest × (out' ≡ out ++ part)
+EndPart (Ok Last) left ends out out' = out' ≡ out ++ left
+EndPart (Err _) left ends out out' = Unit {0}
 
 -- the course of the lines that these bytes end
 abbrev pub ended_course : {X : Type 0} → Rules X → List ℕ → Course X
@@ -59,6 +68,12 @@ IsDue (Ok Made) refused before due out = (refused ≡ None) × (due ≡ before +
 IsDue (Ok Refused) refused before due out = (refused ≢ None) × (due ≡ before ++ out)
 IsDue (Err _) refused before due out = Unit {0}
 
+-- the same at the text's end, where what the end writes is still left if no line is refused
+abbrev pub IsDueAtEnd : Result LineStep NoMemory → Option ℕ → List ℕ → List ℕ → (List ℕ → Type 0) → List ℕ → Type 0
+IsDueAtEnd (Ok Made) refused before due ends out = (refused ≡ None) × ((left : List ℕ) × ends left × (due ≡ before ++ (out ++ left)))
+IsDueAtEnd (Ok Refused) refused before due ends out = (refused ≢ None) × (due ≡ before ++ out)
+IsDueAtEnd (Err _) refused before due ends out = Unit {0}
+
 -- what is due behind this, some bytes more
 pub record Written (P : List ℕ → List ℕ → List ℕ → Type 0) (before due : List ℕ) (sink sink' : Option (List ℕ)) : Type 0 where
   pub more : List ℕ
@@ -71,6 +86,31 @@ Writes (Ok _) refused before due sink sink' = (refused ≡ None) × Written Appe
 Writes (Err BadLine) refused before due sink sink' = (refused ≢ None) × Written Appends before due sink sink'
 Writes (Err Sink) refused before due sink sink' = Written AppendsPart before due sink sink'
 Writes (Err NoMemoryFault) refused before due sink sink' = sink ≡ sink'
+
+-- the same at the text's end: out of memory, a part of what was due may be written
+abbrev pub WritesAtEnd : {X : Type 0} → Result X Fault → Option ℕ → List ℕ → List ℕ → Option (List ℕ) → Option (List ℕ) → Type 0
+WritesAtEnd (Ok _) refused before due sink sink' = (refused ≡ None) × Written Appends before due sink sink'
+WritesAtEnd (Err BadLine) refused before due sink sink' = (refused ≢ None) × Written Appends before due sink sink'
+WritesAtEnd (Err Sink) refused before due sink sink' = Written AppendsPart before due sink sink'
+WritesAtEnd (Err NoMemoryFault) refused before due sink sink' = (sink ≡ sink') ⊎ Written AppendsPart before due sink sink'
+
+-- the writing of an end breaks off: a part of it was written, and no line is refused there
+abbrev pub EndBreaks : Fault → List ℕ → Option (List ℕ) → Option (List ℕ) → Type 0
+EndBreaks BadLine all sink sink' = ⊥
+EndBreaks Sink all sink sink' = Goes (AppendsPart all) sink sink'
+EndBreaks NoMemoryFault all sink sink' = Goes (AppendsPart all) sink sink'
+
+-- The front of what is left at an end was written, and behind it this is due and the rest is left; or all was written.
+abbrev pub WritesPart : Result EndStep Fault → List ℕ → (List ℕ → Type 0) → List ℕ → Option (List ℕ) → Option (List ℕ) → Type 0
+WritesPart (Ok More) all ends due sink sink' =
+    (front : List ℕ) × (rest : List ℕ) × (all ≡ front ++ (due ++ rest)) × ends rest × Goes (Appends front) sink sink'
+WritesPart (Ok Last) all ends due sink sink' = Goes (Appends all) sink sink'
+WritesPart (Err fault) all ends due sink sink' = EndBreaks fault all sink sink'
+
+-- all that is left at an end was written, or a part of it
+abbrev pub WritesEnd : {X : Type 0} → Result X Fault → List ℕ → Option (List ℕ) → Option (List ℕ) → Type 0
+WritesEnd (Ok _) all sink sink' = Goes (Appends all) sink sink'
+WritesEnd (Err fault) all sink sink' = EndBreaks fault all sink sink'
 
 abbrev pub WriteCause : {X : Type 0} → Result X Fault → ℕ → ℕ → Type 0
 WriteCause (Ok _) before after = Unit {0}

@@ -8,4 +8,4 @@ mod plays_lines;
 
 pub use outcome::PlayOutcome;
 pub use playing::play;
-pub use plays_lines::{LineStep, PlaysLines};
+pub use plays_lines::{EndStep, LineStep, PlaysLines};

@@ -2,13 +2,17 @@ ghost use Rattle.std.specs.Prelude.{◌≡◌, ◌≤◌, ◌<◌, ◌+◌, ◌-
 ghost use Rattle.line_cut.specs.Standing.{StandsFor, spelling};
 ghost use Rattle.line_player.specs.Rules.{text_in};
 ghost use Rattle.line_player.specs.Courses.{bad_line, course_so_far, output_of, whole_course, written_so_far};
-ghost use Rattle.line_player.specs.LineSteps.{IsAt, IsDue, RunsLast, RunsLines, StepDone};
+ghost use Rattle.line_player.specs.LineSteps.{EndPart, IsAt, IsDue, IsDueAtEnd, RunsLast, RunsLines, StepDone};
+ghost use Rattle.line_player.specs.declared.plays_lines.EndStep.{EndStep};
 ghost use Rattle.line_player.specs.declared.plays_lines.LineStep.{LineStep};
 
-use crate::plays_lines::{LineStep, PlaysLines};
+use crate::plays_lines::{EndStep, LineStep, PlaysLines};
 use gps_fixed::{Bytes, NoMemory, push_decimal};
 use line_cut::{Last, Limit, LineCutter, Next, WholeLine, text_of};
 use std::alloc::Global;
+
+/// At the end this many bytes are written before more are made due.
+const ENOUGH_DUE: usize = 65_536;
 
 /// The lines of a text as its pieces come: how many were run, and what is due and not yet written.
 #[derive(Drop)]
@@ -73,6 +77,13 @@ impl Lines {
         ensures { result.now ≡ self.now.due }
     {
         self.due.as_slice()
+    }
+
+    /// What was due was written.
+    pub(crate) fn clear_due(&mut self)
+        ensures { self.new.due ≡ [] }
+    {
+        self.due.clear();
     }
 
     /// Runs the lines that a piece makes known, up to the first refused one.
@@ -158,21 +169,39 @@ impl Lines {
         }
     }
 
-    /// Makes what the end of the text makes due.
+    /// Makes what the last line writes due, and ends the lines.
     pub(crate) fn finish<P: PlaysLines>(&mut self, player: &mut P) -> Result<LineStep, NoMemory>
         requires room { self.old.count < 2 ^ 64 - 1 }
         requires known { (bytes : List ℕ) × IsAt (P.rules player.old) bytes self.old.cutter self.old.count (P.stands player.old) }
         ensures due { (bytes : List ℕ) → IsAt (P.rules player.old) bytes self.old.cutter self.old.count (P.stands player.old)
-            → IsDue result (whole_course (P.rules player.old) bytes).refused
-            (written_so_far (P.rules player.old) bytes) (output_of (P.rules player.old) bytes) self.new.due }
+            → IsDueAtEnd result (whole_course (P.rules player.old) bytes).refused
+            (written_so_far (P.rules player.old) bytes) (output_of (P.rules player.old) bytes) (P.ends player.new) self.new.due }
     {
         self.due.clear();
         match self.run_last(player)? {
             LineStep::Made => {
-                player.finish(&mut self.due)?;
+                player.end()?;
                 Ok(LineStep::Made)
             }
             LineStep::Refused => self.refuse(),
+        }
+    }
+
+    /// Makes what the end writes due, up to its last byte or to enough for one write.
+    pub(crate) fn add_end<P: PlaysLines>(&mut self, player: &mut P) -> Result<EndStep, NoMemory>
+        requires known { (left : List ℕ) × P.ends player.old left }
+        ensures part { (left : List ℕ) → P.ends player.old left → EndPart result left (P.ends player.new) self.old.due self.new.due }
+        ensures fewer { result ≡ Ok EndStep.More → P.steps_left player.new < P.steps_left player.old }
+    {
+        'parts: loop {
+            match player.end_step(&mut self.due)? {
+                EndStep::More => {
+                    if self.due.len() >= ENOUGH_DUE {
+                        return Ok(EndStep::More);
+                    }
+                }
+                EndStep::Last => return Ok(EndStep::Last),
+            }
         }
     }
 }

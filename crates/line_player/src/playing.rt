@@ -2,14 +2,15 @@ ghost use Rattle.std.specs.Prelude.{◌≡◌, ◌≤◌, ◌<◌, ◌+◌, ◌-
 ghost use Rattle.line_player.specs.Courses.{course_so_far, output_of, whole_course, written_so_far};
 ghost use Rattle.line_player.specs.Outcomes.{PlayHasCause};
 ghost use Rattle.line_player.specs.Played.{IsWithin, HasPlayed};
-ghost use Rattle.line_player.specs.LineSteps.{IsAt, IsDue, WriteCause, Writes};
+ghost use Rattle.line_player.specs.LineSteps.{IsAt, IsDue, WriteCause, Writes, WritesAtEnd, WritesEnd, WritesPart};
+ghost use Rattle.line_player.specs.declared.plays_lines.EndStep.{EndStep};
 ghost use Rattle.line_player.specs.declared.plays_lines.LineStep.{LineStep};
 ghost use Rattle.line_player.specs.declared.outcome.PlayOutcome.{PlayOutcome};
 ghost use Rattle.gps_outside.specs.Counts.{Rose, RoseBy};
 
 use crate::lines::Lines;
 use crate::outcome::{Fault, PlayOutcome};
-use crate::plays_lines::{LineStep, PlaysLines};
+use crate::plays_lines::{EndStep, LineStep, PlaysLines};
 use gps_fixed::NoMemory;
 use gps_outside::{Intake, IntakeStep, Sink, Source, write_all};
 use line_cut::Limit;
@@ -74,6 +75,52 @@ fn hand_on<P: PlaysLines, K: Sink>(
     write_due(turn, lines.due(), sink)
 }
 
+/// Writes what is due and the next part of what the end writes.
+fn write_part<P: PlaysLines, K: Sink>(
+    lines: &mut Lines,
+    player: &mut P,
+    sink: &mut K,
+) -> Result<EndStep, Fault>
+    requires known { (left : List ℕ) × P.ends player.old left }
+    ensures wrote { (left : List ℕ) → P.ends player.old left
+        → WritesPart result (lines.old.due ++ left) (P.ends player.new) lines.new.due (K.written sink.old) (K.written sink.new) }
+    ensures fewer { result ≡ Ok EndStep.More → P.steps_left player.new < P.steps_left player.old }
+    ensures cause { WriteCause result (K.faults sink.old) (K.faults sink.new) }
+    ensures faults_stay { K.faults sink.old ≤ K.faults sink.new }
+{
+    match lines.add_end(player) {
+        Ok(step) => {
+            if write_all(sink, lines.due()) {
+                lines.clear_due();
+                Ok(step)
+            } else {
+                Err(Fault::Sink)
+            }
+        }
+        Err(NoMemory) => Err(Fault::NoMemory),
+    }
+}
+
+/// Writes what is due and all that the end writes, a part after the other.
+fn write_end<P: PlaysLines, K: Sink>(
+    lines: &mut Lines,
+    player: &mut P,
+    sink: &mut K,
+) -> Result<(), Fault>
+    requires known { (left : List ℕ) × P.ends player.old left }
+    ensures wrote { (left : List ℕ) → P.ends player.old left → WritesEnd result (lines.old.due ++ left) (K.written sink.old) (K.written sink.new) }
+    ensures cause { WriteCause result (K.faults sink.old) (K.faults sink.new) }
+    ensures faults_stay { K.faults sink.old ≤ K.faults sink.new }
+{
+    'parts: loop {
+        match write_part(lines, player, sink) {
+            Ok(EndStep::More) => {}
+            Ok(EndStep::Last) => return Ok(()),
+            Err(fault) => return Err(fault),
+        }
+    }
+}
+
 /// Runs the line that the source's end makes known, and writes what is due at the end.
 fn close<P: PlaysLines, K: Sink>(
     lines: &mut Lines,
@@ -83,14 +130,23 @@ fn close<P: PlaysLines, K: Sink>(
     requires room { lines.old.count < 2 ^ 64 - 1 }
     requires known { (bytes : List ℕ) × IsAt (P.rules player.old) bytes lines.old.cutter lines.old.count (P.stands player.old) }
     ensures wrote { (bytes : List ℕ) → IsAt (P.rules player.old) bytes lines.old.cutter lines.old.count (P.stands player.old)
-        → Writes result (whole_course (P.rules player.old) bytes).refused
+        → WritesAtEnd result (whole_course (P.rules player.old) bytes).refused
         (written_so_far (P.rules player.old) bytes) (output_of (P.rules player.old) bytes)
         (K.written sink.old) (K.written sink.new) }
     ensures cause { WriteCause result (K.faults sink.old) (K.faults sink.new) }
     ensures faults_stay { K.faults sink.old ≤ K.faults sink.new }
 {
-    let turn = lines.finish(player);
-    write_due(turn, lines.due(), sink)
+    match lines.finish(player) {
+        Ok(LineStep::Made) => write_end(lines, player, sink),
+        Ok(LineStep::Refused) => {
+            if write_all(sink, lines.due()) {
+                Err(Fault::BadLine)
+            } else {
+                Err(Fault::Sink)
+            }
+        }
+        Err(NoMemory) => Err(Fault::NoMemory),
+    }
 }
 
 /// As [`play`].
@@ -140,7 +196,8 @@ fn read_through<S: Source, K: Sink, P: PlaysLines>(
 /// refused one, and writes what they write.
 ///
 /// A line is known once its end was read, or so much of it that it is too long; the source's end ends the last one. A
-/// refused line N is written as `bad line N`, behind what those before it write.
+/// refused line N is written as `bad line N`, behind what those before it write. What the end writes is written part by
+/// part, so no more than one part of it stands in memory.
 ///
 /// Where neither the source nor the sink fails, fewer than a thousand reads bring nothing, and the source tells that no
 /// more than `most` bytes are left and that none of their lines is refused, all is read and written, unless memory is

@@ -1,5 +1,7 @@
 -- At a script's end the items of each session that are left are written, and its closing line.
-use Rattle.std.proofs.Common.{◌≡◌, ◌≤◌, ◌<◌, ℕ, zero, suc, ◌+◌, List, [], ◌∷◌, ◌++◌, length, drop, take, set, slice_get, Some, None, Result, Ok, Err, OnOk, option_and_then, option_map, refl, sym, ap, ◌∙◌, subst, inl, inr, append-nil, append_assoc, arith}
+use Rattle.std.proofs.Common.{◌≡◌, ◌≤◌, ◌<◌, ℕ, zero, suc, ◌+◌, List, [], ◌∷◌, ◌++◌, true, length, drop, take, set, slice_get, Some, None, Result, Ok, Err, OnOk, option_and_then, option_map, refl, sym, ap, ◌∙◌, subst, inl, inr, append-nil, append_assoc, arith}
+use Rattle.std.specs.List.{flat_map, range_with_len}
+use Rattle.std.proofs.lemmas.List.{length-set}
 use Rattle.gps_fixed.specs.declared.no_memory.NoMemory.{NoMemory}
 use Rattle.session_core.specs.declared.mark.Close.{Close}
 use Rattle.session_core.specs.SessionView.{SessionView}
@@ -13,10 +15,10 @@ use Rattle.replay_player.specs.declared.event_step.EventStep.{EventStep}
 use Rattle.replay_player.specs.declared.event_step.EventStep.TheVariants.{Made, Refused}
 use Rattle.replay_player.specs.Clients.{Client, after_take, items_of, kept_of, next_taken}
 use Rattle.replay_player.specs.Effects.{EventEffect, item_lines, takes, with_client}
-use Rattle.replay_player.specs.Ending.{Drains, DrainsOne, StandsAlike, emptied, most_kept}
-use Rattle.replay_player.specs.Ends.{all_drained, counted, drained, end_line}
+use Rattle.replay_player.specs.Ending.{DrainsOne, EndAdds, Leaves, emptied, most_kept, sessions_left}
+use Rattle.replay_player.specs.Ends.{all_drained, counted, drained, end_line, published}
 use Rattle.replay_player.specs.Playing.{Acts, Attends, BookStandsFor, ReplayBookView, state_of}
-use Rattle.replay_player.specs.States.{State}
+use Rattle.replay_player.specs.States.{State, units_in}
 use Rattle.replay_player.proofs.Seating.{Both, long_same, zip_at}
 use Rattle.replay_player.proofs.Taking.{client_there, set_there}
 use Rattle.replay_player.proofs.Telling.{run_open}
@@ -144,31 +146,12 @@ one_drained s mid new n Made out out' (Ok u) out'' took wrote same state c plays
       written = wrote_so ∙ ap (λ l. l ++ closing) lines ∙ append_assoc out (item_lines n (kept_of state.names state.log c)) closing;
     }
 
--- all sessions
-
--- those below s are drained: what is left to write is the same as at first
-pub record DrainedTo (now : ReplayBookView) (n : ℕ) (out out' : List ℕ) (state : State) : Type 0 where
-  pub stands : StandsAlike now state
-  pub left : drop n stands.now.clients ≡ drop n state.clients
-  pub written : out' ++ all_drained state.names state.log n (drop n state.clients) ≡ out ++ all_drained state.names state.log 0 state.clients
-
-abbrev pub DrainedSoFar : ReplayBookView → ReplayBookView → ℕ → List ℕ → List ℕ → Type 0
-DrainedSoFar s now n out out' = (state : State) → BookStandsFor s state → DrainedTo now n out out' state
-
-pub none_drained : (s : ReplayBookView) (out : List ℕ) → DrainedSoFar s s 0 out out
-none_drained s out = λ state plays.
-    record { stands = record { now = state; plays = plays; alike = record { names = refl; firsts = refl; log = refl } }; left = refl; written = refl }
+-- what is left behind one session
 
 pub drop_at : {A : Type 0} (n : ℕ) (xs : List A) (x : A) → slice_get xs n ≡ Some x → drop n xs ≡ x ∷ drop (n + 1) xs
 drop_at n [] x is = absurd (cc)
 drop_at zero (y ∷ xs) x is = let e : y ≡ x = cc in ap (λ z. z ∷ xs) e
 drop_at (suc n) (y ∷ xs) x is = let e : suc n + 1 ≡ suc (n + 1) = omega arith in drop_at n xs x is ∙ ap (λ k. x ∷ drop k (y ∷ xs)) (sym e)
-
-first_left : {A : Type 0} (n : ℕ) (xs : List A) → slice_get xs n ≡ slice_get (drop n xs) 0
-first_left zero [] = refl
-first_left (suc n) [] = refl
-first_left zero (x ∷ xs) = refl
-first_left (suc n) (x ∷ xs) = first_left n xs
 
 left_of_set : {A : Type 0} (n : ℕ) (xs : List A) (x : A) → drop (n + 1) (set xs n x) ≡ drop (n + 1) xs
 left_of_set n [] x = refl
@@ -177,52 +160,69 @@ left_of_set (suc n) (y ∷ xs) x =
     let e : suc n + 1 ≡ suc (n + 1) = omega arith in
     ap (λ k. drop k (y ∷ set xs n x)) e ∙ left_of_set n xs x ∙ ap (λ k. drop k (y ∷ xs)) (sym e)
 
-tail_left : {A : Type 0} (n : ℕ) (xs ys : List A) (x : A) → slice_get xs n ≡ Some x → slice_get ys n ≡ Some x → drop n xs ≡ drop n ys → drop (n + 1) xs ≡ drop (n + 1) ys
-tail_left n xs ys x one other same =
-    let e : x ∷ drop (n + 1) xs ≡ x ∷ drop (n + 1) ys = sym (drop_at n xs x one) ∙ same ∙ drop_at n ys x other in
-    ap (drop 1) e
-
-pub one_more_drained : (s now next : ReplayBookView) (n : ℕ) (out out' out'' : List ℕ) → n < length s.book.sessions → DrainedSoFar s now n out out'
-    → ((state : State) (c : Client) → BookStandsFor now state → slice_get state.clients n ≡ Some c → DrainsOne n next out' out'' state c) → DrainedSoFar s next (n + 1) out out''
-unfolding all_drained
-one_more_drained s now next n out out' out'' below so_far step = λ state plays.
-    let was = so_far state plays in
-    let mid = was.stands.now in
-    let found = client_there s state n plays below in
-    let c = found.0 in
-    let there : slice_get state.clients n ≡ Some c = found.1 in
-    let mine : slice_get mid.clients n ≡ Some c = first_left n mid.clients ∙ ap (λ l. slice_get l 0) was.left ∙ sym (first_left n state.clients) ∙ there in
-    let did = step mid c was.stands.plays mine in
-    let text : out'' ≡ out' ++ drained state.names state.log n c =
-    did.written ∙ ap (λ m. out' ++ drained m mid.log n c) was.stands.alike.names ∙ ap (λ l. out' ++ drained state.names l n c) was.stands.alike.log in
-    let rest = all_drained state.names state.log (n + 1) (drop (n + 1) state.clients) in
-    record {
-      stands = record {
-        now = emptied n c mid;
-        plays = did.plays;
-        alike = record { names = was.stands.alike.names; firsts = was.stands.alike.firsts; log = was.stands.alike.log };
-      };
-      left = left_of_set n mid.clients (after_take most_kept mid.names mid.log c) ∙ tail_left n mid.clients state.clients c mine there was.left;
-      written = ap (λ l. l ++ rest) text
-          ∙ append_assoc out' (drained state.names state.log n c) rest
-          ∙ ap (λ l. out' ++ all_drained state.names state.log n l) (sym (drop_at n state.clients c there))
-          ∙ was.written;
-    }
-
 pub drop_all : {A : Type 0} (n : ℕ) (xs : List A) → length xs ≤ n → drop n xs ≡ []
 drop_all zero [] few = refl
 drop_all zero (x ∷ xs) few = absurd (omega (arith, few))
 drop_all (suc n) [] few = refl
 drop_all (suc n) (x ∷ xs) few = drop_all n xs (omega (arith, few))
 
-pub every_one_drained : (s now : ReplayBookView) (n : ℕ) (out out' : List ℕ) → n ≡ length s.book.sessions → DrainedSoFar s now n out out' → (state : State) → BookStandsFor s state → Drains now out out' state
+pub one_less : (s new : ReplayBookView) (n : ℕ) (out out' : List ℕ) → n < length s.book.sessions
+    → ((state : State) (c : Client) → BookStandsFor s state → slice_get state.clients n ≡ Some c → DrainsOne n new out out' state c)
+    → (left : List ℕ) → Leaves (record { book = s; next = n }) left → EndAdds (Ok true) left (record { book = new; next = n + 1 }) out out'
 unfolding all_drained
-every_one_drained s now n out out' all so_far state plays =
-    let was = so_far state plays in
+one_less s new n out out' below step left leaves =
+    let state = leaves.state in
+    let found = client_there s state n leaves.stands below in
+    let c = found.0 in
+    let there : slice_get state.clients n ≡ Some c = found.1 in
+    let did = step state c leaves.stands there in
+    let lines = drained state.names state.log n c in
+    let rest = all_drained state.names state.log (n + 1) (drop (n + 1) state.clients) in
+    let units = flat_map (published state) (range_with_len 0 (units_in state)) in (
+      lines,
+      rest ++ units,
+      sym leaves.is
+          ∙ ap (λ l. all_drained state.names state.log n l ++ units) (drop_at n state.clients c there)
+          ∙ append_assoc lines rest units,
+      record {
+        state = emptied n c state;
+        stands = did.plays;
+        is = ap (λ l. all_drained state.names state.log (n + 1) l ++ units) (left_of_set n state.clients (after_take most_kept state.names state.log c));
+      },
+      did.written,
+    )
+
+-- the number of sessions stays
+
+as_many : (s : ReplayBookView) (state : State) → BookStandsFor s state → length s.book.sessions ≡ length state.clients
+as_many s state plays =
     let C : State → Type 0 = λ st. length s.book.sessions ≡ length st.clients in
-    let long : C state = subst C plays.is (long_same (Attends s.book.names plays.before s.book.log.log) s.book.sessions plays.clients plays.standing.clients_are) in
-    let none : drop n state.clients ≡ [] = drop_all n state.clients (omega (arith, all, long)) in
-    record {
-      stands = was.stands;
-      written = sym (append-nil out') ∙ ap (λ l. out' ++ all_drained state.names state.log n l) (sym none) ∙ was.written;
-    }
+    subst C plays.is (long_same (Attends s.book.names plays.before s.book.log.log) s.book.sessions plays.clients plays.standing.clients_are)
+
+pub fewer_left : (s new : ReplayBookView) (n : ℕ) (out out' : List ℕ) → n < length s.book.sessions
+    → ((state : State) (c : Client) → BookStandsFor s state → slice_get state.clients n ≡ Some c → DrainsOne n new out out' state c)
+    → (left : List ℕ) → Leaves (record { book = s; next = n }) left
+    → sessions_left (record { book = new; next = n + 1 }) < sessions_left (record { book = s; next = n })
+fewer_left s new n out out' below step left leaves =
+    let state = leaves.state in
+    let found = client_there s state n leaves.stands below in
+    let did = step state found.0 leaves.stands found.1 in
+    let stay : length new.book.sessions ≡ length s.book.sessions =
+    as_many new (emptied n found.0 state) did.plays
+    ∙ length-set state.clients n (after_take most_kept state.names state.log found.0)
+    ∙ sym (as_many s state leaves.stands) in
+    omega (arith, below, stay)
+
+-- behind the last session the units alone are left
+
+pub units_left : (s : ReplayBookView) (n : ℕ) (out out' : List ℕ) → length s.book.sessions ≤ n
+    → ((state : State) → BookStandsFor s state → out' ≡ out ++ flat_map (published state) (range_with_len 0 (units_in state)))
+    → (left : List ℕ) → Leaves (record { book = s; next = n }) left → out' ≡ out ++ left
+unfolding all_drained
+units_left s n out out' past writes left leaves =
+    let state = leaves.state in
+    let units = flat_map (published state) (range_with_len 0 (units_in state)) in
+    let none : drop n state.clients ≡ [] = let long = as_many s state leaves.stands in drop_all n state.clients (omega (arith, past, long)) in
+    writes state leaves.stands
+    ∙ ap (λ l. out ++ (all_drained state.names state.log n l ++ units)) (sym none)
+    ∙ ap (λ l. out ++ l) leaves.is

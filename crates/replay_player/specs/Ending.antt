@@ -1,5 +1,7 @@
 -- The steps of a script's end.
-use Rattle.std.specs.Prelude.{◌≡◌, ◌<◌, ◌+◌, ◌-◌, ◌*◌, ℕ, true, false, Bool, List, ◌++◌, length, get_or, slice_get, slice_index, Option, Some, None, Result, Ok, Err}
+use Rattle.std.specs.Prelude.{◌≡◌, ◌<◌, ◌+◌, ◌-◌, ◌*◌, ℕ, true, false, Bool, List, ◌++◌, drop, length, get_or, slice_get, slice_index, Option, Some, None, Result, Ok, Err}
+use Rattle.std.specs.List.{flat_map, range_with_len}
+use Rattle.gps_fixed.specs.declared.no_memory.NoMemory.{NoMemory}
 use Rattle.shm_segment.specs.declared.publisher.Phase.{Phase}
 use Rattle.shm_segment.specs.declared.publisher.Phase.TheVariants.{Idle, ToInvalid, ToOdd, ToBody, ToEven, ToValid}
 use Rattle.book_log.specs.Entries.{stops_in}
@@ -12,7 +14,7 @@ use Rattle.replay_player.specs.Clients.{Client, after_take}
 use Rattle.replay_player.specs.Effects.{with_client}
 use Rattle.replay_player.specs.Ends.{all_drained, drained, published}
 use Rattle.replay_player.specs.Playing.{BookStandsFor, ReplayBookView}
-use Rattle.replay_player.specs.States.{State, samples_at}
+use Rattle.replay_player.specs.States.{State, samples_at, units_in}
 
 -- a call of a book was not out of memory
 abbrev pub IsServed : Result (Unit {0}) BookFault → Type 0
@@ -49,10 +51,30 @@ pub record DrainsOne (s : ℕ) (new : ReplayBookView) (out out' : List ℕ) (sta
   pub plays : BookStandsFor new (emptied s c state)
   pub written : out' ≡ out ++ drained state.names state.log s c
 
--- the lines of all sessions
-pub record Drains (new : ReplayBookView) (out out' : List ℕ) (state : State) : Type 0 where
-  pub stands : StandsAlike new state
-  pub written : out' ≡ out ++ all_drained state.names state.log 0 state.clients
+-- what is left to write once the devices have ended and the sessions are closed: from the session of this number on
+abbrev pub left_from : ℕ → State → List ℕ
+left_from n state =
+    all_drained state.names state.log n (drop n state.clients) ++ flat_map (published state) (range_with_len 0 (units_in state))
+
+-- the end of a script, and the first session whose lines are left
+pub record ScriptEndView : Type 0 where
+  pub book : ReplayBookView
+  pub next : ℕ
+
+-- this is left to write
+pub record Leaves (e : ScriptEndView) (left : List ℕ) : Type 0 where
+  pub state : State
+  pub stands : BookStandsFor e.book state
+  pub is : left_from e.next state ≡ left
+
+-- The next part of what is left stands behind what was written, and the rest is left; or all of it stands there. Out of memory, nothing is known.
+abbrev pub EndAdds : Result Bool NoMemory → List ℕ → ScriptEndView → List ℕ → List ℕ → Type 0
+EndAdds (Ok true) left new out out' = (part : List ℕ) × (rest : List ℕ) × (left ≡ part ++ rest) × Leaves new rest × (out' ≡ out ++ part)
+EndAdds (Ok false) left new out out' = out' ≡ out ++ left
+EndAdds (Err _) left new out out' = Unit {0}
+
+abbrev pub sessions_left : ScriptEndView → ℕ
+sessions_left e = length e.book.book.sessions - e.next
 
 -- how many stores are at most left of a sample in this phase
 abbrev pub phase_left : Phase → ℕ

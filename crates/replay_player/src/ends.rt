@@ -4,8 +4,8 @@ ghost use Rattle.std.specs.Prelude.{◌≡◌, ◌<◌, ◌*◌, ◌++◌, true,
 ghost use Rattle.std.specs.List.{flat_map, range_with_len};
 ghost use Rattle.replay_monitors.specs.Stored.{is_store};
 ghost use Rattle.replay_player.specs.Clients.{Client, items_of};
-ghost use Rattle.replay_player.specs.Ending.{Drains, DrainsOne, HaveStopped, IsServed, PublishesOne, Shows, stores_left};
-ghost use Rattle.replay_player.specs.Ends.{all_closed, all_ended, closings_at_end, counted, end_line, ended_at, published, shut, written_at_end};
+ghost use Rattle.replay_player.specs.Ending.{DrainsOne, HaveStopped, IsServed, PublishesOne, Shows, stores_left};
+ghost use Rattle.replay_player.specs.Ends.{all_closed, all_ended, closings_at_end, counted, end_line, ended_at, published, shut};
 ghost use Rattle.replay_player.specs.Playing.{BookStandsFor};
 ghost use Rattle.replay_player.specs.States.{State, units_in};
 
@@ -40,7 +40,7 @@ impl ReplayBook {
     }
 
     /// Each device that has not stopped ends.
-    fn end_devices(&mut self) -> Result<(), NoMemory>
+    pub(crate) fn end_devices(&mut self) -> Result<(), NoMemory>
         ensures ended { (state : State) → BookStandsFor self.old state → OnOk result (BookStandsFor self.new (all_ended state)) }
     {
         'devices: for d in 0..self.devices {
@@ -50,7 +50,7 @@ impl ReplayBook {
     }
 
     /// Where each device has stopped, the open sessions are closed.
-    fn close_sessions(&mut self)
+    pub(crate) fn close_sessions(&mut self)
         ensures shut { (state : State) → BookStandsFor self.old state → HaveStopped state → BookStandsFor self.new (shut state) }
     {
         self.book.show();
@@ -74,22 +74,12 @@ impl ReplayBook {
     }
 
     /// Writes the items of a session that are left, and its closing line.
-    fn drain_one(&mut self, s: u32, out: &mut Bytes) -> Result<(), NoMemory>
+    pub(crate) fn drain_one(&mut self, s: u32, out: &mut Bytes) -> Result<(), NoMemory>
         ensures drains { (state : State) (c : Client) → BookStandsFor self.old state → slice_get state.clients s ≡ Some c
             → OnOk result (DrainsOne s self.new out.old out.new state c) }
     {
         self.take(u64::from(s), MOST_KEPT, out)?;
         self.write_closing(s, out)
-    }
-
-    /// Writes the items of all sessions that are left, and their closing lines.
-    fn drain(&mut self, out: &mut Bytes) -> Result<(), NoMemory>
-        ensures drains { (state : State) → BookStandsFor self.old state → OnOk result (Drains self.new out.old out.new state) }
-    {
-        'sessions: for s in 0..self.book.opened() {
-            self.drain_one(s, out)?;
-        }
-        Ok(())
     }
 
     /// A unit's publisher makes a store; false where it makes none.
@@ -121,7 +111,7 @@ impl ReplayBook {
     }
 
     /// Publishes the samples of all units, and writes their lines.
-    fn publish(&mut self, out: &mut Bytes) -> Result<(), NoMemory>
+    pub(crate) fn publish(&mut self, out: &mut Bytes) -> Result<(), NoMemory>
         ensures shows { (state : State) → BookStandsFor self.old state
             → OnOk result (out.new ≡ out.old ++ flat_map (published state) (range_with_len 0 (units_in state))) }
     {
@@ -150,16 +140,6 @@ impl ReplayBook {
         self.end_devices()?;
         self.close_sessions();
         self.close_lines(out)?;
-        self.publish(out)
-    }
-
-    /// What happens at a script's end, and what it writes.
-    pub fn end(&mut self, out: &mut Bytes) -> Result<(), NoMemory>
-        ensures writes { (state : State) → BookStandsFor self.old state → OnOk result (out.new ≡ out.old ++ written_at_end state) }
-    {
-        self.end_devices()?;
-        self.close_sessions();
-        self.drain(out)?;
         self.publish(out)
     }
 }

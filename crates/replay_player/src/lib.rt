@@ -7,6 +7,7 @@ mod event_step;
 mod player;
 mod playing;
 mod replay_book;
+mod script_end;
 mod segments;
 mod sessions;
 
@@ -14,3 +15,4 @@ pub use declarations::Declarations;
 pub use event_step::EventStep;
 pub use player::Player;
 pub use replay_book::ReplayBook;
+pub use script_end::ScriptEnd;

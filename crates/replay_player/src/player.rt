@@ -1,8 +1,9 @@
 //! Any event of a script.
 
-ghost use Rattle.std.specs.Prelude.{◌≡◌, ◌≤◌, ◌++◌, OnOk, List, [], replicate};
+ghost use Rattle.std.specs.Prelude.{◌≡◌, ◌≤◌, ◌++◌, IfOk, OnOk, List, [], replicate};
 ghost use Rattle.replay_script.specs.Events.{Fits};
 ghost use Rattle.replay_player.specs.Effects.{effect};
+ghost use Rattle.replay_player.specs.Ending.{Leaves};
 ghost use Rattle.replay_player.specs.Ends.{closings_at_end, written_at_end};
 ghost use Rattle.replay_player.specs.Players.{LinePlayed, PlayerStandsFor};
 ghost use Rattle.replay_player.specs.Playing.{BookStandsFor, declared_state};
@@ -11,6 +12,7 @@ ghost use Rattle.replay_player.specs.States.{State, new_state};
 use crate::declarations::Declarations;
 use crate::event_step::EventStep;
 use crate::replay_book::ReplayBook;
+use crate::script_end::ScriptEnd;
 use gps_fixed::{Bytes, NoMemory};
 use replay_script::ScriptEvent;
 use std::alloc::Global;
@@ -102,14 +104,14 @@ impl Player {
         }
     }
 
-    /// Does what happens at a script's end, and adds what it writes.
-    pub fn finish(self, out: &mut Bytes) -> Result<(), NoMemory>
+    /// Ends the script: no event may follow.
+    pub fn end(self) -> Result<ScriptEnd, NoMemory>
         requires known { (state : State) × PlayerStandsFor self state }
-        ensures writes { (state : State) → PlayerStandsFor self state → OnOk result (out.new ≡ out.old ++ written_at_end state) }
+        ensures leaves { (state : State) → PlayerStandsFor self state → IfOk result (λ end. Leaves end (written_at_end state)) }
     {
         match self {
-            Player::Declaring(declarations) => finish_first(declarations, out),
-            Player::Playing(stage) => finish_on(stage, out),
+            Player::Declaring(declarations) => end_first(declarations),
+            Player::Playing(stage) => ScriptEnd::of(stage),
         }
     }
 }
@@ -142,17 +144,10 @@ fn close_first(declarations: Declarations, out: &mut Bytes) -> Result<(), NoMemo
     close_on(stage, out)
 }
 
-/// On a stage.
-fn finish_on(mut stage: ReplayBook, out: &mut Bytes) -> Result<(), NoMemory>
-    ensures { (state : State) → BookStandsFor stage state → OnOk result (out.new ≡ out.old ++ written_at_end state) }
-{
-    stage.end(out)
-}
-
 /// Where no event came, on the stage of the declarations.
-fn finish_first(declarations: Declarations, out: &mut Bytes) -> Result<(), NoMemory>
-    ensures { OnOk result (out.new ≡ out.old ++ written_at_end (declared_state declarations.names declarations.firsts)) }
+fn end_first(declarations: Declarations) -> Result<ScriptEnd, NoMemory>
+    ensures { IfOk result (λ end. Leaves end (written_at_end (declared_state declarations.names declarations.firsts))) }
 {
     let stage = declarations.begin()?;
-    finish_on(stage, out)
+    ScriptEnd::of(stage)
 }

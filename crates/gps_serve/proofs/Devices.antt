@@ -19,7 +19,7 @@ use Rattle.serve_end_settling.specs.Lanes.{AreEnds, Settles, SettlesSome, tx_of}
 use Rattle.serve_end_settling.proofs.Endings.{devices_tell_last, edges_tell_last}
 use Rattle.gps_serve.specs.declared.starts.DeviceStart.{DeviceStart}
 use Rattle.gps_serve.specs.declared.starts.EdgeStart.{EdgeStart}
-use Rattle.gps_serve.specs.AtEnd.{BytesServed, DeviceServed, EdgesServed}
+use Rattle.gps_serve.specs.Served.{BytesServed, DeviceServed, EdgesServed}
 use Rattle.serve_end_settling.specs.Runs.{EdgesRan, SourceFacts}
 use Rattle.gps_serve.specs.Runs.{DeviceReady, DevicesRan, DevicesSoFar, RanOn}
 use Rattle.gps_serve.specs.Starts.{IsFreshDevice, IsFreshEdge, edge_start_of}

@@ -11,8 +11,6 @@ use Rattle.report_book.specs.BookView.{BookView}
 use Rattle.world_opening.specs.Opening.{dial_of}
 use Rattle.serve_end_parts.specs.declared.plan.Plan.{Plan}
 use Rattle.serve_end_parts.specs.declared.done.DeviceDone.{DeviceDone}
-use Rattle.serve_end_parts.specs.declared.done.MonitorDone.{MonitorDone}
-use Rattle.serve_end_parts.specs.declared.done.SessionDone.{SessionDone}
 use Rattle.serve_pieces.specs.Carried.{device_part}
 use Rattle.serve_pieces.specs.declared.piece.Ending.{Ending}
 use Rattle.serve_pieces.specs.declared.piece.Piece.{Piece}
@@ -20,7 +18,9 @@ use Rattle.serve_pieces.specs.declared.piece.Piece.TheVariants.{Bytes, Line, Inp
 use Rattle.serve_end_settling.specs.Runs.{SourceFacts}
 use Rattle.serve_workers.specs.Clocks.{MayGive}
 use Rattle.serve_workers.specs.Readings.{Each, HandsOn, IsDevicePiece}
-use Rattle.gps_serve.specs.AtEnd.{AtEnd, BytesServed, DeviceServed, GateFacts, SinkFacts, DaemonSettings, settings_in, settings_of}
+use Rattle.gps_serve.specs.AtEnd.{AtEnd, DaemonSettings, HandedBack, settings_in, settings_of, start_with}
+use Rattle.gps_serve.specs.Facts.{WorldFacts}
+use Rattle.gps_serve.specs.Served.{BytesServed, DeviceServed}
 use Rattle.gps_serve.specs.Doors.{NoneLeft, Way}
 
 untold_pieces : (may : Option (List Moment)) (pieces : List Piece) → Each (IsDevicePiece may) pieces → Each (IsDevicePiece None) pieces
@@ -61,10 +61,9 @@ untold_devices may facts (x ∷ inlets) (d ∷ devices) served = (
   untold_devices may facts inlets devices served.1,
 )
 
-module _ {G S K R : Type 0} (told : DaemonSettings) (sources : SourceFacts S) (sinks : SinkFacts K) (gates : GateFacts G S K) (full : ℕ) (lacks : Bool) (b : BookView)
-    (devices : List (DeviceDone S R)) (sessions : List (SessionDone S K R)) (monitors : List MonitorDone) (gate : Option G) where
-  untold : (may : Option (List Moment)) (links : Option (List (Way S K))) → AtEnd told may sources sinks gates links full lacks b devices sessions monitors gate
-      → AtEnd told None sources sinks gates links full lacks b devices sessions monitors gate
+module _ {G S K R : Type 0} (told : DaemonSettings) (facts : WorldFacts G S K) (back : HandedBack G S K R) (b : BookView) where
+  untold : (may : Option (List Moment)) (links : Option (List (Way S K))) → AtEnd (start_with told may links) facts back b
+      → AtEnd (start_with told None links) facts back b
   untold may links at = record {
     names = at.names;
     limit = at.limit;
@@ -72,7 +71,7 @@ module _ {G S K R : Type 0} (told : DaemonSettings) (sources : SourceFacts S) (s
     inlets = at.inlets;
     done = at.done;
     hub = at.hub;
-    devices_are = untold_devices may sources at.inlets devices at.devices_are;
+    devices_are = untold_devices may facts.sources at.inlets back.devices at.devices_are;
     inputs_are = at.inputs_are;
     outlets_are = at.outlets_are;
     numbers = at.numbers;
@@ -88,20 +87,19 @@ module _ {G S K R : Type 0} (told : DaemonSettings) (sources : SourceFacts S) (s
 
   -- the clock tells what the world told of it
   pub as_told : (links : Option (List (Way S K))) (stamps shown : Option Dial) → Tells stamps shown
-      → AtEnd told (dial_of shown) sources sinks gates links full lacks b devices sessions monitors gate
-      → AtEnd told (dial_of stamps) sources sinks gates links full lacks b devices sessions monitors gate
+      → AtEnd (start_with told (dial_of shown) links) facts back b → AtEnd (start_with told (dial_of stamps) links) facts back b
   as_told links None shown tells at = untold (dial_of shown) links at
   as_told links (Some dial) shown tells at =
-      subst (λ (s : Option Dial). AtEnd told (dial_of s) sources sinks gates links full lacks b devices sessions monitors gate) tells at
+      subst (λ (s : Option Dial). AtEnd (start_with told (dial_of s) links) facts back b) tells at
 
   untold_asked : (links : Option (List (Way S K))) (taken : List (Way S K)) (g : G)
-      → (0 < length taken) ⊎ (0 < gates.quiets g) ⊎ (0 < gates.faults g) ⊎ NoneLeft links (gates.links g)
-      → (0 < length taken) ⊎ (0 < gates.quiets g) ⊎ (0 < gates.faults g) ⊎ NoneLeft None (gates.links g)
+      → (0 < length taken) ⊎ (0 < facts.gates.quiets g) ⊎ (0 < facts.gates.faults g) ⊎ NoneLeft links (facts.gates.links g)
+      → (0 < length taken) ⊎ (0 < facts.gates.quiets g) ⊎ (0 < facts.gates.faults g) ⊎ NoneLeft None (facts.gates.links g)
   untold_asked links taken g was =
       elim was [ inl some ↦ inl some | inr (inl quiet) ↦ inr (inl quiet) | inr (inr (inl fault)) ↦ inr (inr (inl fault)) | inr (inr (inr none)) ↦ inr (inr (inr tt)) ]
 
-  untold_links : (may : Option (List Moment)) (links : Option (List (Way S K))) → AtEnd told may sources sinks gates links full lacks b devices sessions monitors gate
-      → AtEnd told may sources sinks gates None full lacks b devices sessions monitors gate
+  untold_links : (may : Option (List Moment)) (links : Option (List (Way S K))) → AtEnd (start_with told may links) facts back b
+      → AtEnd (start_with told may None) facts back b
   untold_links may links at = record {
     names = at.names;
     limit = at.limit;
@@ -134,11 +132,10 @@ module _ {G S K R : Type 0} (told : DaemonSettings) (sources : SourceFacts S) (s
 
   -- the door tells what the world told of it
   pub as_linked : (may : Option (List Moment)) (links shown : Option (List (Way S K))) → Tells links shown
-      → AtEnd told may sources sinks gates shown full lacks b devices sessions monitors gate
-      → AtEnd told may sources sinks gates links full lacks b devices sessions monitors gate
+      → AtEnd (start_with told may shown) facts back b → AtEnd (start_with told may links) facts back b
   as_linked may None shown tells at = untold_links may shown at
   as_linked may (Some links) shown tells at =
-      subst (λ (l : Option (List (Way S K))). AtEnd told may sources sinks gates l full lacks b devices sessions monitors gate) tells at
+      subst (λ (l : Option (List (Way S K))). AtEnd (start_with told may l) facts back b) tells at
 
 gives : (stamps : Option Dial) → MayGive (dial_of stamps) stamps
 gives None = tt
@@ -158,13 +155,12 @@ same_told b first plan names limit =
     ap (λ n. told n b.log.limit plan.wait plan.queue plan.tries) names ∙ ap (λ l. told plan.names l plan.wait plan.queue plan.tries) limit
 
 -- of a book that was made for the plan
-pub told_again : {G S K R : Type 0} (sources : SourceFacts S) (sinks : SinkFacts K) (gates : GateFacts G S K) (full : ℕ) (lacks : Bool) (book : Option BookView)
-    (devices : List (DeviceDone S R)) (sessions : List (SessionDone S K R)) (monitors : List MonitorDone) (gate : Option G) (b : BookView) (first : List InletsView) (plan : Plan)
+pub told_again : {G S K R : Type 0} (facts : WorldFacts G S K) (back : HandedBack G S K R) (book : Option BookView) (b : BookView) (first : List InletsView) (plan : Plan)
     (stamps shown : Option Dial) (links linked : Option (List (Way S K))) → b.names ≡ plan.names → b.log.limit ≡ plan.limit → Tells stamps shown → Tells links linked
-    → IfSome book (λ x. AtEnd (settings_of (terms_of b first plan.wait) plan.queue plan.tries) (dial_of shown) sources sinks gates linked full lacks x devices sessions monitors gate)
-    → IfSome book (λ x. AtEnd (settings_in plan) (dial_of stamps) sources sinks gates links full lacks x devices sessions monitors gate)
-told_again sources sinks gates full lacks None devices sessions monitors gate b first plan stamps shown links linked names limit tells tells' so = tt
-told_again sources sinks gates full lacks (Some x) devices sessions monitors gate b first plan stamps shown links linked names limit tells tells' so =
-    as_linked (settings_in plan) sources sinks gates full lacks x devices sessions monitors gate (dial_of stamps) links linked tells'
-    (as_told (settings_in plan) sources sinks gates full lacks x devices sessions monitors gate linked stamps shown tells
-    (subst (λ (t : DaemonSettings). AtEnd t (dial_of shown) sources sinks gates linked full lacks x devices sessions monitors gate) (same_told b first plan names limit) so))
+    → IfSome book (AtEnd (start_with (settings_of (terms_of b first plan.wait) plan.queue plan.tries) (dial_of shown) linked) facts back)
+    → IfSome book (AtEnd (start_with (settings_in plan) (dial_of stamps) links) facts back)
+told_again facts back None b first plan stamps shown links linked names limit tells tells' so = tt
+told_again facts back (Some x) b first plan stamps shown links linked names limit tells tells' so =
+    as_linked (settings_in plan) facts back x (dial_of stamps) links linked tells'
+    (as_told (settings_in plan) facts back x linked stamps shown tells
+    (subst (λ (t : DaemonSettings). AtEnd (start_with t (dial_of shown) linked) facts back x) (same_told b first plan names limit) so))

@@ -24,7 +24,9 @@ use Rattle.serve_threads.specs.declared.monitors.MonitorStart.{MonitorStart}
 use Rattle.serve_threads.specs.Segments.{segments_of}
 use Rattle.gps_serve.specs.declared.starts.DeviceStart.{DeviceStart}
 use Rattle.serve_threads.specs.declared.session.SessionLink.{SessionLink}
-use Rattle.gps_serve.specs.AtEnd.{AtEnd, DeviceServed, GateFacts, GateServed, MonitorServed, SinkFacts, settings_of, watched_units}
+use Rattle.gps_serve.specs.AtEnd.{AtEnd, HandedBack, settings_of, start_with}
+use Rattle.gps_serve.specs.Facts.{WorldFacts}
+use Rattle.gps_serve.specs.Served.{DeviceServed, GateServed, MonitorServed, watched_units}
 use Rattle.gps_serve.specs.Doors.{Way, lanes_of}
 use Rattle.gps_serve.specs.Readies.{AllServed, MonitorReady}
 use Rattle.gps_serve.specs.Runs.{DeviceReady, DevicesRan, RanOn}
@@ -90,46 +92,45 @@ segments_of_units [] = refl
 segments_of_units (u ∷ units) = ap suc (segments_of_units units)
 
 -- the headline, of the parts as they are handed back
-pub at_end_of : {G S K R : Type 0} (terms : Terms) (queue tries : ℕ) (may : Option (List Moment)) (sources : SourceFacts S) (sinks : SinkFacts K) (gates : GateFacts G S K)
-    (links : Option (List (Way S K))) (full : ℕ) (no_memory lacks : Bool) (seat : Admissions) (ways : List (SessionLink S K R)) (gate : G)
-    (b b' b'' : BookView) (inlets : List InletsView) (inputs : List (Taking Piece)) (ends : List (Option DeviceEnd)) (devices : List (DeviceDone S R))
-    (sessions : List (SessionDone S K R)) (monitors : List MonitorDone)
+pub at_end_of : {G S K R : Type 0} (terms : Terms) (queue tries : ℕ) (may : Option (List Moment)) (links : Option (List (Way S K))) (facts : WorldFacts G S K)
+    (back : HandedBack G S K R) (no_memory : Bool) (seat : Admissions) (ways : List (SessionLink S K R)) (gate : G)
+    (b b' b'' : BookView) (inlets : List InletsView) (inputs : List (Taking Piece)) (ends : List (Option DeviceEnd))
     → terms_of b inlets terms.wait ≡ terms
     → DaemonHub (record { book = b; inlets = inlets; ends = ends; inputs = inputs; done = seat.done; wait = terms.wait })
     → AreAdmitted seat.links b.sessions inputs → map (lanes_of queue) ways ≡ seat.links
     → All IsUnit b.units → AreAtRest (length terms.segments) b.units → CountFromZero terms.segments → All IsClosed b.sessions → All HasStopped ends
-    → AllZip (DeviceServed may sources) inlets devices → map (λ (d : DeviceDone S R). d.end) devices ≡ ends
-    → b' ≡ b → AllServed sources sinks b.sessions inputs sessions
-    → b'' ≡ b' → AllZip (MonitorServed tries no_memory) (watched_units tries b'.units) monitors
-    → map (λ (m : MonitorDone). m.unit) monitors ≡ range_with_len 0 (length monitors) → (lacks ≡ false → no_memory ≡ false)
-    → GateServed sources sinks gates links full lacks seat.done sessions gate
-    → AtEnd (settings_of terms queue tries) may sources sinks gates links full lacks b'' devices sessions monitors (Some gate)
-at_end_of {G} {S} {K} {R} terms queue tries may sources sinks gates links full no_memory lacks seat ways gate b b' b'' inlets inputs ends devices sessions monitors same hub admitted lanes keeps
-    rests zeros closed stopped served ends_are is sessions_are is' monitors_are numbers so door =
+    → AllZip (DeviceServed may facts.sources) inlets back.devices → map (λ (d : DeviceDone S R). d.end) back.devices ≡ ends
+    → b' ≡ b → AllServed facts.sources facts.sinks b.sessions inputs back.sessions
+    → b'' ≡ b' → AllZip (MonitorServed tries no_memory) (watched_units tries b'.units) back.monitors
+    → map (λ (m : MonitorDone). m.unit) back.monitors ≡ range_with_len 0 (length back.monitors) → (back.no_memory ≡ false → no_memory ≡ false)
+    → back.gate ≡ Some gate → GateServed facts links back.full back.no_memory seat.done back.sessions gate
+    → AtEnd (start_with (settings_of terms queue tries) may links) facts back b''
+at_end_of {G} {S} {K} {R} terms queue tries may links facts back no_memory seat ways gate b b' b'' inlets inputs ends same hub admitted lanes keeps
+    rests zeros closed stopped served ends_are is sessions_are is' monitors_are numbers so gate_is door =
     let segments : map segment_of b.units ≡ terms.segments = ap (λ (t : Terms). t.segments) same in
-    subst (λ x. AtEnd (settings_of terms queue tries) may sources sinks gates links full lacks x devices sessions monitors (Some gate)) (sym (is' ∙ is)) (
+    subst (λ (x : BookView). AtEnd (start_with (settings_of terms queue tries) may links) facts back x) (sym (is' ∙ is)) (
     record {
       names = ap (λ (t : Terms). t.names) same;
       limit = ap (λ (t : Terms). t.limit) same;
       queue = of_queue queue seat ways b.sessions inputs lanes admitted;
       inlets = inlets;
       done = seat.done;
-      hub = hub_returned sources b inlets (map (λ (d : DeviceDone S R). d.end) devices) inputs seat.done terms.wait sessions closed sessions_are.inputs_are
+      hub = hub_returned facts.sources b inlets (map (λ (d : DeviceDone S R). d.end) back.devices) inputs seat.done terms.wait back.sessions closed sessions_are.inputs_are
           (subst (λ (e : List (Option DeviceEnd)). DaemonHub (record { book = b; inlets = inlets; ends = e; inputs = inputs; done = seat.done; wait = terms.wait })) (sym ends_are) hub);
       devices_are = served;
-      inputs_are = all_read sources inputs sessions sessions_are.inputs_are;
+      inputs_are = all_read facts.sources inputs back.sessions sessions_are.inputs_are;
       outlets_are = sessions_are.outlets_are;
       numbers = sessions_are.numbers;
-      stopped = each_end HasStopped devices ends ends_are stopped;
+      stopped = each_end HasStopped back.devices ends ends_are stopped;
       closed = closed;
       units = all_served b.units (length terms.segments) keeps rests
           (let count : length terms.segments ≡ length b.units = ap length (sym segments) ∙ segments_of_units b.units in omega (arith, count))
           (subst CountFromZero (sym segments) zeros);
       monitor_numbers = numbers;
-      monitors_are = served_still tries no_memory lacks (watched_units tries b.units) monitors so
-          (subst (λ (x : BookView). AllZip (MonitorServed tries no_memory) (watched_units tries x.units) monitors) is monitors_are);
+      monitors_are = served_still tries no_memory back.no_memory (watched_units tries b.units) back.monitors so
+          (subst (λ (x : BookView). AllZip (MonitorServed tries no_memory) (watched_units tries x.units) back.monitors) is monitors_are);
       gate = gate;
-      gate_is = refl;
+      gate_is = gate_is;
       door = door;
     }
     )

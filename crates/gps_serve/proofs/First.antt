@@ -125,3 +125,20 @@ first_of may facts devices false status three untold whole lost = absurd (none_l
 pub no_devices : {S R : Type 0} (devices : List (DeviceDone S R)) (status : ℕ) → devices ≡ [] → SomeFailed WasLostByFault devices → status ≡ 3
 no_devices [] status none lost = absurd lost
 no_devices (device ∷ devices) status none lost = absurd (cc)
+
+-- of each of them, by its number
+all_of_each : {X : Type 0} (P : X → Type 0) (xs : List X) → EachRun P xs → All P xs
+all_of_each P [] each k x there = absurd (omega arith)
+all_of_each P (y ∷ xs) each zero x there = each.0
+all_of_each P (y ∷ xs) each (suc k) x there = all_of_each P xs each.1 k x (omega (arith, there))
+
+-- the status is 3, or no lane tells of a failed source
+pub three_or_untold : {S R : Type 0} (devices : List (DeviceDone S R)) (failed : Bool) (status : ℕ) → (failed ≡ true → status ≡ 3)
+    → (failed ≡ false → EachRun TellsNoFault devices) → (status ≡ 3) ⊎ All TellsNoFault devices
+three_or_untold devices true status three untold = inl (three refl)
+three_or_untold devices false status three untold = inr (all_of_each TellsNoFault devices (untold refl))
+
+-- where no device is there, none tells of one
+pub none_tell : {S R : Type 0} (devices : List (DeviceDone S R)) (status : ℕ) → devices ≡ [] → (status ≡ 3) ⊎ All TellsNoFault devices
+none_tell [] status none = inr (λ k d there. absurd (omega (arith, there)))
+none_tell (device ∷ devices) status none = absurd (cc)

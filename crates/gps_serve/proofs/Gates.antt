@@ -10,11 +10,12 @@ use Rattle.report_book.specs.BookView.{BookView}
 use Rattle.serve_end_parts.specs.declared.done.DeviceDone.{DeviceDone}
 use Rattle.serve_end_parts.specs.declared.done.SessionDone.{SessionDone}
 use Rattle.serve_pieces.specs.declared.piece.Piece.{Piece}
-use Rattle.serve_end_settling.specs.Runs.{SourceFacts}
 use Rattle.serve_threads.specs.declared.session.SessionLink.{SessionLink}
 use Rattle.serve_threads.specs.declared.session.LinkDone.{LinkDone}
 use Rattle.serve_threads.specs.Sessions.{SessionRuns}
-use Rattle.gps_serve.specs.AtEnd.{AreOfQueue, GateFacts, GateServed, ServesLink, SinkFacts}
+use Rattle.gps_serve.specs.AtEnd.{AreOfQueue}
+use Rattle.gps_serve.specs.Facts.{WorldFacts}
+use Rattle.gps_serve.specs.Served.{GateServed, ServesLink}
 use Rattle.gps_serve.specs.Doors.{DoorNow, IsNewLink, Tended, Way, door_now, lanes_of, way_of}
 use Rattle.gps_serve.specs.Lost.{IsNotCut, IsNotLost, NoneLost}
 use Rattle.gps_serve.specs.Readies.{IsLeftOfLink}
@@ -25,14 +26,16 @@ map_length : {A B : Type 0} (f : A → B) (xs : List A) → length (map f xs) �
 map_length f [] = refl
 map_length f (x ∷ xs) = let same = map_length f xs in omega (arith, same)
 
-pub gate_served : {G S K R : Type 0} (sources : SourceFacts S) (sinks : SinkFacts K) (gates : GateFacts G S K) (queue : ℕ) (told : Option (List (Way S K))) (gate : G) (full : ℕ)
+pub gate_served : {G S K R : Type 0} (facts : WorldFacts G S K) (queue : ℕ) (told : Option (List (Way S K))) (gate : G) (full : ℕ)
     (no_memory lacks : Bool) (seat : Admissions) (runs : List (LinkDone S K R)) (sessions : List (SessionDone S K R))
-    → Tended (IsNewLink sources.content sources.faults sources.quiets sinks.written sinks.faults)
-    (SessionRuns sources.content sources.faults sources.quiets sinks.written sinks.faults) queue told
-    (door_now (gates.links gate) (gates.faults gate) (gates.quiets gate) full no_memory) seat runs
-    → AllZip (IsLeftOfLink sources sinks) runs sessions → (lacks ≡ false → no_memory ≡ false)
-    → GateServed sources sinks gates told full lacks seat.done sessions gate
-gate_served {G} {S} {K} {R} sources sinks gates queue told gate full no_memory lacks seat runs sessions tended are so =
+    → Tended (IsNewLink facts.sources.content facts.sources.faults facts.sources.quiets facts.sinks.written facts.sinks.faults)
+    (SessionRuns facts.sources.content facts.sources.faults facts.sources.quiets facts.sinks.written facts.sinks.faults) queue told
+    (door_now (facts.gates.links gate) (facts.gates.faults gate) (facts.gates.quiets gate) full no_memory) seat runs
+    → AllZip (IsLeftOfLink facts.sources facts.sinks) runs sessions → (lacks ≡ false → no_memory ≡ false)
+    → GateServed facts told full lacks seat.done sessions gate
+gate_served {G} {S} {K} {R} facts queue told gate full no_memory lacks seat runs sessions tended are so =
+    let sources = facts.sources in
+    let sinks = facts.sinks in
     let ran = zip_length (SessionRuns sources.content sources.faults sources.quiets sinks.written sinks.faults) tended.links runs tended.ran in
     let left = zip_length (IsLeftOfLink sources sinks) runs sessions are in
     let ways = map_length way_of tended.links in

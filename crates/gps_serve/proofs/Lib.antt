@@ -18,3 +18,4 @@ pub mod Lost
 pub mod Released
 pub mod First
 pub mod Logged
+pub mod HadMemory

@@ -22,7 +22,8 @@ use Rattle.serve_pieces.specs.declared.piece.Ending.TheVariants.{End}
 use Rattle.serve_pieces.specs.declared.piece.Piece.{Piece}
 use Rattle.serve_pieces.specs.declared.piece.Piece.TheVariants.{Bytes, Line, Input, Last}
 use Rattle.serve_workers.specs.Readings.{Took, last_piece}
-use Rattle.gps_serve.specs.AtEnd.{BytesHeld, DeviceServed, GateFacts, IsFirstOf, LaneServed, SinkFacts, SourceHeld}
+use Rattle.gps_serve.specs.Facts.{WorldFacts}
+use Rattle.gps_serve.specs.Served.{BytesHeld, DeviceServed, IsFirstOf, LaneServed, SourceHeld}
 use Rattle.gps_serve.specs.Logged.{AreModelled, EndedAreLogged, IsLogged, logged_bytes}
 use Rattle.gps_serve.specs.Whole.{CameWhole}
 use Rattle.gps_serve.proofs.Whole.{TellEnds, both_end, device_whole, tell_ends}
@@ -152,9 +153,11 @@ module _ {S R : Type 0} (may : Option (List Moment)) (facts : SourceFacts S) (lo
   logged_some [] (device ∷ devices) served fits d done there ended = absurd served
   logged_some (x ∷ inlets) (device ∷ devices) served fits d done there ended = logged_at (x ∷ inlets) (device ∷ devices) served fits d x done there ended
 
-pub ended_are_logged : {G S K : Type 0} (R : Type 0) (sources : SourceFacts S) (sinks : SinkFacts K) (gates : GateFacts G S K)
-    → EndedAreLogged R sources sinks gates
-ended_are_logged {G} {S} {K} R sources sinks gates told may links full no_memory book devices sessions monitors gate behind places ends held_at =
+pub ended_are_logged : {G S K : Type 0} (R : Type 0) (facts : WorldFacts G S K) → EndedAreLogged R facts
+ended_are_logged {G} {S} {K} R facts start back book behind places ends held_at =
+    let sources = facts.sources in
+    let devices = back.devices in
+    let may = start.may in
     let hub = ends.hub.1 in
     let log : List Entry = ends.hub.0 ++ book.log.log in
     let count : length ends.inlets ≡ length book.names = hub.count in

@@ -20,13 +20,13 @@ is_true false e = absurd (cc)
 -- where nothing of these was met, none of them was, and all was whole
 module _ (before lost cut threads whole by_book met since all : Bool) where
   pub none_met : by_book ≡ (lost || cut) → met ≡ (by_book || threads) → since ≡ (met || not whole) → all ≡ (before || since) → all ≡ false
-      → (before ≡ false) × (lost ≡ false) × (cut ≡ false) × (whole ≡ true)
+      → (before ≡ false) × (lost ≡ false) × (cut ≡ false) × (whole ≡ true) × (threads ≡ false)
   none_met book_is met_is since_is all_is e =
       let outer = neither before since (sym all_is ∙ e) in
       let inner = neither met (not whole) (sym since_is ∙ outer.1) in
       let both = neither by_book threads (sym met_is ∙ inner.0) in
       let each = neither lost cut (sym book_is ∙ both.0) in
-      (outer.0, each.0, each.1, is_true whole inner.1)
+      (outer.0, each.0, each.1, is_true whole inner.1, both.1)
 
 pub none_lost : (ends : List (Option DeviceEnd)) → list_any is_lost ends ≡ false → All IsNotLost ends
 none_lost [] none k d there lost = absurd (omega arith)

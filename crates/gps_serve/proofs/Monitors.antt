@@ -17,7 +17,7 @@ use Rattle.shm_monitor.specs.MonitorView.{MonitorView}
 use Rattle.shm_segment.specs.declared.view.Load.{Load}
 use Rattle.shm_segment.specs.declared.view.Numbered.{Numbered}
 use Rattle.shm_segment.specs.Seats.{SegmentId}
-use Rattle.gps_serve.specs.AtEnd.{MonitorServed, watched_units}
+use Rattle.gps_serve.specs.Served.{MonitorServed, watched_units}
 use Rattle.gps_serve.specs.Readies.{IsNextMonitor, MonitorReady, MonitorsSoFar}
 use Rattle.gps_serve.specs.Statuses.{EachWhole}
 use Rattle.gps_serve.specs.Works.{WatchedBy, monitored}

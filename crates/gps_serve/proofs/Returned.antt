@@ -19,7 +19,7 @@ use Rattle.serve_end_settling.specs.Lanes.{OneMoreAtMost}
 use Rattle.serve_end_settling.specs.Runs.{SourceFacts}
 use Rattle.session_runs.specs.Accounts.{Account}
 use Rattle.session_runs.proofs.Accounting.{closed_hears}
-use Rattle.gps_serve.specs.AtEnd.{InputServed}
+use Rattle.gps_serve.specs.Served.{InputServed}
 use Rattle.gps_serve.specs.Readies.{InputLeft}
 
 fits_still : (names : List (List ℕ)) (before log : List Entry) (a : MemberView) (x y : Taking Piece) → IsClosed a → OneMoreAtMost x y → SessionFits names before log a x

@@ -24,7 +24,8 @@ use Rattle.serve_threads.specs.Sessions.{SessionRuns, Wrote}
 use Rattle.serve_workers.specs.Readings.{HandsOn, IsInputPiece, WasRead}
 use Rattle.serve_workers.specs.Writing.{Writes}
 use Rattle.session_core.specs.Naming.{of_table}
-use Rattle.gps_serve.specs.AtEnd.{OutletServed, SinkFacts}
+use Rattle.gps_serve.specs.Facts.{SinkFacts}
+use Rattle.gps_serve.specs.Served.{OutletServed}
 use Rattle.gps_serve.specs.Doors.{DoorNow, EachLink, IsNewLink, IsUnused, Tended, Way, lanes_of}
 use Rattle.gps_serve.specs.Readies.{AllServed, AreReady, InputLeft, IsNext, SessionReady, SessionsSoFar}
 use Rattle.serve_end_settling.specs.Runs.{SourceFacts}

@@ -35,7 +35,8 @@ use Rattle.serve_workers.specs.Readings.{IsDevicePiece, IsInputPiece, TakesMore,
 use Rattle.serve_workers.specs.Writing.{Writes}
 use Rattle.gps_serve.specs.declared.starts.DeviceStart.{DeviceStart}
 use Rattle.gps_serve.specs.declared.starts.EdgeStart.{EdgeStart}
-use Rattle.gps_serve.specs.AtEnd.{BytesHeld, EdgesHeld, IsFirstOf, ServesLink, SinkFacts, SourceHeld, TakesFirst}
+use Rattle.gps_serve.specs.Facts.{SinkFacts}
+use Rattle.gps_serve.specs.Served.{BytesHeld, EdgesHeld, IsFirstOf, ServesLink, SourceHeld, TakesFirst}
 use Rattle.gps_serve.specs.Doors.{EachLink, IsUnused, way_of}
 use Rattle.gps_serve.specs.Readies.{IsLeftOfLink}
 use Rattle.gps_serve.specs.Runs.{DeviceReads, EdgesRead, IsLeftOf, RanOn, TakesBy}

@@ -15,9 +15,7 @@ use Rattle.hub_promise.specs.Given.{edge_ending, end_by, end_of, ending_of, got_
 use Rattle.hub_promise.specs.Parts.{InletsView}
 use Rattle.report_book.specs.BookView.{BookView}
 use Rattle.serve_end_parts.specs.declared.done.DeviceDone.{DeviceDone}
-use Rattle.serve_end_parts.specs.declared.done.MonitorDone.{MonitorDone}
-use Rattle.serve_end_parts.specs.declared.done.SessionDone.{SessionDone}
-use Rattle.serve_pieces.specs.Carried.{device_part}
+use Rattle.serve_pieces.specs.Carried.{device_part, input_part}
 use Rattle.serve_pieces.specs.declared.piece.Ending.{Ending}
 use Rattle.serve_pieces.specs.declared.piece.Ending.TheVariants.{End, Failed, NoMemory}
 use Rattle.serve_pieces.specs.declared.piece.Piece.{Piece}
@@ -26,9 +24,10 @@ use Rattle.serve_end_settling.specs.Lanes.{TellsLast}
 use Rattle.serve_end_settling.specs.Runs.{SourceFacts}
 use Rattle.serve_end_settling.proofs.Endings.{devices_tell_last, edges_tell_last, settled}
 use Rattle.serve_workers.specs.EdgeLines.{HandsLines, TookLines, line_pieces}
-use Rattle.serve_workers.specs.Readings.{Each, HandsOn, IsDevicePiece, Took, last_piece}
-use Rattle.gps_serve.specs.AtEnd.{AtEnd, BytesServed, DeviceServed, EdgesServed, GateFacts, LaneServed, LinesServed, SinkFacts, DaemonSettings}
-use Rattle.gps_serve.specs.Doors.{Way}
+use Rattle.serve_workers.specs.Readings.{Each, HandsOn, IsDevicePiece, IsInputPiece, Took, last_piece}
+use Rattle.gps_serve.specs.AtEnd.{AtEnd, DaemonStart, HandedBack}
+use Rattle.gps_serve.specs.Facts.{WorldFacts}
+use Rattle.gps_serve.specs.Served.{BytesServed, DeviceServed, EdgesServed, LaneServed, LinesServed}
 use Rattle.gps_serve.specs.Whole.{BytesWhole, CameWhole, EdgesWhole, IsOver, IsWhole, LeavesNone, LinesWhole}
 
 -- both lanes of a device, as the hub left them, have told how their sources ended
@@ -121,7 +120,14 @@ bytes_told may ending put put' before after hands none =
     ap ending_of (hands.puts ∙ ap (λ (l : List Piece). (l ++ hands.pieces) ++ last_piece ending) none)
     ∙ tell_last (IsDevicePiece may) hands.pieces ending (λ e p. p) hands.good
 
--- and that of its edges
+-- how the reading of a session's input ended
+pub input_told : (ending : Option Ending) (put put' : List Piece) (before after : Option Stream) → HandsOn input_part IsInputPiece ending put put' before after
+    → put ≡ [] → ending_of put' ≡ ending
+input_told ending put put' before after hands none =
+    ap ending_of (hands.puts ∙ ap (λ (l : List Piece). (l ++ hands.pieces) ++ last_piece ending) none)
+    ∙ tell_last IsInputPiece hands.pieces ending (λ e p. p) hands.good
+
+-- and that of a device's edges
 pub lines_told : (ending : Option Ending) (put put' : List Piece) (before after : Option Stream) → HandsLines ending put put' before after → put ≡ []
     → ending_of put' ≡ ending
 lines_told ending put put' before after hands none =
@@ -211,16 +217,14 @@ module _ {S R : Type 0} (may : Option (List Moment)) (facts : SourceFacts S) whe
   all_whole (x ∷ inlets) (device ∷ devices) served tell (suc k) d there =
       all_whole inlets devices served.1 (λ j y end within. tell (suc j) y end (omega arith)) k d (omega arith)
 
-pub whole_at_end : {G S K R : Type 0} (told : DaemonSettings) (may : Option (List Moment)) (sources : SourceFacts S) (sinks : SinkFacts K) (gates : GateFacts G S K)
-    (links : Option (List (Way S K))) (full : ℕ) (no_memory : Bool) (book : Option BookView) (devices : List (DeviceDone S R)) (sessions : List (SessionDone S K R))
-    (monitors : List MonitorDone) (given : Option G)
-    → IfSome book (λ b. AtEnd told may sources sinks gates links full no_memory b devices sessions monitors given) → IsSome book → All (IsWhole may sources) devices
-whole_at_end told may sources sinks gates links full no_memory None devices sessions monitors given ends some = absurd (cc)
-whole_at_end {G} {S} {K} {R} told may sources sinks gates links full no_memory (Some b) devices sessions monitors given ends some =
+pub whole_at_end : {G S K R : Type 0} (start : DaemonStart S K) (facts : WorldFacts G S K) (back : HandedBack G S K R) (book : Option BookView)
+    → IfSome book (AtEnd start facts back) → IsSome book → All (IsWhole start.may facts.sources) back.devices
+whole_at_end start facts back None ends some = absurd (cc)
+whole_at_end {G} {S} {K} {R} start facts back (Some b) ends some =
     let hub = ends.hub.1 in
     let count : length ends.inlets ≡ length b.names = hub.count in
-    all_whole may sources ends.inlets devices ends.devices_are
-    (λ k x end there. tell_ends (ends.hub.0 ++ b.log.log) k (get_or ends.inlets k x) (get_or (map (λ (d : DeviceDone S R). d.end) devices) k end)
+    all_whole start.may facts.sources ends.inlets back.devices ends.devices_are
+    (λ k x end there. tell_ends (ends.hub.0 ++ b.log.log) k (get_or ends.inlets k x) (get_or (map (λ (d : DeviceDone S R). d.end) back.devices) k end)
     (hub.devices k x end (omega (arith, there, count))))
 
 -- a device that has ended did so as both of its sources came to their ends

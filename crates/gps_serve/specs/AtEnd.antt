@@ -1,187 +1,24 @@
--- What a daemon hands back: its book, and what is left of its devices, sessions and monitors, which agree with each other.
-use Rattle.std.specs.Prelude.{◌≡◌, ◌+◌, ◌*◌, ◌^◌, ◌-◌, ◌<◌, ◌≤◌, ◌⊎◌, ℕ, Bool, true, false, List, [], ◌++◌, length, map, Option, Some, None, ◌==◌, if◌then◌else◌}
+-- What a daemon begins with, and what it hands back: its book, and what is left of its devices, sessions, monitors and door, which agree with each other.
+use Rattle.std.specs.Prelude.{◌≡◌, ℕ, Bool, List, length, map, Option, Some}
 use Rattle.std.specs.List.{All, AllZip, range_with_len}
 use Rattle.gps_fixed.specs.Moment.{Moment}
-use Rattle.gps_lane.specs.Ends.{Putting, Taking}
-use Rattle.gps_lane.specs.Lane.{BeginsWith}
-use Rattle.gps_outside.specs.Counts.{Rose}
-use Rattle.gps_outside.specs.Links.{IsUnwritten, PassLinks}
-use Rattle.gps_outside.specs.Told.{Goes, IsPrefix, Stream}
-use Rattle.gps_world.specs.declared.place.Place.{Place}
 use Rattle.book_sessions.specs.MemberView.{MemberView}
-use Rattle.book_units.specs.Units.{UnitView, segment_of}
 use Rattle.report_book.specs.BookView.{BookView}
-use Rattle.output_lines.specs.declared.closing.SessionEnd.TheVariants.{Drained, WriteFault}
-use Rattle.serve_pieces.specs.Carried.{device_part, input_part}
-use Rattle.serve_pieces.specs.declared.piece.Ending.{Ending}
-use Rattle.serve_pieces.specs.declared.piece.Ending.TheVariants.{Failed}
-use Rattle.serve_pieces.specs.declared.piece.Piece.{Piece}
-use Rattle.serve_workers.specs.EdgeLines.{HandsLines}
-use Rattle.serve_workers.specs.Readings.{HandsOn, IsDevicePiece, IsInputPiece, WasRead}
-use Rattle.serve_workers.specs.Watching.{Climbs, each_once}
-use Rattle.serve_workers.specs.Writing.{Writes}
 use Rattle.serve_end_parts.specs.declared.done.DeviceDone.{DeviceDone}
 use Rattle.serve_end_parts.specs.declared.done.SessionDone.{SessionDone}
 use Rattle.serve_end_parts.specs.declared.done.MonitorDone.{MonitorDone}
 use Rattle.serve_end_parts.specs.declared.plan.Plan.{Plan}
-use Rattle.serve_end_settling.specs.Lanes.{OneMoreAtMost}
-use Rattle.serve_end_settling.specs.Outlets.{writer_end}
-use Rattle.serve_end_settling.specs.Units.{ArePublished}
-use Rattle.session_core.specs.Naming.{of_table}
-use Rattle.hub_promise.specs.declared.ends.DeviceEnd.{DeviceEnd}
-use Rattle.hub_promise.specs.declared.ends.DeviceEnd.TheVariants.{Ended}
 use Rattle.hub_promise.specs.DaemonHub.{DaemonHub}
 use Rattle.hub_promise.specs.Keeping.{IsClosed}
-use Rattle.hub_promise.specs.Parts.{InletsView, Terms}
-use Rattle.serve_end_settling.specs.Runs.{SourceFacts}
-use Rattle.gps_serve.specs.Doors.{NoneLeft, Way}
-use Rattle.gps_serve.specs.Starts.{IsUnreadBy}
+use Rattle.hub_promise.specs.Parts.{InletsView, Parts, Terms}
+use Rattle.gps_serve.specs.Doors.{Way}
 use Rattle.gps_serve.specs.Statuses.{HasStopped}
 use Rattle.gps_serve.specs.Units.{UnitServed}
-
--- Both ends are of one lane, and what was got of it begins what was put. `x` is the lane as the hub left it; where that had not told how its source
--- ended, one more piece may be got since.
-pub record LaneServed (x : Taking Piece) (tx : Putting Piece) (rx : Taking Piece) : Type 0 where
-  pub one : rx.lane ≡ tx.lane
-  pub begins : BeginsWith rx.got tx.put
-  pub settled : OneMoreAtMost x rx
-
--- The bytes that a device's reader put, in pieces with stamps that the clock may give, are those that it took from its source, which was
--- unread before. It says that the source failed only where its faults are above 0.
-pub record BytesServed {S : Type 0} (may : Option (List Moment)) (facts : SourceFacts S) (x : Taking Piece) (tx : Putting Piece) (rx : Taking Piece) (source : S) : Type 0 where
-  pub first : S
-  pub unread : IsUnreadBy facts first
-  pub ending : Option Ending
-  pub hands : HandsOn device_part (IsDevicePiece may) ending [] tx.put (facts.content first) (facts.content source)
-  pub failed : ending ≡ Some Failed → 0 < facts.faults source
-  pub lane : LaneServed x tx rx
-
--- the same of the lines of a device's edges
-pub record LinesServed {S : Type 0} (facts : SourceFacts S) (x : Taking Piece) (tx : Putting Piece) (rx : Taking Piece) (source : S) : Type 0 where
-  pub first : S
-  pub unread : IsUnreadBy facts first
-  pub ending : Option Ending
-  pub hands : HandsLines ending [] tx.put (facts.content first) (facts.content source)
-  pub failed : ending ≡ Some Failed → 0 < facts.faults source
-  pub lane : LaneServed x tx rx
-
--- of a device that has a source of edges, and of one that has none
-abbrev pub EdgesServed : {S : Type 0} → SourceFacts S → Option (Taking Piece) → Option (Putting Piece) → Option (Taking Piece) → Option S → Type 0
-EdgesServed facts (Some x) (Some tx) (Some rx) (Some source) = LinesServed facts x tx rx source
-EdgesServed facts None None None None = Unit {0}
-EdgesServed facts (Some x) (Some tx) (Some rx) None = ⊥
-EdgesServed facts (Some x) (Some tx) None source = ⊥
-EdgesServed facts (Some x) None rx source = ⊥
-EdgesServed facts None (Some tx) rx source = ⊥
-EdgesServed facts None None (Some rx) source = ⊥
-EdgesServed facts None None None (Some source) = ⊥
-
--- what is left of a device; `x` are its lanes as the hub left them
-pub record DeviceServed {S R : Type 0} (may : Option (List Moment)) (facts : SourceFacts S) (x : InletsView) (done : DeviceDone S R) : Type 0 where
-  pub source : S
-  pub source_is : done.source ≡ Some source
-  pub bytes : BytesServed may facts x.bytes done.bytes_tx done.bytes_rx source
-  pub edges : EdgesServed facts x.edges done.edges_tx done.edges_rx done.edges
-
--- what is left of a session's input: its source, from which nothing was taken before, was read; both ends are of one lane, and what was got of it
--- begins what was put
-pub record InputServed {S K R : Type 0} (facts : SourceFacts S) (done : SessionDone S K R) : Type 0 where
-  pub first : S
-  pub unread : IsUnreadBy facts first
-  pub ending : Option Ending
-  pub hands : HandsOn input_part IsInputPiece ending [] done.input_tx.put (facts.content first) (facts.content done.source)
-  pub failed : ending ≡ Some Failed → 0 < facts.faults done.source
-  pub read : Goes (WasRead (facts.faults done.source) (facts.quiets done.source)) (facts.content first) (facts.content done.source)
-  pub one : done.input_rx.lane ≡ done.input_tx.lane
-  pub begins : BeginsWith done.input_rx.got done.input_tx.put
-
--- what a sink tells, and what it counts
-pub record SinkFacts (K : Type 0) : Type 0 where
-  pub written : K → Option (List ℕ)
-  pub faults : K → ℕ
-
-abbrev pub sink_facts : {K : Type 0} → (K → Option (List ℕ)) → (K → ℕ) → SinkFacts K
-sink_facts written faults = record { written = written; faults = faults }
-
--- What is left of a session's outlet: its receiving end, which has the name that the book knows. The items that were got of it begin those that the
--- book gave it, and are all of them where the session was drained. Their bytes were written to its sink, to which nothing was written before; all
--- of them, unless the sink failed.
-pub record OutletServed {S K R : Type 0} (facts : SinkFacts K) (a : MemberView) (done : SessionDone S K R) : Type 0 where
-  pub first : K
-  pub unwritten : IsUnwritten (facts.written first) (facts.faults first)
-  pub outlet : of_table done.items_rx.lane ≡ a.session.name
-  pub begins : BeginsWith done.items_rx.got a.session.kept
-  pub all : done.end ≡ Drained → done.items_rx.got ≡ a.session.kept
-  pub writes : Writes (writer_end done.end) [] done.items_rx.got (facts.written first) (facts.written done.sink)
-  pub failed : done.end ≡ WriteFault → Rose (facts.faults first) (facts.faults done.sink)
-
--- What is left of a unit's monitor: the pairs that it kept, each the unit's published sample of its number, with rising numbers. Where memory
--- was not wanting, these are all that it took, each number once, and it made all its readings.
-pub record MonitorServed (tries : ℕ) (no_memory : Bool) (u : UnitView) (done : MonitorDone) : Type 0 where
-  pub segment : done.monitor.segment ≡ segment_of u
-  pub published : ArePublished u done.taken.items
-  pub climbs : Climbs done.taken.items
-  pub all : no_memory ≡ false → done.taken.items ≡ each_once done.monitor.taken
-  pub loads : no_memory ≡ false → 2 * tries ≤ length done.monitor.kept
-
--- The bytes taken from a source are the first of those that it held.
-abbrev pub TakesFirst : Stream → Stream → Type 0
-TakesFirst before after = IsPrefix after.taken (before.taken ++ before.left)
-
--- what a door tells, and what it counts
-pub record GateFacts (G S K : Type 0) : Type 0 where
-  pub links : G → Option (List (Way S K))
-  pub faults : G → ℕ
-  pub quiets : G → ℕ
-
-abbrev pub gate_facts : {G S K : Type 0} → (G → Option (List (Way S K))) → (G → ℕ) → (G → ℕ) → GateFacts G S K
-gate_facts links faults quiets = record { links = links; faults = faults; quiets = quiets }
-
--- A session's source and sink are those of the link: the bytes taken from the source are the first of those of the link's, and the bytes of the items
--- that were got of the session's outlet were written behind what was written to the link's sink.
-pub record ServesLink {S K R : Type 0} (sources : SourceFacts S) (sinks : SinkFacts K) (way : Way S K) (done : SessionDone S K R) : Type 0 where
-  pub reads : Goes TakesFirst (sources.content way.0) (sources.content done.source)
-  pub writes : Writes (writer_end done.end) [] done.items_rx.got (sinks.written way.1) (sinks.written done.sink)
-  pub failed : done.end ≡ WriteFault → Rose (sinks.faults way.1) (sinks.faults done.sink)
-
--- What is left of the door. The links that were taken are the next of those that it told, and no fewer than the sessions; unless it was out of memory
--- and the count of dropped ones did not reach its greatest value, they are as many as the sessions and those that were dropped; and none was dropped
--- because too many were there before 64 were admitted. Where none was dropped, session k has the k-th. It was asked; and it is said to have closed or
--- failed only where no link is left or its faults rose.
-pub record GateServed {G S K R : Type 0} (sources : SourceFacts S) (sinks : SinkFacts K) (gates : GateFacts G S K) (told : Option (List (Way S K))) (full : ℕ) (no_memory done : Bool)
-    (sessions : List (SessionDone S K R)) (gate : G) : Type 0 where
-  pub taken : List (Way S K)
-  pub passed : Goes (PassLinks taken) told (gates.links gate)
-  pub few : length sessions ≤ length taken
-  pub count : no_memory ≡ false → full < 2 ^ 64 - 1 → length taken ≡ length sessions + full
-  pub none_early : length sessions < 64 → full ≡ 0
-  pub each : length taken ≡ length sessions → AllZip (ServesLink sources sinks) taken sessions
-  pub asked : (0 < length taken) ⊎ (0 < gates.quiets gate) ⊎ (0 < gates.faults gate) ⊎ NoneLeft told (gates.links gate)
-  pub closed : done ≡ true → NoneLeft told (gates.links gate) ⊎ (0 < gates.faults gate)
-
--- The bytes taken from a device's source are the first of those that it held. Where the device has ended, they are all of them, and nothing is left.
-pub record IsTakenOf (end : Option DeviceEnd) (held : List ℕ) (stream : Stream) : Type 0 where
-  pub first : IsPrefix stream.taken held
-  pub all : end ≡ Some Ended → stream.taken ≡ held
-  pub none_left : end ≡ Some Ended → stream.left ≡ []
-
--- the same, where the world told what the source held
-abbrev pub IsFirstOf : Option DeviceEnd → Option (List ℕ) → Option Stream → Type 0
-IsFirstOf end None content = Unit {0}
-IsFirstOf end (Some held) None = ⊥
-IsFirstOf end (Some held) (Some stream) = IsTakenOf end held stream
-
--- of the source of a device or of its edges, where it has one
-abbrev pub SourceHeld : {S : Type 0} → SourceFacts S → Option DeviceEnd → Option (List ℕ) → Option S → Type 0
-SourceHeld facts end held None = Unit {0}
-SourceHeld facts end held (Some source) = IsFirstOf end held (facts.content source)
-
-abbrev pub BytesHeld : {S R : Type 0} → (Place → Option (List ℕ)) → SourceFacts S → Place → DeviceDone S R → Type 0
-BytesHeld behind facts place done = SourceHeld facts done.end (behind place) done.source
-
-abbrev pub EdgesHeld : {S R : Type 0} → (Place → Option (List ℕ)) → SourceFacts S → Option Place → DeviceDone S R → Type 0
-EdgesHeld behind facts None done = done.edges ≡ None
-EdgesHeld behind facts (Some place) done = SourceHeld facts done.end (behind place) done.edges
+use Rattle.gps_serve.specs.Facts.{WorldFacts}
+use Rattle.serve_end_parts.specs.declared.served.Served.{Served}
+use Rattle.gps_world.specs.declared.world.World.{Ghosts as WorldGhosts}
+use Rattle.world_opening.specs.Opening.{dial_of}
+use Rattle.gps_serve.specs.Served.{DeviceServed, GateServed, InputServed, MonitorServed, OutletServed, watched_units}
 
 -- what a daemon was told to serve, but for the places
 pub record DaemonSettings : Type 0 where
@@ -197,35 +34,71 @@ settings_of terms queue tries = record { names = terms.names; limit = terms.limi
 abbrev pub settings_in : Plan → DaemonSettings
 settings_in plan = record { names = plan.names; limit = plan.limit; wait = plan.wait; queue = plan.queue; tries = plan.tries }
 
--- the units that have a monitor
-abbrev pub watched_units : ℕ → List UnitView → List UnitView
-watched_units tries units = if tries == 0 then [] else units
+-- what a daemon begins with: what it was told, the stamps that its clock may give, and the links of its door; the last two where they are told
+pub record DaemonStart (S K : Type 0) : Type 0 where
+  pub told : DaemonSettings
+  pub may : Option (List Moment)
+  pub links : Option (List (Way S K))
+
+abbrev pub start_with : {S K : Type 0} → DaemonSettings → Option (List Moment) → Option (List (Way S K)) → DaemonStart S K
+start_with told may links = record { told = told; may = may; links = links }
+
+-- the same in a world
+abbrev pub start_in : {W S K C G : Type 0} → WorldGhosts W S K C G → DaemonSettings → W → DaemonStart S K
+start_in ghosts told world = start_with told (dial_of (ghosts.stamps world)) (ghosts.links world)
+
+-- what a daemon hands back beside its book: what is left of its devices, sessions, monitors and door, how many links were dropped because too many
+-- sessions were there, and whether it was out of memory
+pub record HandedBack (G S K R : Type 0) : Type 0 where
+  pub devices : List (DeviceDone S R)
+  pub sessions : List (SessionDone S K R)
+  pub monitors : List MonitorDone
+  pub gate : Option G
+  pub full : ℕ
+  pub no_memory : Bool
+
+abbrev pub back_with : {G S K R : Type 0} → List (DeviceDone S R) → List (SessionDone S K R) → List MonitorDone → Option G → ℕ → Bool → HandedBack G S K R
+back_with devices sessions monitors gate full no_memory =
+    record { devices = devices; sessions = sessions; monitors = monitors; gate = gate; full = full; no_memory = no_memory }
+
+abbrev pub handed_back : {W R S K C G : Type 0} → Served W R S K C G → HandedBack G S K R
+handed_back served =
+    back_with served.devices.items served.sessions.items served.monitors.items served.gate served.full served.no_memory
 
 -- how many items may wait for each session
 abbrev pub AreOfQueue : ℕ → List MemberView → Type 0
 AreOfQueue queue sessions = All (λ (a : MemberView). a.session.cap ≡ queue) sessions
 
--- What the hub knows holds of the book, of the devices' lanes as the hub left them, of how each device ended, of the sessions' lanes, and of the door. By the lanes that are handed
--- back, what came into the hub is what was taken from the sources; what a session wrote begins what the book gave it. Each device has stopped, each
--- session is closed, and each unit's samples are all published, unless its count is spent.
-pub record AtEnd {G S K R : Type 0} (told : DaemonSettings) (may : Option (List Moment)) (sources : SourceFacts S) (sinks : SinkFacts K) (gates : GateFacts G S K)
-    (links : Option (List (Way S K))) (full : ℕ) (no_memory : Bool) (b : BookView) (devices : List (DeviceDone S R)) (sessions : List (SessionDone S K R))
-    (monitors : List MonitorDone) (given : Option G) : Type 0 where
-  pub names : b.names ≡ told.names
-  pub limit : b.log.limit ≡ told.limit
-  pub queue : AreOfQueue told.queue b.sessions
+-- what the hub knows of its parts, by the lanes that are handed back
+abbrev pub parts_of : {G S K R : Type 0} → BookView → List InletsView → HandedBack G S K R → Bool → ℕ → Parts
+parts_of {G} {S} {K} {R} book inlets back done wait = record {
+  book = book;
+  inlets = inlets;
+  ends = map (λ (d : DeviceDone S R). d.end) back.devices;
+  inputs = map (λ (s : SessionDone S K R). s.input_rx) back.sessions;
+  done = done;
+  wait = wait;
+}
+
+-- What the hub knows holds of the book, of the devices' lanes as the hub left them, of how each device ended, of the sessions' lanes, and of the
+-- door. By the lanes that are handed back, what came into the hub is what was taken from the sources; what a session wrote begins what the book gave
+-- it. Each device has stopped, each session is closed, and each unit's samples are all published, unless its count is spent.
+pub record AtEnd {G S K R : Type 0} (start : DaemonStart S K) (facts : WorldFacts G S K) (back : HandedBack G S K R) (book : BookView) : Type 0 where
+  pub names : book.names ≡ start.told.names
+  pub limit : book.log.limit ≡ start.told.limit
+  pub queue : AreOfQueue start.told.queue book.sessions
   pub inlets : List InletsView
   pub done : Bool
-  pub hub : DaemonHub (record { book = b; inlets = inlets; ends = map (λ (d : DeviceDone S R). d.end) devices; inputs = map (λ (s : SessionDone S K R). s.input_rx) sessions; done = done; wait = told.wait })
-  pub devices_are : AllZip (DeviceServed may sources) inlets devices
-  pub inputs_are : All (λ (s : SessionDone S K R). InputServed sources s) sessions
-  pub outlets_are : AllZip (OutletServed sinks) b.sessions sessions
-  pub numbers : map (λ (s : SessionDone S K R). s.number) sessions ≡ range_with_len 0 (length b.sessions)
-  pub stopped : All (λ (d : DeviceDone S R). HasStopped d.end) devices
-  pub closed : All IsClosed b.sessions
-  pub units : All UnitServed b.units
-  pub monitor_numbers : map (λ (m : MonitorDone). m.unit) monitors ≡ range_with_len 0 (length monitors)
-  pub monitors_are : AllZip (MonitorServed told.tries no_memory) (watched_units told.tries b.units) monitors
+  pub hub : DaemonHub (parts_of book inlets back done start.told.wait)
+  pub devices_are : AllZip (DeviceServed start.may facts.sources) inlets back.devices
+  pub inputs_are : All (λ (s : SessionDone S K R). InputServed facts.sources s) back.sessions
+  pub outlets_are : AllZip (OutletServed facts.sinks) book.sessions back.sessions
+  pub numbers : map (λ (s : SessionDone S K R). s.number) back.sessions ≡ range_with_len 0 (length book.sessions)
+  pub stopped : All (λ (d : DeviceDone S R). HasStopped d.end) back.devices
+  pub closed : All IsClosed book.sessions
+  pub units : All UnitServed book.units
+  pub monitor_numbers : map (λ (m : MonitorDone). m.unit) back.monitors ≡ range_with_len 0 (length back.monitors)
+  pub monitors_are : AllZip (MonitorServed start.told.tries back.no_memory) (watched_units start.told.tries book.units) back.monitors
   pub gate : G
-  pub gate_is : given ≡ Some gate
-  pub door : GateServed sources sinks gates links full no_memory done sessions gate
+  pub gate_is : back.gate ≡ Some gate
+  pub door : GateServed facts start.links back.full back.no_memory done back.sessions gate

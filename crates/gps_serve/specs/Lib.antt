@@ -1,3 +1,5 @@
+pub mod Facts
+pub mod Served
 pub mod AtEnd
 pub mod Doors
 pub mod Readies

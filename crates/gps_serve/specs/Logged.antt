@@ -1,7 +1,6 @@
 -- The main sentence of `serve`: what the log has of a device that has ended is what its source held.
-use Rattle.std.specs.Prelude.{◌≡◌, ◌<◌, ℕ, Bool, List, ◌++◌, length, get_or, Option, Some, IsSome}
+use Rattle.std.specs.Prelude.{◌≡◌, ◌<◌, ℕ, List, ◌++◌, length, get_or, Option, Some, IsSome}
 use Rattle.std.specs.List.{AllZip}
-use Rattle.gps_fixed.specs.Moment.{Moment}
 use Rattle.book_log.specs.Entries.{Entry, stream}
 use Rattle.book_log.specs.Standing.{StandsFor}
 use Rattle.device_core.specs.Stream.{bytes_in}
@@ -12,11 +11,10 @@ use Rattle.hub_promise.specs.declared.ends.DeviceEnd.TheVariants.{Ended}
 use Rattle.packet_cut.specs.Packets.{bytes_of}
 use Rattle.report_book.specs.BookView.{BookView}
 use Rattle.serve_end_parts.specs.declared.done.DeviceDone.{DeviceDone}
-use Rattle.serve_end_parts.specs.declared.done.MonitorDone.{MonitorDone}
-use Rattle.serve_end_parts.specs.declared.done.SessionDone.{SessionDone}
 use Rattle.serve_end_settling.specs.Runs.{SourceFacts}
-use Rattle.gps_serve.specs.AtEnd.{AtEnd, BytesHeld, DaemonSettings, GateFacts, SinkFacts}
-use Rattle.gps_serve.specs.Doors.{Way}
+use Rattle.gps_serve.specs.AtEnd.{AtEnd, DaemonStart, HandedBack}
+use Rattle.gps_serve.specs.Facts.{WorldFacts}
+use Rattle.gps_serve.specs.Served.{BytesHeld}
 use Rattle.gps_serve.specs.Starts.{IsUnreadBy}
 
 -- the log of a whole run, of which the book keeps the last part
@@ -49,11 +47,8 @@ pub record AreLogged {S R : Type 0} (facts : SourceFacts S) (behind : Place → 
       → AreModelled facts → behind (get_or places d place) ≡ Some held → logged_bytes d log ≡ held
 
 -- of all that a daemon hands back
-abbrev pub EndedAreLogged : {G S K : Type 0} → Type 0 → SourceFacts S → SinkFacts K → GateFacts G S K → Type 0
-EndedAreLogged {G} {S} {K} R sources sinks gates =
-    (told : DaemonSettings) (may : Option (List Moment)) (links : Option (List (Way S K))) (full : ℕ) (no_memory : Bool) (book : BookView)
-    (devices : List (DeviceDone S R)) (sessions : List (SessionDone S K R)) (monitors : List MonitorDone) (given : Option G)
-    (behind : Place → Option (List ℕ)) (places : List Place)
-    → AtEnd told may sources sinks gates links full no_memory book devices sessions monitors given
-    → AllZip (BytesHeld behind sources) places devices
-    → (log : List Entry) × (IsLogOf book log × AreLogged sources behind log places devices)
+abbrev pub EndedAreLogged : {G S K : Type 0} → Type 0 → WorldFacts G S K → Type 0
+EndedAreLogged {G} {S} {K} R facts =
+    (start : DaemonStart S K) (back : HandedBack G S K R) (book : BookView) (behind : Place → Option (List ℕ)) (places : List Place)
+    → AtEnd start facts back book → AllZip (BytesHeld behind facts.sources) places back.devices
+    → (log : List Entry) × (IsLogOf book log × AreLogged facts.sources behind log places back.devices)

@@ -1,11 +1,20 @@
--- Which devices were lost, and which sessions closed, because the daemon was out of memory.
-use Rattle.std.specs.Prelude.{◌≡◌, ℕ, Bool, true, false, List, Option, Some, None}
+-- Which devices were lost, which sessions closed, and which readers ended, because the daemon was out of memory.
+use Rattle.std.specs.Prelude.{◌≡◌, ◌||◌, ℕ, Bool, true, false, List, Option, Some, None}
 use Rattle.std.specs.List.{All}
 use Rattle.book_sessions.specs.MemberView.{MemberView}
+use Rattle.gps_lane.specs.Ends.{Putting}
 use Rattle.hub_promise.specs.declared.ends.DeviceEnd.{DeviceEnd}
 use Rattle.hub_promise.specs.declared.ends.DeviceEnd.TheVariants.{Ended, ReadFault, NoMemory as LostNoMemory}
+use Rattle.hub_promise.specs.Given.{ending_of}
 use Rattle.report_book.specs.BookView.{BookView}
 use Rattle.serve_end_parts.specs.declared.done.DeviceDone.{DeviceDone}
+use Rattle.serve_end_parts.specs.declared.done.SessionDone.{SessionDone}
+use Rattle.serve_end_settling.specs.declared.device.DeviceRun.{DeviceRun}
+use Rattle.serve_pieces.specs.declared.piece.Ending.{Ending}
+use Rattle.serve_pieces.specs.declared.piece.Ending.TheVariants as reading
+use Rattle.serve_pieces.specs.declared.piece.Piece.{Piece}
+use Rattle.serve_threads.specs.declared.reading.ReaderDone.{ReaderDone}
+use Rattle.serve_threads.specs.declared.session.LinkDone.{LinkDone}
 use Rattle.session_core.specs.declared.mark.Close.{Close}
 use Rattle.session_core.specs.declared.mark.Close.TheVariants as closed
 
@@ -39,3 +48,42 @@ is_cut (Some closing) = is_cut_by closing.1
 pub record NoneLost {S R : Type 0} (b : BookView) (devices : List (DeviceDone S R)) : Type 0 where
   pub devices_kept : All (λ (d : DeviceDone S R). IsNotLost d.end) devices
   pub sessions_kept : All (λ (a : MemberView). IsNotCut a.session.closing) b.sessions
+
+-- a reader that ended so was out of memory
+abbrev pub is_short : Option Ending → Bool
+is_short None = false
+is_short (Some reading.End) = false
+is_short (Some reading.Failed) = false
+is_short (Some reading.NoMemory) = true
+
+-- so was the reader of a device's edges, where there is one
+abbrev pub lines_lack : {S R : Type 0} → Option (ReaderDone S R) → Bool
+lines_lack None = false
+lines_lack (Some reader) = is_short reader.ending
+
+-- or a reader of a device
+abbrev pub run_lacks : {S R : Type 0} → DeviceRun S R → Bool
+run_lacks run = is_short run.bytes.ending || lines_lack run.edges
+
+-- or that of a session
+abbrev pub link_lacks : {S K R : Type 0} → LinkDone S K R → Bool
+link_lacks run = is_short run.reader.ending
+
+-- what was put into a lane says that its reader was out of memory
+abbrev pub TellsShort : Option (Putting Piece) → Type 0
+TellsShort None = ⊥
+TellsShort (Some tx) = ending_of tx.put ≡ Some reading.NoMemory
+
+-- what was put into the lanes of a device says of no reader that it was out of memory
+pub record DeviceHadMemory {S R : Type 0} (device : DeviceDone S R) : Type 0 where
+  pub bytes : TellsShort (Some device.bytes_tx) → ⊥
+  pub edges : TellsShort device.edges_tx → ⊥
+
+-- nor what was put into the input lane of a session
+pub record SessionHadMemory {S K R : Type 0} (session : SessionDone S K R) : Type 0 where
+  pub input : TellsShort (Some session.input_tx) → ⊥
+
+-- No reader of a device or of a session says that it was out of memory.
+pub record ReadersHadMemory {S K R : Type 0} (devices : List (DeviceDone S R)) (sessions : List (SessionDone S K R)) : Type 0 where
+  pub devices_had : All DeviceHadMemory devices
+  pub sessions_had : All SessionHadMemory sessions

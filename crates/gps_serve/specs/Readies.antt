@@ -15,7 +15,8 @@ use Rattle.serve_threads.specs.declared.session.SessionLink.{SessionLink}
 use Rattle.serve_threads.specs.declared.session.LinkDone.{LinkDone}
 use Rattle.serve_threads.specs.Monitors.{MonitorRan}
 use Rattle.serve_threads.specs.Sessions.{SessionRuns, Wrote}
-use Rattle.gps_serve.specs.AtEnd.{InputServed, MonitorServed, OutletServed, SinkFacts}
+use Rattle.gps_serve.specs.Facts.{SinkFacts}
+use Rattle.gps_serve.specs.Served.{InputServed, MonitorServed, OutletServed}
 use Rattle.gps_serve.specs.Doors.{IsUnused}
 use Rattle.serve_end_settling.specs.Lanes.{OneMoreAtMost}
 use Rattle.serve_end_settling.specs.Outlets.{writer_end}
@@ -45,9 +46,11 @@ pub record InputLeft {S K R : Type 0} (sources : SourceFacts S) (x : Taking Piec
   pub served : InputServed sources done
   pub settled : OneMoreAtMost x done.input_rx
 
--- The session has the source that its reader hands back, and its sink is that of the link on which its writer worked, whichever that was.
+-- The session has the source that its reader hands back, and the end of its input lane; its sink is that of the link on which its writer worked,
+-- whichever that was.
 pub record IsLeftOfLink {S K R : Type 0} (sources : SourceFacts S) (sinks : SinkFacts K) (run : LinkDone S K R) (done : SessionDone S K R) : Type 0 where
   pub source : done.source ≡ run.reader.source
+  pub input : done.input_tx ≡ run.reader.pieces
   pub sink : (link : SessionLink S K R) → SessionRuns sources.content sources.faults sources.quiets sinks.written sinks.faults link run
       → Wrote (writer_end done.end) link.items done.items_rx (sinks.written link.sink) (sinks.written done.sink) (sinks.faults link.sink) (sinks.faults done.sink)
 

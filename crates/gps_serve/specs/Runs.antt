@@ -12,7 +12,7 @@ use Rattle.serve_end_settling.specs.Failing.{source_of}
 use Rattle.serve_end_settling.specs.Lanes.{tx_of}
 use Rattle.serve_end_settling.specs.Runs.{Ran, SourceFacts}
 use Rattle.gps_serve.specs.declared.starts.DeviceStart.{DeviceStart}
-use Rattle.gps_serve.specs.AtEnd.{DeviceServed, TakesFirst}
+use Rattle.gps_serve.specs.Served.{DeviceServed, TakesFirst}
 use Rattle.gps_serve.specs.Starts.{IsFreshDevice, edge_source_of, starts_of}
 use Rattle.gps_serve.specs.Whole.{TakesWhole}
 

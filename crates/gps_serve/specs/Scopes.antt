@@ -13,7 +13,7 @@ use Rattle.serve_threads.specs.declared.monitors.MonitorStart.{MonitorStart}
 use Rattle.serve_threads.specs.Sessions.{SessionRuns}
 use Rattle.gps_serve.specs.declared.starts.DeviceStart.{DeviceStart}
 use Rattle.gps_serve.specs.declared.scope.Ended.{Ended}
-use Rattle.gps_serve.specs.AtEnd.{GateFacts, SinkFacts}
+use Rattle.gps_serve.specs.Facts.{GateFacts, SinkFacts}
 use Rattle.gps_serve.specs.Doors.{FailsBy, IsNewLink, Tended, door_now}
 use Rattle.gps_serve.specs.Runs.{RanOn}
 use Rattle.gps_serve.specs.Works.{WatchedBy}

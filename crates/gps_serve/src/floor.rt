@@ -16,7 +16,8 @@ use serve_threads::SessionBells;
 use session_core::Item;
 use std::sync::{Arc, Wait};
 
-/// How many pieces of a device one burst takes at most. The lock is held for a burst, and the writers are rung at its end; so it is short.
+/// A burst takes a piece of each device in turn, until it has this many or more. The lock is held for a burst, and the writers are rung at its
+/// end; so it is short.
 const PIECES_A_BURST: u32 = 4;
 
 /// More sessions than may have news at once.
@@ -59,25 +60,28 @@ impl<J: HubNaming, R: Wait + Copy> Floor<J, R> {
         }
     }
 
-    fn feed_each(&mut self) -> bool {
-        let mut fed = false;
+    /// Takes a piece of each device that has one, and gives their number.
+    fn feed_each(&mut self) -> u32 {
+        let mut fed = 0u32;
         for device in 0..self.devices {
             if self.feed(device) {
-                fed = true;
+                fed = fed.saturating_add(1);
             }
         }
         fed
     }
 
+    /// Whether a piece was taken.
     fn feed_all(&mut self) -> bool {
-        let mut fed = false;
+        let mut fed = 0u32;
         for _ in 0..PIECES_A_BURST {
-            if !self.feed_each() {
+            let more = self.feed_each();
+            fed = fed.saturating_add(more);
+            if more == 0 || fed >= PIECES_A_BURST {
                 break;
             }
-            fed = true;
         }
-        fed
+        fed > 0
     }
 
     /// Takes a piece of a session's input, and rings its threads where there is something for them.

@@ -97,7 +97,7 @@ pub(crate) fn prepare<S: Source, R: Wait + Copy>(
     ensures edge_sources { IfOk result (λ ground. edges_at ground.lanes.starts.items ≡ edges.items) }
     ensures watchers { IfOk result (λ ground. segments_of ground.watchers.items ≡ monitored tries (map segment_of ground.book.units)) }
     ensures fresh { IfOk result (λ ground.
-        AllZip (IsFreshDevice (source_facts S.content S.faults S.quiets)) ground.lanes.starts.items ground.lanes.inlets.items) }
+        AllZip (IsFreshDevice (source_facts S.Source)) ground.lanes.starts.items ground.lanes.inlets.items) }
 {
     let count = names.len();
     let mut book = new_book(alloc, names, limit)?;

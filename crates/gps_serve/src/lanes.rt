@@ -44,7 +44,7 @@ fn lay_edges<S: Source, R: Wait + Copy>(
     source: Option<S>,
 ) -> Result<LaidEdges<S, R>, NoMemory>
     requires { AreUnread S.content S.faults S.quiets (option_to_list source) }
-    ensures fresh { IfOk result (λ laid. IsFreshEdge (source_facts S.content S.faults S.quiets) laid.start laid.inlet) }
+    ensures fresh { IfOk result (λ laid. IsFreshEdge (source_facts S.Source) laid.start laid.inlet) }
     ensures source { IfOk result (λ laid. edge_source_of laid.start ≡ source) }
 {
     match source {
@@ -68,9 +68,9 @@ fn lay_device<S: Source, R: Wait + Copy>(
     source: S,
     edges: Option<S>,
 ) -> Result<Laid<S, R>, NoMemory>
-    requires source { IsUnreadBy (source_facts S.content S.faults S.quiets) source }
+    requires source { IsUnreadBy (source_facts S.Source) source }
     requires edges { AreUnread S.content S.faults S.quiets (option_to_list edges) }
-    ensures fresh { IfOk result (λ laid. IsFreshDevice (source_facts S.content S.faults S.quiets) laid.start laid.inlets) }
+    ensures fresh { IfOk result (λ laid. IsFreshDevice (source_facts S.Source) laid.start laid.inlets) }
     ensures source { IfOk result (λ laid. laid.start.source ≡ source) }
     ensures edges { IfOk result (λ laid. edge_source_of laid.start.edges ≡ edges) }
 {
@@ -117,7 +117,7 @@ pub(crate) fn lay<S: Source, R: Wait + Copy>(
     requires each { length edges.items ≡ length inputs.items }
     ensures sources { IfOk result (λ lanes. sources_at lanes.starts.items ≡ inputs.items) }
     ensures edge_sources { IfOk result (λ lanes. edges_at lanes.starts.items ≡ edges.items) }
-    ensures fresh { IfOk result (λ lanes. AllZip (IsFreshDevice (source_facts S.content S.faults S.quiets)) lanes.starts.items lanes.inlets.items) }
+    ensures fresh { IfOk result (λ lanes. AllZip (IsFreshDevice (source_facts S.Source)) lanes.starts.items lanes.inlets.items) }
     ensures count { IfOk result (λ lanes. length lanes.inlets.items ≡ length inputs.items) }
 {
     let count = inputs.len();

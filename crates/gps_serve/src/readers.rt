@@ -80,7 +80,7 @@ fn join_edges<S: Source, R: Wait + Copy, T: Threads>(
     rt: &T,
     work: Option<Work<ReaderDone<S, R>, EdgeReading<S, R>>>,
 ) -> Option<ReaderDone<S, R>>
-    ensures ran { (start : _) → EdgesAre start work → EdgesRan (source_facts S.content S.faults S.quiets) (option_map edge_start_of start) result }
+    ensures ran { (start : _) → EdgesAre start work → EdgesRan (source_facts S.Source) (option_map edge_start_of start) result }
     ensures cause { EdgeCause S.faults result }
 {
     match work {
@@ -95,7 +95,7 @@ pub(crate) fn join_readers<S: Source, D: Dials, R: Wait + Copy, T: Threads>(
     rt: &T,
     work: DeviceWork<S, D, R>,
 ) -> DeviceRun<S, R>
-    ensures ran { JoinsDevice D.may (source_facts S.content S.faults S.quiets) work result }
+    ensures ran { JoinsDevice D.may (source_facts S.Source) work result }
     ensures cause { RunCause S.faults result }
 {
     let DeviceWork { bytes, edges } = work;

@@ -2,7 +2,7 @@ ghost use Rattle.std.specs.Prelude.{◌≡◌, ◌≤◌, [], length, IfOk};
 ghost use Rattle.std.specs.List.{AllZip};
 ghost use Rattle.std.specs.Vec.{vec_len, vec_capacity};
 ghost use Rattle.serve_end_settling.specs.Runs.{RunCause, EachRun, source_facts};
-ghost use Rattle.gps_serve.specs.AtEnd.{gate_facts, sink_facts};
+ghost use Rattle.gps_serve.specs.Facts.{gate_facts, sink_facts};
 ghost use Rattle.gps_serve.specs.Runs.{RanOn};
 ghost use Rattle.gps_serve.specs.Scopes.{CausesIf, CountsIf, FailsIf, RanIf, TendedIf, WatchedIf};
 ghost use Rattle.gps_serve.specs.Works.{JoinsDevice, JoinsWatcher, ReadersAre, WatchedBy, WatchesFor};
@@ -182,7 +182,7 @@ fn join_devices<S: Source, D: Dials, R: Wait + Copy, T: Threads>(
     requires none { room.items ≡ [] }
     requires empty { vec_len room ≡ 0 }
     requires enough { vec_len works ≤ vec_capacity room }
-    ensures joined { AllZip (JoinsDevice D.may (source_facts S.content S.faults S.quiets)) works.items result.items }
+    ensures joined { AllZip (JoinsDevice D.may (source_facts S.Source)) works.items result.items }
     ensures causes { EachRun (RunCause S.faults) result.items }
     ensures count { vec_len result ≡ vec_len works }
 {
@@ -237,10 +237,10 @@ fn work<
     setup: Setup<S, K, G, D, J, R>,
 ) -> Option<Ended<S, K, G, J, R>>
     ensures fails { FailsIf G.faults setup.door.gate result }
-    ensures tended { TendedIf (source_facts S.content S.faults S.quiets) (sink_facts K.written K.faults)
-        (gate_facts G.links G.faults G.quiets) setup.door.queue setup.door.gate result }
+    ensures tended { TendedIf (source_facts S.Source) (sink_facts K.Sink)
+        (gate_facts G.Door) setup.door.queue setup.door.gate result }
     ensures causes { CausesIf S.faults result }
-    ensures ran { RanIf D.may (source_facts S.content S.faults S.quiets) setup.starts.items result }
+    ensures ran { RanIf D.may (source_facts S.Source) setup.starts.items result }
     ensures watched { WatchedIf tries setup.watchers.items result }
     ensures counts { CountsIf (vec_len setup.starts) (vec_len setup.watchers) result }
 {
@@ -300,10 +300,10 @@ pub(crate) fn in_scope<
     setup: Setup<S, K, G, D, J, R>,
 ) -> Option<Ended<S, K, G, J, R>>
     ensures fails { FailsIf G.faults setup.door.gate result }
-    ensures tended { TendedIf (source_facts S.content S.faults S.quiets) (sink_facts K.written K.faults)
-        (gate_facts G.links G.faults G.quiets) setup.door.queue setup.door.gate result }
+    ensures tended { TendedIf (source_facts S.Source) (sink_facts K.Sink)
+        (gate_facts G.Door) setup.door.queue setup.door.gate result }
     ensures causes { CausesIf S.faults result }
-    ensures ran { RanIf D.may (source_facts S.content S.faults S.quiets) setup.starts.items result }
+    ensures ran { RanIf D.may (source_facts S.Source) setup.starts.items result }
     ensures watched { WatchedIf tries setup.watchers.items result }
     ensures counts { CountsIf (vec_len setup.starts) (vec_len setup.watchers) result }
 {

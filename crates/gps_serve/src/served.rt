@@ -12,12 +12,14 @@ ghost use Rattle.serve_end_settling.specs.Failing.{DeviceFailed, SomeFailed, Sou
 ghost use Rattle.serve_end_settling.specs.Runs.{RunCause, EachRun, source_facts};
 ghost use Rattle.serve_threads.specs.Segments.{segments_of};
 ghost use Rattle.serve_threads.specs.Sessions.{SessionRuns};
-ghost use Rattle.gps_serve.specs.AtEnd.{AtEnd, BytesHeld, EdgesHeld, gate_facts, sink_facts, settings_in, settings_of};
+ghost use Rattle.gps_serve.specs.AtEnd.{AtEnd, handed_back, settings_in, settings_of, start_in, start_with};
+ghost use Rattle.gps_serve.specs.Facts.{world_facts};
+ghost use Rattle.gps_serve.specs.Served.{BytesHeld, EdgesHeld};
 ghost use Rattle.gps_serve.specs.Doors.{IsNewLink, Tended, door_now};
-ghost use Rattle.gps_serve.specs.Lost.{NoneLost};
+ghost use Rattle.gps_serve.specs.Lost.{NoneLost, ReadersHadMemory};
 ghost use Rattle.gps_serve.specs.Runs.{DeviceReads, DevicesRan, IsLeftOf};
 ghost use Rattle.gps_serve.specs.Starts.{IsFreshDevice, edges_at, sources_at};
-ghost use Rattle.gps_serve.specs.Statuses.{AllEnded, HasStopped, WasLostByFault};
+ghost use Rattle.gps_serve.specs.Statuses.{AllEnded, HasStopped, TellsNoFault, WasLostByFault};
 ghost use Rattle.gps_serve.specs.Units.{AreAtRest, CountFromZero};
 ghost use Rattle.gps_serve.specs.Whole.{IsWhole};
 ghost use Rattle.gps_serve.specs.Works.{WatchersRan, monitored};
@@ -52,7 +54,7 @@ struct Numbers {
 }
 
 /// What is handed back where nothing was served.
-#[tactic(auto, using(crate::proofs::First::no_devices, crate::proofs::Causes::no_gate))]
+#[tactic(auto, using(crate::proofs::First::no_devices, crate::proofs::First::none_tell, crate::proofs::HadMemory::none_read, crate::proofs::Causes::no_gate))]
 fn nothing<W: World, R: Wait + Copy>(alloc: Global, world: W, stop: Stop) -> Served<W, R>
     ensures book { result.book ≡ None }
     ensures world { result.world ≡ world }
@@ -62,8 +64,10 @@ fn nothing<W: World, R: Wait + Copy>(alloc: Global, world: W, stop: Stop) -> Ser
     ensures eight { result.status ≡ 8 → stop ≡ Stop.Listen }
     ensures seven { result.status ≡ 7 → result.no_memory ≡ true }
     ensures first { SomeFailed WasLostByFault result.devices.items → result.status ≡ 3 }
+    ensures untold { (result.status ≡ 3) ⊎ All TellsNoFault result.devices.items }
     ensures door { SourceFailed W.Gate.faults result.gate → (result.status ≡ 3) ⊎ (result.status ≡ 8) }
     ensures lacked { stop ≡ Stop.NoMemory → result.status ≡ 7 }
+    ensures readers { ReadersHadMemory result.devices.items result.sessions.items }
     ensures each { ((result.status ≡ 3) × (stop ≡ Stop.Input)) ⊎ ((result.status ≡ 8) × (stop ≡ Stop.Listen)) ⊎ (result.status ≡ 7) }
 {
     let (status, no_memory) = match stop {
@@ -158,7 +162,7 @@ fn gather<W: World, J: HubNaming, D: Dials, R: Wait + Copy>(
     numbers: Numbers,
     first: Snapshot<W::Gate>,
 ) -> Served<W, R>
-    requires ran { DevicesRan D.may (source_facts W.In.content W.In.faults W.In.quiets) J.terms.lanes ended.runs.items }
+    requires ran { DevicesRan D.may (source_facts W.In.Source) J.terms.lanes ended.runs.items }
     requires causes { EachRun (RunCause W.In.faults) ended.runs.items }
     requires cause { ended.door.failed ≡ true → 0 < W.Gate.faults ended.door.gate }
     requires sound { ended.door.failed ≡ false → W.Gate.faults ended.door.gate ≡ 0 }
@@ -180,14 +184,15 @@ fn gather<W: World, J: HubNaming, D: Dials, R: Wait + Copy>(
     ensures eight { result.status ≡ 8 → SourceFailed W.Gate.faults result.gate }
     ensures seven { result.status ≡ 7 → result.no_memory ≡ true }
     ensures first { SomeFailed WasLostByFault result.devices.items → result.status ≡ 3 }
+    ensures untold { (result.status ≡ 3) ⊎ All TellsNoFault result.devices.items }
     ensures door { SourceFailed W.Gate.faults result.gate → (result.status ≡ 3) ⊎ (result.status ≡ 8) }
     ensures zero { result.status ≡ 0 → result.no_memory ≡ false }
     ensures ended { result.status ≡ 0 → AllEnded result.devices.items }
     ensures lacks { result.no_memory ≡ false → IfSome result.book (λ book. NoneLost book result.devices.items) }
+    ensures readers { result.no_memory ≡ false → ReadersHadMemory result.devices.items result.sessions.items }
     ensures left { AllZip IsLeftOf ended.runs.items result.devices.items }
-    ensures at_end { IfSome result.book (λ book. AtEnd (settings_of J.terms numbers.queue numbers.tries) D.may
-        (source_facts W.In.content W.In.faults W.In.quiets) (sink_facts W.Out.written W.Out.faults) (gate_facts W.Gate.links W.Gate.faults W.Gate.quiets)
-        (W.Gate.links first.value) result.full result.no_memory book result.devices.items result.sessions.items result.monitors.items result.gate) }
+    ensures at_end { IfSome result.book (AtEnd (start_with (settings_of J.terms numbers.queue numbers.tries) D.may (W.Gate.links first.value))
+        (world_facts W.In.Source W.Out.Sink W.Gate.Door) (handed_back result)) }
 {
     let Ended {
         runs,
@@ -307,7 +312,7 @@ fn run<
     requires nothing { All NothingGot ground.lanes.inlets.items }
     requires few { length ground.book.names ≤ 8 }
     requires units { length ground.book.units ≡ 2 * length ground.book.names }
-    requires fresh { AllZip (IsFreshDevice (source_facts W.In.content W.In.faults W.In.quiets)) ground.lanes.starts.items ground.lanes.inlets.items }
+    requires fresh { AllZip (IsFreshDevice (source_facts W.In.Source)) ground.lanes.starts.items ground.lanes.inlets.items }
     requires watchers { segments_of ground.watchers.items ≡ monitored numbers.tries (map segment_of ground.book.units) }
     requires from { CountFromZero (map segment_of ground.book.units) }
     requires wait { numbers.wait ≤ 64 }
@@ -320,16 +325,17 @@ fn run<
     ensures eight { result.status ≡ 8 → SourceFailed W.Gate.faults result.gate }
     ensures seven { result.status ≡ 7 → result.no_memory ≡ true }
     ensures first { SomeFailed WasLostByFault result.devices.items → result.status ≡ 3 }
+    ensures untold { (result.status ≡ 3) ⊎ All TellsNoFault result.devices.items }
     ensures door { SourceFailed W.Gate.faults result.gate → (result.status ≡ 3) ⊎ (result.status ≡ 8) }
     ensures zero { result.status ≡ 0 → (result.no_memory ≡ false) × IsSome result.book }
     ensures ended { result.status ≡ 0 → AllEnded result.devices.items }
     ensures lacks { result.no_memory ≡ false → IfSome result.book (λ book. NoneLost book result.devices.items) }
+    ensures readers { result.no_memory ≡ false → ReadersHadMemory result.devices.items result.sessions.items }
     ensures none { result.book ≡ None → result.status ≡ 7 }
     ensures reads { IsSome result.book
-        → AllZip (DeviceReads (source_facts W.In.content W.In.faults W.In.quiets)) ground.lanes.starts.items result.devices.items }
-    ensures at_end { IfSome result.book (λ book. AtEnd (settings_of J.terms numbers.queue numbers.tries) D.may
-        (source_facts W.In.content W.In.faults W.In.quiets) (sink_facts W.Out.written W.Out.faults) (gate_facts W.Gate.links W.Gate.faults W.Gate.quiets)
-        (W.Gate.links gate) result.full result.no_memory book result.devices.items result.sessions.items result.monitors.items result.gate) }
+        → AllZip (DeviceReads (source_facts W.In.Source)) ground.lanes.starts.items result.devices.items }
+    ensures at_end { IfSome result.book (AtEnd (start_with (settings_of J.terms numbers.queue numbers.tries) D.may (W.Gate.links gate))
+        (world_facts W.In.Source W.Out.Sink W.Gate.Door) (handed_back result)) }
 {
     let Ground {
         book,
@@ -380,19 +386,20 @@ pub fn serve<W: World, R: Threads + Wait + Copy + Send + Sync>(
     ensures eight { result.status ≡ 8 → SourceFailed W.Gate.faults result.gate ⊎ Rose (W.listen_faults world) (W.listen_faults result.world) }
     ensures seven { result.status ≡ 7 → result.no_memory ≡ true }
     ensures first { SomeFailed WasLostByFault result.devices.items → result.status ≡ 3 }
+    ensures untold { (result.status ≡ 3) ⊎ All TellsNoFault result.devices.items }
     ensures door { SourceFailed W.Gate.faults result.gate → (result.status ≡ 3) ⊎ (result.status ≡ 8) }
     ensures zero { result.status ≡ 0 → (result.no_memory ≡ false) × IsSome result.book }
     ensures ended { result.status ≡ 0 → AllEnded result.devices.items }
     ensures lacks { result.no_memory ≡ false → IfSome result.book (λ book. NoneLost book result.devices.items) }
+    ensures readers { result.no_memory ≡ false → ReadersHadMemory result.devices.items result.sessions.items }
     ensures none { result.book ≡ None → ((result.status ≡ 3) × Rose (W.input_faults world) (W.input_faults result.world))
         ⊎ ((result.status ≡ 8) × Rose (W.listen_faults world) (W.listen_faults result.world)) ⊎ (result.status ≡ 7) }
-    ensures at_end { IfSome result.book (λ book. AtEnd (settings_in plan) (dial_of (W.stamps world)) (source_facts W.In.content W.In.faults W.In.quiets)
-        (sink_facts W.Out.written W.Out.faults) (gate_facts W.Gate.links W.Gate.faults W.Gate.quiets)
-        (W.links world) result.full result.no_memory book result.devices.items result.sessions.items result.monitors.items result.gate) }
-    ensures whole { IsSome result.book → All (IsWhole (dial_of (W.stamps world)) (source_facts W.In.content W.In.faults W.In.quiets)) result.devices.items }
+    ensures at_end { IfSome result.book
+        (AtEnd (start_in W.World (settings_in plan) world) (world_facts W.In.Source W.Out.Sink W.Gate.Door) (handed_back result)) }
+    ensures whole { IsSome result.book → All (IsWhole (dial_of (W.stamps world)) (source_facts W.In.Source)) result.devices.items }
     ensures held { GivenOnce (plan.inputs.items ++ places_in plan.edges.items) → IsSome result.book
-        → AllZip (BytesHeld (W.behind world) (source_facts W.In.content W.In.faults W.In.quiets)) plan.inputs.items result.devices.items
-        × AllZip (EdgesHeld (W.behind world) (source_facts W.In.content W.In.faults W.In.quiets)) plan.edges.items result.devices.items }
+        → AllZip (BytesHeld (W.behind world) (source_facts W.In.Source)) plan.inputs.items result.devices.items
+        × AllZip (EdgesHeld (W.behind world) (source_facts W.In.Source)) plan.edges.items result.devices.items }
     ensures edges { IsSome result.book → map (λ device. is_some device.edges) result.devices.items ≡ map is_some plan.edges.items }
     ensures asked { AsksSome (W.asked result.world) (plan.inputs.items ++ places_in plan.edges.items) plan.listen }
     ensures all_asked { IsSome result.book → AsksAll (W.asked result.world) (plan.inputs.items ++ places_in plan.edges.items) plan.listen }

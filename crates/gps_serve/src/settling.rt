@@ -7,7 +7,8 @@ ghost use Rattle.book_units.specs.Units.{UnitView};
 ghost use Rattle.serve_end_settling.specs.Failing.{DeviceFailed, SomeFailed, source_of};
 ghost use Rattle.serve_end_settling.specs.Lanes.{tx_of};
 ghost use Rattle.serve_end_settling.specs.Runs.{RunCause, EachRun, source_facts};
-ghost use Rattle.gps_serve.specs.AtEnd.{DeviceServed, MonitorServed, OutletServed, sink_facts, watched_units};
+ghost use Rattle.gps_serve.specs.Facts.{sink_facts};
+ghost use Rattle.gps_serve.specs.Served.{DeviceServed, MonitorServed, OutletServed, watched_units};
 ghost use Rattle.gps_serve.specs.Readies.{AllServed, AreReady, InputLeft, IsLeftOfLink, MonitorReady, SessionReady};
 ghost use Rattle.gps_serve.specs.Runs.{DeviceReady, IsLeftOf};
 ghost use Rattle.gps_serve.specs.Statuses.{TellsNoFault};
@@ -50,9 +51,9 @@ fn left_of<S: Source, D: Dials, R: Wait + Copy>(
     inlets: Inlets<R>,
     end: Option<DeviceEnd>,
 ) -> Left<S, R>
-    requires ready { DeviceReady D.may (source_facts S.content S.faults S.quiets) inlets run }
+    requires ready { DeviceReady D.may (source_facts S.Source) inlets run }
     requires cause { RunCause S.faults run }
-    ensures served { DeviceServed D.may (source_facts S.content S.faults S.quiets) inlets result.device }
+    ensures served { DeviceServed D.may (source_facts S.Source) inlets result.device }
     ensures end { result.device.end ≡ end }
     ensures failed { result.failed ≡ true → DeviceFailed S.faults result.device }
     ensures untold { result.failed ≡ false → TellsNoFault result.device }
@@ -81,13 +82,13 @@ pub(crate) fn devices_done<S: Source, D: Dials, R: Wait + Copy>(
     ends: Vec<Option<DeviceEnd>>,
     room: Vec<DeviceDone<S, R>>,
 ) -> DevicesDone<S, R>
-    requires ready { AllZip (DeviceReady D.may (source_facts S.content S.faults S.quiets)) inlets.items runs.items }
+    requires ready { AllZip (DeviceReady D.may (source_facts S.Source)) inlets.items runs.items }
     requires causes { EachRun (RunCause S.faults) runs.items }
     requires ends { length ends.items ≡ length inlets.items }
     requires none { room.items ≡ [] }
     requires empty { vec_len room ≡ 0 }
     requires enough { vec_len runs ≤ vec_capacity room }
-    ensures served { AllZip (DeviceServed D.may (source_facts S.content S.faults S.quiets)) inlets.items result.devices.items }
+    ensures served { AllZip (DeviceServed D.may (source_facts S.Source)) inlets.items result.devices.items }
     ensures ends { map (λ device. device.end) result.devices.items ≡ ends.items }
     ensures failed { result.failed ≡ true → SomeFailed (DeviceFailed S.faults) result.devices.items }
     ensures untold { result.failed ≡ false → EachRun TellsNoFault result.devices.items }
@@ -118,12 +119,12 @@ fn settled<S: Source, K: Sink, R: Wait + Copy>(
 ) -> SessionDone<S, K, R>
     requires there { number < length book.old.sessions }
     requires ready { (free : MemberView)
-        → SessionReady (source_facts S.content S.faults S.quiets) (sink_facts K.written K.faults) (get_or book.old.sessions number free) input run }
+        → SessionReady (source_facts S.Source) (sink_facts K.Sink) (get_or book.old.sessions number free) input run }
     ensures book { book.new ≡ book.old }
     ensures number { result.number ≡ number }
-    ensures link { IsLeftOfLink (source_facts S.content S.faults S.quiets) (sink_facts K.written K.faults) run result }
-    ensures input { InputLeft (source_facts S.content S.faults S.quiets) input result }
-    ensures outlet { (free : MemberView) → OutletServed (sink_facts K.written K.faults) (get_or book.old.sessions number free) result }
+    ensures link { IsLeftOfLink (source_facts S.Source) (sink_facts K.Sink) run result }
+    ensures input { InputLeft (source_facts S.Source) input result }
+    ensures outlet { (free : MemberView) → OutletServed (sink_facts K.Sink) (get_or book.old.sessions number free) result }
 {
     session_done(rt, book, number, run, input)
 }
@@ -137,13 +138,13 @@ pub(crate) fn sessions_done<S: Source, K: Sink, R: Wait + Copy>(
     inputs: Vec<Rx<Piece, R>>,
     room: Vec<SessionDone<S, K, R>>,
 ) -> Vec<SessionDone<S, K, R>>
-    requires ready { AreReady (source_facts S.content S.faults S.quiets) (sink_facts K.written K.faults) book.old.sessions inputs.items runs.items }
+    requires ready { AreReady (source_facts S.Source) (sink_facts K.Sink) book.old.sessions inputs.items runs.items }
     requires none { room.items ≡ [] }
     requires empty { vec_len room ≡ 0 }
     requires enough { vec_len runs ≤ vec_capacity room }
     ensures book { book.new ≡ book.old }
-    ensures served { AllServed (source_facts S.content S.faults S.quiets) (sink_facts K.written K.faults) book.old.sessions inputs.items result.items }
-    ensures links { AllZip (IsLeftOfLink (source_facts S.content S.faults S.quiets) (sink_facts K.written K.faults)) runs.items result.items }
+    ensures served { AllServed (source_facts S.Source) (sink_facts K.Sink) book.old.sessions inputs.items result.items }
+    ensures links { AllZip (IsLeftOfLink (source_facts S.Source) (sink_facts K.Sink)) runs.items result.items }
 {
     let mut done = room;
     let mut runs = runs.into_iter();

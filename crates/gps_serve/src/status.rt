@@ -1,7 +1,7 @@
 ghost use Rattle.std.specs.Prelude.{◌≡◌, ◌⊎◌, ◌||◌, true, false};
-ghost use Rattle.std.specs.List.{All, list_all};
+ghost use Rattle.std.specs.List.{All, list_all, list_any};
 ghost use Rattle.hub_promise.specs.Given.{is_end};
-ghost use Rattle.gps_serve.specs.Lost.{IsNotCut, IsNotLost, is_cut, is_lost};
+ghost use Rattle.gps_serve.specs.Lost.{IsNotCut, IsNotLost, is_cut, is_lost, is_short, lines_lack, link_lacks, run_lacks};
 ghost use Rattle.gps_serve.specs.Statuses.{EachWhole, lacks_memory};
 
 use gps_hub::{DeviceEnd, Ending};
@@ -65,27 +65,38 @@ impl DaemonOutcome {
     }
 }
 
-fn reader_lacked<S: Source, R>(reader: &ReaderDone<S, R>) -> bool {
-    match reader.ending {
+/// Whether a reader ended because it was out of memory.
+fn is_short(ending: Option<Ending>) -> bool
+    ensures { result ≡ is_short ending }
+{
+    match ending {
         Some(Ending::NoMemory) => true,
         Some(Ending::End | Ending::Failed) | None => false,
     }
 }
 
-/// Whether a reader of a device ended because it was out of memory.
-fn device_lacks<S: Source, R: Wait + Copy>(runs: &[DeviceRun<S, R>]) -> bool {
-    let mut lacks = false;
-    for run in runs {
-        if reader_lacked(&run.bytes) {
-            lacks = true;
-        }
-        if let Some(edges) = &run.edges {
-            if reader_lacked(edges) {
-                lacks = true;
-            }
-        }
+/// Whether the reader of a device's edges did so, where there is one.
+fn lines_lack<S: Source, R: Wait + Copy>(reader: &Option<ReaderDone<S, R>>) -> bool
+    ensures { result ≡ lines_lack reader.now }
+{
+    match reader {
+        Some(reader) => is_short(reader.ending),
+        None => false,
     }
-    lacks
+}
+
+/// Whether a reader of a device did so.
+fn run_lacks<S: Source, R: Wait + Copy>(run: &DeviceRun<S, R>) -> bool
+    ensures { result ≡ run_lacks run.now }
+{
+    either(is_short(run.bytes.ending), lines_lack(&run.edges))
+}
+
+/// Whether a reader of any device did so.
+fn device_lacks<S: Source, R: Wait + Copy>(runs: &[DeviceRun<S, R>]) -> bool
+    ensures { result ≡ list_any run_lacks runs.now }
+{
+    runs.iter().any(|run| run_lacks(run))
 }
 
 /// Whether each device has ended.
@@ -110,15 +121,11 @@ fn ends_lack(ends: &[Option<DeviceEnd>]) -> bool
     ends.iter().any(|end| is_lost(*end))
 }
 
-/// Whether a reader of a session ended because it was out of memory.
-fn session_lacks<S: Source, K: Sink, R: Wait + Copy>(runs: &[LinkDone<S, K, R>]) -> bool {
-    let mut lacks = false;
-    for run in runs {
-        if reader_lacked(&run.reader) {
-            lacks = true;
-        }
-    }
-    lacks
+/// Whether the reader of any session ended because it was out of memory.
+fn session_lacks<S: Source, K: Sink, R: Wait + Copy>(runs: &[LinkDone<S, K, R>]) -> bool
+    ensures { result ≡ list_any link_lacks runs.now }
+{
+    runs.iter().any(|run| is_short(run.reader.ending))
 }
 
 /// Whether a session was closed because it was out of memory.
@@ -162,6 +169,8 @@ pub(crate) fn lacked<S: Source, K: Sink, R: Wait + Copy>(
     ensures before { result ≡ false → before ≡ false }
     ensures devices { result ≡ false → All IsNotLost ends.now }
     ensures sessions { result ≡ false → All (λ session. IsNotCut session.session.closing) book.now.sessions }
+    ensures runs { result ≡ false → list_any run_lacks runs.now ≡ false }
+    ensures links { result ≡ false → list_any link_lacks session_runs.now ≡ false }
 {
     let by_book = either(ends_lack(ends), book_lacks(book));
     let by_threads = either(device_lacks(runs), session_lacks(session_runs));

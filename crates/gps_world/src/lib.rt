@@ -6,6 +6,7 @@
 mod asked;
 mod daemon;
 mod head_source;
+mod held_pipes;
 mod memory_world;
 mod place;
 mod real_gate;
@@ -15,6 +16,7 @@ mod world;
 
 pub use asked::Asked;
 pub use daemon::DaemonFault;
+pub use held_pipes::HeldPipes;
 pub use memory_world::MemoryWorld;
 pub use place::Place;
 pub use real_gate::RealGate;

@@ -1,9 +1,9 @@
 ghost use Rattle.std.specs.Prelude.{◌≡◌, IfOk};
 ghost use Rattle.gps_world.specs.Asking.{asked_nothing};
 
-use crate::{Asked, Opened, Place, RealGate, RealInput, World};
+use crate::{Asked, HeldPipes, Opened, Place, RealGate, RealInput, World};
 use gps_fixed::Bytes;
-use gps_outside::{LinkSink, RealClock, RealDoor, RealSource};
+use gps_outside::{Awaited, LinkSink, RealClock, RealDoor, RealSource};
 use std::alloc::Global;
 use std::fs::{self, File};
 use std::io::{self, ErrorKind};
@@ -23,6 +23,8 @@ pub struct RealWorld<R> {
     machine: R,
     alloc: Global,
     asked: Asked,
+    /// Which of the places that it was asked for are pipes with names.
+    are_pipes: [bool; 16],
     input_faults: u64,
     listen_faults: u64,
     fault: Option<io::Error>,
@@ -52,6 +54,7 @@ impl<R> RealWorld<R> {
             machine,
             alloc,
             asked: Asked::nothing(alloc),
+            are_pipes: [false; 16],
             input_faults: 0,
             listen_faults: 0,
             fault: None,
@@ -153,9 +156,13 @@ where
 
     fn input(&mut self, place: Place) -> Opened<RealInput<R>> {
         let source = self.open(&place);
+        let number = self.asked.places().len();
         self.asked.add(place);
         match source {
-            Ok(source) => Opened::Ready(source),
+            Ok(source) => {
+                self.are_pipes[number] = source.awaited() == Some(Awaited::Writer);
+                Opened::Ready(source)
+            }
             Err(error) => {
                 self.fault = Some(error);
                 self.input_faults = self.input_faults.saturating_add(1);
@@ -179,5 +186,15 @@ where
 
     fn clock(&mut self) -> RealClock<R> {
         RealClock::new(self.machine)
+    }
+
+    fn wake_readers(&self) -> Option<HeldPipes> {
+        let mut held = HeldPipes::none(self.alloc);
+        for (place, is_pipe) in self.asked.places().iter().zip(self.are_pipes.iter()) {
+            if let (Place::File(path), true) = (place, *is_pipe) {
+                held.rouse(&self.machine, path);
+            }
+        }
+        Some(held)
     }
 }

@@ -1,4 +1,4 @@
-use crate::Place;
+use crate::{HeldPipes, Place};
 use gps_fixed::Bytes;
 use gps_outside::{Clock, Door, Sink, Source};
 
@@ -80,4 +80,10 @@ pub trait World: Drop {
         ensures listen_faults { listen_faults self.new ≡ listen_faults self.old }
         ensures places { (place : Place) → behind self.new place ≡ behind self.old place }
         ensures links { links self.new ≡ links self.old };
+
+    /// Lets the readers of its sources go on that wait at a pipe with a name, for a writer or for bytes: each finds a line feed there. For the
+    /// end, once nobody needs what they read. None waits there again while the pipes that it gives are held.
+    fn wake_readers(&self) -> Option<HeldPipes> {
+        None
+    }
 }

@@ -1,12 +1,13 @@
 -- What the words of `serve` come to.
-use Rattle.std.proofs.Common.{◌≡◌, ℕ, true, false, List, [], ◌∷◌, ◌++◌, map, is_some, Option, Some, None, IfSome, refl, sym, ◌∙◌, ap, subst, inl}
+use Rattle.std.proofs.Common.{◌≡◌, ℕ, true, false, List, [], ◌∷◌, ◌++◌, map, is_some, Option, Some, None, IfSome, refl, sym, ◌∙◌, ap, subst, ◌⊎◌, inl, inr, arith}
 use Rattle.std.specs.List.{AllZip}
 use Rattle.gps_words.specs.Serve.{Serve}
 use Rattle.gps_world.specs.Asking.{Asking, asked_nothing}
 use Rattle.gps_world.specs.declared.place.Place.{Place}
 use Rattle.serve_end_parts.specs.declared.done.DeviceDone.{DeviceDone}
 use Rattle.serve_end_settling.specs.Runs.{SourceFacts}
-use Rattle.gps_serve.specs.AtEnd.{BytesHeld, EdgesHeld, DaemonSettings}
+use Rattle.gps_serve.specs.AtEnd.{DaemonSettings}
+use Rattle.gps_serve.specs.Served.{BytesHeld, EdgesHeld}
 use Rattle.world_opening.specs.Opening.{AsksAll, AsksSome, GivenOnce, places_in}
 use Rattle.gpsrelay.specs.Served.{AsksFor, AsksWhole, HaveEdges, HeldBehind, edge_place_of, place_of, places_of, told_by}
 
@@ -24,6 +25,20 @@ pub asks_for : (o : Option Serve) (s : Serve) (asked : Asking) (places : List Pl
 asks_for o s asked places listen is places_are listen_is asks =
     subst (λ (x : Option Serve). AsksFor x asked) (sym is)
     (subst (λ (l : List ℕ). AsksSome asked (places_of s) l) listen_is (subst (λ (p : List Place). AsksSome asked p listen) places_are asks))
+
+-- a status of the daemon is one of the command
+pub one_of_command : (status : ℕ) → (status ≡ 0) ⊎ (status ≡ 3) ⊎ (status ≡ 7) ⊎ (status ≡ 8)
+    → (status ≡ 0) ⊎ (status ≡ 2) ⊎ (status ≡ 3) ⊎ (status ≡ 7) ⊎ (status ≡ 8)
+one_of_command status range = elim range [ inl zero ↦ inl zero | inr rest ↦ inr (inr rest) ]
+
+-- and not that of an invalid command line
+pub not_two : {P : Type 0} (status : ℕ) → (status ≡ 0) ⊎ (status ≡ 3) ⊎ (status ≡ 7) ⊎ (status ≡ 8) → status ≡ 2 → P
+not_two status range two = elim range [
+  | inl zero ↦ absurd (omega (arith, zero, two))
+  | inr (inl three) ↦ absurd (omega (arith, three, two))
+  | inr (inr (inl seven)) ↦ absurd (omega (arith, seven, two))
+  | inr (inr (inr eight)) ↦ absurd (omega (arith, eight, two))
+]
 
 -- what holds of a book for what was told holds for the words
 pub told_for : {B : Type 0} (P : DaemonSettings → B → Type 0) (o : Option Serve) (s : Serve) (told : DaemonSettings) (book : Option B) → o ≡ Some s → told ≡ told_by s

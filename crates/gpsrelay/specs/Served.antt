@@ -9,7 +9,8 @@ use Rattle.gps_world.specs.declared.place.Place.{Place}
 use Rattle.gps_world.specs.declared.place.Place.TheVariants as place
 use Rattle.serve_end_parts.specs.declared.done.DeviceDone.{DeviceDone}
 use Rattle.serve_end_settling.specs.Runs.{SourceFacts}
-use Rattle.gps_serve.specs.AtEnd.{BytesHeld, EdgesHeld, DaemonSettings}
+use Rattle.gps_serve.specs.AtEnd.{DaemonSettings}
+use Rattle.gps_serve.specs.Served.{BytesHeld, EdgesHeld}
 use Rattle.world_opening.specs.Opening.{AsksAll, AsksSome, GivenOnce, places_in}
 
 abbrev pub place_of : Input → Place

@@ -8,9 +8,10 @@ ghost use Rattle.world_opening.specs.Opening.{dial_of, places_in};
 ghost use Rattle.serve_end_parts.specs.Plans.{IsPlan};
 ghost use Rattle.serve_end_settling.specs.Failing.{DeviceFailed, SomeFailed, SourceFailed};
 ghost use Rattle.serve_end_settling.specs.Runs.{source_facts};
-ghost use Rattle.gps_serve.specs.AtEnd.{AtEnd, gate_facts, sink_facts, settings_in};
-ghost use Rattle.gps_serve.specs.Lost.{NoneLost};
-ghost use Rattle.gps_serve.specs.Statuses.{AllEnded, WasLostByFault};
+ghost use Rattle.gps_serve.specs.AtEnd.{AtEnd, handed_back, settings_in, start_in};
+ghost use Rattle.gps_serve.specs.Facts.{world_facts};
+ghost use Rattle.gps_serve.specs.Lost.{NoneLost, ReadersHadMemory};
+ghost use Rattle.gps_serve.specs.Statuses.{AllEnded, TellsNoFault, WasLostByFault};
 ghost use Rattle.gps_serve.specs.Whole.{IsWhole};
 ghost use Rattle.gpsrelay.specs.Served.{AsksFor, AsksWhole, HaveEdges, HeldBehind, edge_place_of, place_of, places_of, told_by};
 
@@ -101,13 +102,15 @@ fn plan_of(alloc: Global, options: ServeOptions) -> Result<Plan, NoMemory>
 }
 
 /// What is handed back where nothing was served.
-#[tactic(auto, using(gps_serve::proofs::First::no_devices, gps_serve::proofs::Causes::no_gate))]
+#[tactic(auto, using(gps_serve::proofs::First::no_devices, gps_serve::proofs::First::none_tell, gps_serve::proofs::HadMemory::none_read, gps_serve::proofs::Causes::no_gate))]
 fn nothing<W: World, R: Wait + Copy>(alloc: Global, world: W, status: u8) -> Served<W, R>
     ensures status { result.status ≡ status }
     ensures book { result.book ≡ None }
     ensures world { result.world ≡ world }
     ensures devices { result.devices.items ≡ [] }
     ensures first { SomeFailed WasLostByFault result.devices.items → result.status ≡ 3 }
+    ensures untold { (result.status ≡ 3) ⊎ All TellsNoFault result.devices.items }
+    ensures readers { ReadersHadMemory result.devices.items result.sessions.items }
     ensures door { SourceFailed W.Gate.faults result.gate → (result.status ≡ 3) ⊎ (result.status ≡ 8) }
     ensures lacks { result.status ≡ 7 → result.no_memory ≡ true }
 {
@@ -134,7 +137,7 @@ fn nothing<W: World, R: Wait + Copy>(alloc: Global, world: W, status: u8) -> Ser
 /// - 7: out of memory.
 ///
 /// If several hold, the first of 3, 8 and 7 is given.
-#[tactic(auto, using(crate::proofs::Serving::asks_nothing, crate::proofs::Serving::asks_for))]
+#[tactic(auto, using(crate::proofs::Serving::asks_nothing))]
 pub fn serve_main<W: World, R: Threads + Wait + Copy + Send + Sync>(
     rt: R,
     alloc: Global,
@@ -150,23 +153,23 @@ pub fn serve_main<W: World, R: Threads + Wait + Copy + Send + Sync>(
     ensures eight { result.status ≡ 8 → SourceFailed W.Gate.faults result.gate ⊎ Rose (W.listen_faults world) (W.listen_faults result.world) }
     ensures seven { result.status ≡ 7 → result.no_memory ≡ true }
     ensures first { SomeFailed WasLostByFault result.devices.items → result.status ≡ 3 }
+    ensures untold { (result.status ≡ 3) ⊎ All TellsNoFault result.devices.items }
     ensures door { SourceFailed W.Gate.faults result.gate → (result.status ≡ 3) ⊎ (result.status ≡ 8) }
     ensures zero { result.status ≡ 0 → (result.no_memory ≡ false) × IsSome result.book }
     ensures ended { result.status ≡ 0 → AllEnded result.devices.items }
     ensures lacks { result.no_memory ≡ false → IfSome result.book (λ book. NoneLost book result.devices.items) }
+    ensures readers { result.no_memory ≡ false → ReadersHadMemory result.devices.items result.sessions.items }
     ensures none { result.book ≡ None → (result.status ≡ 2) ⊎ ((result.status ≡ 3) × Rose (W.input_faults world) (W.input_faults result.world))
         ⊎ ((result.status ≡ 8) × Rose (W.listen_faults world) (W.listen_faults result.world)) ⊎ (result.status ≡ 7) }
     ensures asked { AsksFor (serve_asked_of (map string_bytes words.now)) (W.asked result.world) }
     ensures all_asked { IsSome result.book → IfSome (serve_asked_of (map string_bytes words.now)) (AsksWhole (W.asked result.world)) }
     ensures edges { IsSome result.book → IfSome (serve_asked_of (map string_bytes words.now)) (HaveEdges result.devices.items) }
-    ensures whole { IsSome result.book → All (IsWhole (dial_of (W.stamps world)) (source_facts W.In.content W.In.faults W.In.quiets)) result.devices.items }
+    ensures whole { IsSome result.book → All (IsWhole (dial_of (W.stamps world)) (source_facts W.In.Source)) result.devices.items }
     ensures held { IsSome result.book
-        → IfSome (serve_asked_of (map string_bytes words.now)) (HeldBehind (W.behind world) (source_facts W.In.content W.In.faults W.In.quiets)
+        → IfSome (serve_asked_of (map string_bytes words.now)) (HeldBehind (W.behind world) (source_facts W.In.Source)
         result.devices.items) }
     ensures at_end { IfSome result.book (λ book. IfSome (serve_asked_of (map string_bytes words.now))
-        (λ s. AtEnd (told_by s) (dial_of (W.stamps world)) (source_facts W.In.content W.In.faults W.In.quiets) (sink_facts W.Out.written W.Out.faults)
-        (gate_facts W.Gate.links W.Gate.faults W.Gate.quiets) (W.links world) result.full result.no_memory book
-        result.devices.items result.sessions.items result.monitors.items result.gate)) }
+        (λ s. AtEnd (start_in W.World (told_by s) world) (world_facts W.In.Source W.Out.Sink W.Gate.Door) (handed_back result) book)) }
 {
     match serve_asked(alloc, words) {
         Ok(options) => match plan_of(alloc, options) {

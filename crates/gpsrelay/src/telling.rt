@@ -10,7 +10,7 @@ use crate::telling_door::TellingDoor;
 use crate::telling_source::TellingSource;
 use gps_fixed::Bytes;
 use gps_outside::{LinkSink, RealClock};
-use gps_world::{Opened, Place, RealWorld, World};
+use gps_world::{HeldPipes, Opened, Place, RealWorld, World};
 use std::alloc::Global;
 use std::fs::File;
 use std::io::Eprint;
@@ -130,5 +130,9 @@ where
 
     fn clock(&mut self) -> RealClock<R> {
         self.world.clock()
+    }
+
+    fn wake_readers(&self) -> Option<HeldPipes> {
+        self.world.wake_readers()
     }
 }

@@ -2,6 +2,7 @@
 use Rattle.std.specs.Prelude.{◌≡◌, ◌<◌, ℕ, List, [], ◌∷◌, Option, Some, None}
 use Rattle.gps_fixed.specs.Moment.{Moment}
 use Rattle.gps_lane.specs.Ends.{Putting}
+use Rattle.gps_outside.specs.declared.source.Source.{Ghosts as SourceGhosts}
 use Rattle.gps_outside.specs.Told.{Stream}
 use Rattle.serve_pieces.specs.Carried.{device_part}
 use Rattle.serve_pieces.specs.declared.piece.Ending.TheVariants.{Failed}
@@ -17,8 +18,8 @@ pub record SourceFacts (S : Type 0) : Type 0 where
   pub faults : S → ℕ
   pub quiets : S → ℕ
 
-abbrev pub source_facts : {S : Type 0} → (S → Option Stream) → (S → ℕ) → (S → ℕ) → SourceFacts S
-source_facts content faults quiets = record { content = content; faults = faults; quiets = quiets }
+abbrev pub source_facts : {S : Type 0} → SourceGhosts S → SourceFacts S
+source_facts source = record { content = source.content; faults = source.faults; quiets = source.quiets }
 
 -- what a reader begins with: its source, and its end of the lane
 pub record ReaderStart (S : Type 0) : Type 0 where

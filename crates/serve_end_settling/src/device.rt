@@ -104,7 +104,7 @@ pub fn device_done<S: Source, R: Wait + Copy>(
     ensures edges_tx { result.edges_tx ≡ tx_of run.edges }
     ensures bytes_rx { Settles run.bytes.pieces bytes result.bytes_rx }
     ensures edges_rx { SettlesSome (tx_of run.edges) edges result.edges_rx }
-    ensures one_more { (may : Option (List Moment)) (start : ReaderStarts S) → Ran may (source_facts S.content S.faults S.quiets) start run → StartsEmpty start
+    ensures one_more { (may : Option (List Moment)) (start : ReaderStarts S) → Ran may (source_facts S.Source) start run → StartsEmpty start
         → OneMoreOfEach (lanes bytes edges) (lanes result.bytes_rx result.edges_rx) }
     ensures end { result.end ≡ end }
 {

@@ -6,7 +6,7 @@ use gps_lane::{Bell, Pushed, Tx};
 use serve_pieces::{Ending, Piece};
 use std::sync::Wait;
 
-/// Puts a piece, and waits for room where the lane is full, until it is told to end; then the piece is dropped.
+/// Puts a piece, and waits for room where the lane is full. Once it is told to end, the piece is dropped.
 pub(crate) fn put<R: Wait + Copy>(
     rt: &R,
     pieces: &mut Tx<Piece, R>,
@@ -18,13 +18,12 @@ pub(crate) fn put<R: Wait + Copy>(
 {
     let mut next = piece;
     for _ in rt.forever() {
-        let closed = own.is_closed();
+        if own.is_closed() {
+            return false;
+        }
         match pieces.push(next) {
             Pushed::Done => return true,
             Pushed::Full(back) => {
-                if closed {
-                    return false;
-                }
                 next = back;
                 own.wait(rt);
             }

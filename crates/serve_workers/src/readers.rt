@@ -174,7 +174,7 @@ fn read_closed<S: Source>(source: &mut S) -> Ending
 
 /// Reads a device to its end. Each read that gives bytes makes a piece of them, with the clock's stamp; the last piece
 /// tells how the source ended. None: it was told to end before that was put, by its own bell, which was closed before a read
-/// that gave nothing, or at a full lane.
+/// that gave nothing, or before a piece was put; that piece is dropped.
 ///
 /// A reader that reads nothing tells that it was out of memory, and does not wait.
 ///

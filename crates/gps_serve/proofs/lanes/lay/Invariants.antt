@@ -14,7 +14,7 @@ invariant-devices g l = record {
   sources : sources_at l.starts.items ++ into_iter_items l.source-iterator ≡ l.fn.inputs.items;
   edge_sources : edges_at l.starts.items ++ into_iter_items l.edges ≡ l.fn.edges.items;
   left : length (into_iter_items l.edges) ≡ length (into_iter_items l.source-iterator);
-  fresh : AllZip (IsFreshDevice (source_facts g.S.Source.content g.S.Source.faults g.S.Source.quiets)) l.starts.items l.inlets.items;
+  fresh : AllZip (IsFreshDevice (source_facts g.S.Source)) l.starts.items l.inlets.items;
   starts_room : vec_len l.starts + length (into_iter_items l.source-iterator) ≤ vec_capacity l.starts;
   inlets_room : vec_len l.inlets + length (into_iter_items l.source-iterator) ≤ vec_capacity l.inlets;
   count : length l.inlets.items + length (into_iter_items l.source-iterator) ≡ length l.fn.inputs.items;

@@ -8,7 +8,7 @@ use Rattle.gps_serve.proofs.scope.join_devices.Given as goal
 
 abbrev pub invariant-works : goal.invariant-works
 invariant-works g l = record {
-  so_far : RanSoFar (JoinsDevice g.D.Dials.may (source_facts g.S.Source.content g.S.Source.faults g.S.Source.quiets)) l.fn.works.items (into_iter_items l.work-iterator) l.runs.items;
+  so_far : RanSoFar (JoinsDevice g.D.Dials.may (source_facts g.S.Source)) l.fn.works.items (into_iter_items l.work-iterator) l.runs.items;
   causes : EachRun (RunCause g.S.Source.faults) l.runs.items;
   count : vec_len l.runs + length (into_iter_items l.work-iterator) ≡ vec_len l.fn.works;
   room : vec_len l.fn.works ≤ vec_capacity l.runs;

@@ -1,17 +1,19 @@
-use Rattle.std.proofs.Common.{◌≤◌, length, Some, refl, sym, ◌∙◌, ap, subst, arith}
-use Rattle.std.specs.List.{All, list_all}
+use Rattle.std.proofs.Common.{◌≡◌, ◌≤◌, false, length, Some, refl, sym, ◌∙◌, ap, subst, arith}
+use Rattle.std.specs.List.{All, list_all, list_any}
 use Rattle.hub_promise.specs.Given.{is_end}
 use Rattle.hub_promise.specs.Keeping.{IsClosed}
 use Rattle.serve_end_settling.specs.Runs.{source_facts}
-use Rattle.gps_serve.specs.AtEnd.{gate_facts, sink_facts}
-use Rattle.gps_serve.specs.Lost.{IsNotLost}
+use Rattle.gps_serve.specs.AtEnd.{back_with, settings_of, start_with}
+use Rattle.gps_serve.specs.Facts.{sink_facts, world_facts}
+use Rattle.gps_serve.specs.Lost.{IsNotLost, link_lacks, run_lacks}
 use Rattle.gps_serve.specs.Statuses.{EachWhole, HasStopped}
 use Rattle.gps_serve.specs.Units.{AreAtRest}
 use Rattle.gps_serve.proofs.Causes.{door_first}
 use Rattle.gps_serve.proofs.Gates.{gate_served, none_lost_in}
 use Rattle.report_book.specs.BookView.{BookView}
 use Rattle.gps_serve.proofs.Ends.{all_ended_by, at_end_of, devices_by, ends_count, monitors_by, not_lacked, units_few}
-use Rattle.gps_serve.proofs.First.{first_of}
+use Rattle.gps_serve.proofs.First.{first_of, three_or_untold}
+use Rattle.gps_serve.proofs.HadMemory.{devices_had, sessions_had}
 use Rattle.gps_serve.proofs.Sessions.{sessions_ready}
 use Rattle.gps_serve.proofs.Whole.{whole_at_end}
 use Rattle.gps_serve.proofs.served.gather.Goals as goal
@@ -57,21 +59,22 @@ returns-clause-lacks g c e =
 
 pub returns-clause-at_end : goal.returns-clause-at_end
 returns-clause-at_end g c =
-    let sources = source_facts g.W.In.Source.content g.W.In.Source.faults g.W.In.Source.quiets in
-    let sinks = sink_facts g.W.Out.Sink.written g.W.Out.Sink.faults in
-    let gates = gate_facts g.W.Gate.Door.links g.W.Gate.Door.faults g.W.Gate.Door.quiets in
+    let facts = world_facts g.W.In.Source g.W.Out.Sink g.W.Gate.Door in
     let door = c.args.ended.door in
+    let links = g.W.Gate.Door.links c.args.first.value in
     let whole = not_lacked c.lacked-no_memory.result _ c.lacks.result c.lacks.ensures in
-    at_end_of g.J.HubNaming.terms c.args.numbers.queue c.args.numbers.tries g.D.Dials.may sources sinks gates (g.W.Gate.Door.links c.args.first.value) door.full
-    c.lacked-no_memory.result c.lacks.result door.seat c.requires.tended.links door.gate c.part-book.result.book _ _ _ c.part-book.result.sessions.items _ _ _ _
+    at_end_of g.J.HubNaming.terms c.args.numbers.queue c.args.numbers.tries g.D.Dials.may links facts
+    (back_with c.devices_done-devices.result.devices.items c.sessions_done-sessions.result.items c.monitors_done-monitors.result.items (Some door.gate) door.full
+    c.lacks.result)
+    c.lacked-no_memory.result door.seat c.requires.tended.links door.gate c.part-book.result.book _ _ _ c.part-book.result.sessions.items _
     c.part-book.ensures.terms c.part-book.ensures.agrees c.part-book.ensures.sessions c.requires.tended.seated.lanes c.show.ensures.units
     (subst (λ (x : BookView). AreAtRest (length g.J.HubNaming.terms.segments) x.units) (sym c.part-book.ensures.same.0) c.requires.rest)
     c.requires.from
     (subst (λ (x : BookView). All IsClosed x.sessions) (sym c.part-book.ensures.same.0) c.requires.closed)
     (subst (All HasStopped) (sym c.part-book.ensures.same.1) c.requires.stopped)
     c.devices_done-devices.ensures.served c.devices_done-devices.ensures.ends c.sessions_done-sessions.ensures.book
-    c.sessions_done-sessions.ensures.served c.monitors_done-monitors.ensures.book c.monitors_done-monitors.ensures.served c.monitors_done-monitors.ensures.numbers whole
-    (gate_served sources sinks gates c.args.numbers.queue (g.W.Gate.Door.links c.args.first.value) door.gate door.full door.no_memory c.lacks.result door.seat _ _
+    c.sessions_done-sessions.ensures.served c.monitors_done-monitors.ensures.book c.monitors_done-monitors.ensures.served c.monitors_done-monitors.ensures.numbers whole refl
+    (gate_served facts c.args.numbers.queue links door.gate door.full door.no_memory c.lacks.result door.seat _ _
     c.requires.tended c.sessions_done-sessions.ensures.links (λ e. c.lacked-no_memory.ensures.before (whole e)))
 
 pub returns-clause-three : goal.returns-clause-three
@@ -79,9 +82,31 @@ returns-clause-three g c e = c.devices_done-devices.ensures.failed (c.status.ens
 
 pub returns-clause-first : goal.returns-clause-first
 returns-clause-first g c =
-    let sources = source_facts g.W.In.Source.content g.W.In.Source.faults g.W.In.Source.quiets in
+    let sources = source_facts g.W.In.Source in
     first_of g.D.Dials.may sources _ _ _ c.status.ensures.three_first c.devices_done-devices.ensures.untold
-    (whole_at_end _ _ sources _ _ _ _ _ (Some _) _ _ _ _ (returns-clause-at_end g c) refl)
+    (whole_at_end (start_with (settings_of g.J.HubNaming.terms c.args.numbers.queue c.args.numbers.tries) g.D.Dials.may (g.W.Gate.Door.links c.args.first.value))
+    (world_facts g.W.In.Source g.W.Out.Sink g.W.Gate.Door)
+    (back_with c.devices_done-devices.result.devices.items c.sessions_done-sessions.result.items c.monitors_done-monitors.result.items
+    (Some c.args.ended.door.gate) c.args.ended.door.full c.lacks.result)
+    (Some _) (returns-clause-at_end g c) refl)
+
+pub returns-clause-untold : goal.returns-clause-untold
+returns-clause-untold g c = three_or_untold _ _ _ c.status.ensures.three_first c.devices_done-devices.ensures.untold
+
+pub returns-clause-readers : goal.returns-clause-readers
+returns-clause-readers g c e =
+    let none = not_lacked c.lacked-no_memory.result _ c.lacks.result c.lacks.ensures e in
+    let sources = source_facts g.W.In.Source in
+    let sinks = sink_facts g.W.Out.Sink in
+    record {
+      devices_had = devices_had g.D.Dials.may sources _ _ _
+          (devices_by _ _ g.J.HubNaming.terms c.part-book.result.book _ _ c.part-book.ensures.terms c.requires.ran) c.devices_done-devices.ensures.left
+          (subst (λ runs. list_any run_lacks runs ≡ false) c.as_slice.ensures.value (c.lacked-no_memory.ensures.runs none));
+      sessions_had = sessions_had sources sinks _ _ _ _
+          (sessions_ready _ _ c.args.numbers.queue _ _ c.args.ended.door.seat _ _ _ c.requires.tended c.part-book.ensures.sessions)
+          c.sessions_done-sessions.ensures.links
+          (subst (λ runs. list_any link_lacks runs ≡ false) c.as_slice-2.ensures.value (c.lacked-no_memory.ensures.links none));
+    }
 
 pub returns-clause-door : goal.returns-clause-door
 returns-clause-door g c =

@@ -3,7 +3,8 @@ use Rattle.std.specs.List.{AllZip}
 use Rattle.std.specs.Vec.{vec_len}
 use Rattle.hub_promise.specs.Parts.{Terms}
 use Rattle.serve_end_settling.specs.Runs.{source_facts}
-use Rattle.gps_serve.specs.AtEnd.{AtEnd, gate_facts, sink_facts, settings_of}
+use Rattle.gps_serve.specs.AtEnd.{AtEnd, handed_back, settings_of, start_with}
+use Rattle.gps_serve.specs.Facts.{world_facts}
 use Rattle.gps_serve.specs.Runs.{RanOn}
 use Rattle.gps_serve.specs.Units.{CountFromZero}
 use Rattle.gps_serve.proofs.Causes.{gate_sound}
@@ -49,17 +50,18 @@ gather-requires-clause-sound g c κs within =
 
 pub returns-clause-reads : goal.returns-clause-reads
 returns-clause-reads g c some =
-    let sources = source_facts g.W.In.Source.content g.W.In.Source.faults g.W.In.Source.quiets in
+    let sources = source_facts g.W.In.Source in
     let same : c.in-Ok-set_up.setup.starts.items ≡ c.args.ground.lanes.starts.items = cc c.in-Ok-set_up.ensures.starts in
     devices_read sources g.D.Dials.may _ _ _ _ c.requires.fresh
     (subst (λ starts. AllZip (RanOn g.D.Dials.may sources) starts c.in-Some.ended.runs.items) same c.in-Some.ensures.ran)
     c.gather.ensures.left
-    (whole_at_end _ _ sources _ _ _ _ _ c.gather.result.book _ _ _ _ c.gather.ensures.at_end some)
+    (whole_at_end
+    (start_with (settings_of g.J.HubNaming.terms c.args.numbers.queue c.args.numbers.tries) g.D.Dials.may (g.W.Gate.Door.links c.of-first.result.value))
+    (world_facts g.W.In.Source g.W.Out.Sink g.W.Gate.Door) (handed_back c.gather.result) c.gather.result.book c.gather.ensures.at_end some)
 
 pub returns-clause-at_end : goal.returns-clause-at_end
 returns-clause-at_end g c =
-    subst (λ x. IfSome c.gather.result.book (λ book. AtEnd (settings_of g.J.HubNaming.terms c.args.numbers.queue c.args.numbers.tries) g.D.Dials.may
-    (source_facts g.W.In.Source.content g.W.In.Source.faults g.W.In.Source.quiets) (sink_facts g.W.Out.Sink.written g.W.Out.Sink.faults)
-    (gate_facts g.W.Gate.Door.links g.W.Gate.Door.faults g.W.Gate.Door.quiets) (g.W.Gate.Door.links x) c.gather.result.full c.gather.result.no_memory book
-    c.gather.result.devices.items c.gather.result.sessions.items c.gather.result.monitors.items c.gather.result.gate))
+    let settings = settings_of g.J.HubNaming.terms c.args.numbers.queue c.args.numbers.tries in
+    subst (λ x. IfSome c.gather.result.book (AtEnd (start_with settings g.D.Dials.may (g.W.Gate.Door.links x))
+    (world_facts g.W.In.Source g.W.Out.Sink g.W.Gate.Door) (handed_back c.gather.result)))
     c.of-first.ensures c.gather.ensures.at_end

@@ -1,7 +1,8 @@
 use Rattle.std.proofs.Common.{◌++◌, ◌∙◌, Ok, Err, ap, is_some, map, arith}
 use Rattle.world_opening.specs.Opening.{places_in}
 use Rattle.serve_end_settling.specs.Runs.{source_facts}
-use Rattle.gps_serve.specs.AtEnd.{gate_facts, sink_facts}
+use Rattle.gps_serve.specs.AtEnd.{handed_back, settings_in, start_in}
+use Rattle.gps_serve.specs.Facts.{world_facts}
 use Rattle.gps_serve.proofs.Taking.{bytes_held, edges_held, edges_there}
 use Rattle.gps_serve.proofs.Asked.{few_of, some_of, still_asked}
 use Rattle.gps_serve.proofs.Causes.{none_of}
@@ -21,21 +22,19 @@ returns-in-Err-clause-asked g c =
 
 pub returns-in-Ok-prepare-clause-at_end : goal.returns-in-Ok-prepare-clause-at_end
 returns-in-Ok-prepare-clause-at_end g c =
-    told_again (source_facts g.W.In.Source.content g.W.In.Source.faults g.W.In.Source.quiets) (sink_facts g.W.Out.Sink.written g.W.Out.Sink.faults)
-    (gate_facts g.W.Gate.Door.links g.W.Gate.Door.faults g.W.Gate.Door.quiets) c.run.result.full c.run.result.no_memory
-    c.run.result.book c.run.result.devices.items c.run.result.sessions.items c.run.result.monitors.items c.run.result.gate c.in-Ok-prepare.ground.book
+    told_again (world_facts g.W.In.Source g.W.Out.Sink g.W.Gate.Door) (handed_back c.run.result) c.run.result.book c.in-Ok-prepare.ground.book
     c.in-Ok-prepare.ground.lanes.inlets.items c.args.plan (g.W.World.stamps c.args.world) (g.W.Now.Clock.stamps c.in-Ok.outside.clock)
     (g.W.World.links c.args.world) (g.W.Gate.Door.links c.in-Ok.outside.gate) c.in-Ok-prepare.ensures.names c.in-Ok-prepare.ensures.limit
     c.in-Ok.ensures.stamps c.in-Ok.ensures.links c.run.ensures.at_end
 
 pub returns-in-Ok-prepare-clause-whole : goal.returns-in-Ok-prepare-clause-whole
 returns-in-Ok-prepare-clause-whole g c some =
-    whole_at_end _ _ (source_facts g.W.In.Source.content g.W.In.Source.faults g.W.In.Source.quiets) _ _ _ _ _ c.run.result.book _ _ _ _
-    (returns-in-Ok-prepare-clause-at_end g c) some
+    whole_at_end (start_in g.W.World (settings_in c.args.plan) c.args.world) (world_facts g.W.In.Source g.W.Out.Sink g.W.Gate.Door) (handed_back c.run.result)
+    c.run.result.book (returns-in-Ok-prepare-clause-at_end g c) some
 
 pub returns-in-Ok-prepare-clause-held : goal.returns-in-Ok-prepare-clause-held
 returns-in-Ok-prepare-clause-held g c once some =
-    let facts = source_facts g.W.In.Source.content g.W.In.Source.faults g.W.In.Source.quiets in
+    let facts = source_facts g.W.In.Source in
     let held = c.in-Ok.ensures.held once in
     let reads = c.run.ensures.reads some in (
       bytes_held facts (g.W.World.behind c.args.world) c.args.plan.inputs.items c.in-Ok.outside.inputs.items c.in-Ok-prepare.ground.lanes.starts.items
@@ -46,7 +45,7 @@ returns-in-Ok-prepare-clause-held g c once some =
 
 pub returns-in-Ok-prepare-clause-edges : goal.returns-in-Ok-prepare-clause-edges
 returns-in-Ok-prepare-clause-edges g c some =
-    edges_there (source_facts g.W.In.Source.content g.W.In.Source.faults g.W.In.Source.quiets) c.in-Ok-prepare.ground.lanes.starts.items c.run.result.devices.items
+    edges_there (source_facts g.W.In.Source) c.in-Ok-prepare.ground.lanes.starts.items c.run.result.devices.items
     (c.run.ensures.reads some)
     ∙ ap (map is_some) c.in-Ok-prepare.ensures.edge_sources ∙ c.in-Ok.ensures.pairs
 

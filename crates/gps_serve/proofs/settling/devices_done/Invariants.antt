@@ -11,7 +11,7 @@ use Rattle.gps_serve.proofs.settling.devices_done.Given as goal
 
 abbrev pub invariant-devices : goal.invariant-devices
 invariant-devices g l = record {
-  so_far : DevicesSoFar g.D.Dials.may (source_facts g.S.Source.content g.S.Source.faults g.S.Source.quiets) l.fn.inlets.items (into_iter_items l.inlets)
+  so_far : DevicesSoFar g.D.Dials.may (source_facts g.S.Source) l.fn.inlets.items (into_iter_items l.inlets)
       (into_iter_items l.run-iterator) l.devices.items;
   left_of : RanSoFar IsLeftOf l.fn.runs.items (into_iter_items l.run-iterator) l.devices.items;
   causes : EachRun (RunCause g.S.Source.faults) (into_iter_items l.run-iterator);

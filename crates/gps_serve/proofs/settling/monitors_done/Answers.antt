@@ -2,7 +2,7 @@ use Rattle.std.proofs.Common.{refl, ◌∙◌, length, map, sym, ap, subst, arit
 use Rattle.std.specs.List.{AllZip}
 use Rattle.report_book.specs.BookView.{BookView}
 use Rattle.serve_end_parts.specs.declared.done.MonitorDone.{MonitorDone}
-use Rattle.gps_serve.specs.AtEnd.{MonitorServed, watched_units}
+use Rattle.gps_serve.specs.Served.{MonitorServed, watched_units}
 use Rattle.gps_serve.proofs.Monitors.{few_monitors, monitors_all, monitors_begin, monitors_count, next_monitor, next_served, numbers_all, numbers_more, same_book, some_left}
 use Rattle.gps_serve.proofs.settling.monitors_done.Goals as goal
 

@@ -1,17 +1,18 @@
 use Rattle.serve_end_settling.specs.Runs.{source_facts}
-use Rattle.gps_serve.specs.AtEnd.{sink_facts}
+use Rattle.gps_serve.specs.Facts.{sink_facts}
 use Rattle.gps_serve.proofs.Sessions.{input_lane_at, input_served_at}
 use Rattle.gps_serve.proofs.settling.settled.Goals as goal
 
 pub session_done-requires-clause-input : goal.session_done-requires-clause-input
 session_done-requires-clause-input g c =
-    input_lane_at (source_facts g.S.Source.content g.S.Source.faults g.S.Source.quiets) (sink_facts g.K.Sink.written g.K.Sink.faults) c.args.book.now.sessions c.args.number
+    input_lane_at (source_facts g.S.Source) (sink_facts g.K.Sink) c.args.book.now.sessions c.args.number
     c.args.input c.args.run c.requires.there c.requires.ready
 
 pub returns-clause-link : goal.returns-clause-link
-returns-clause-link g c = record { source = c.session_done.ensures.source; sink = c.session_done.ensures.wrote }
+returns-clause-link g c =
+    record { source = c.session_done.ensures.source; input = c.session_done.ensures.input_tx; sink = c.session_done.ensures.wrote }
 
 pub returns-clause-input : goal.returns-clause-input
 returns-clause-input g c =
-    input_served_at (source_facts g.S.Source.content g.S.Source.faults g.S.Source.quiets) (sink_facts g.K.Sink.written g.K.Sink.faults) c.args.book.now.sessions c.args.number
+    input_served_at (source_facts g.S.Source) (sink_facts g.K.Sink) c.args.book.now.sessions c.args.number
     c.args.input c.args.run c.session_done.result c.requires.there c.requires.ready c.session_done.ensures.source c.session_done.ensures.input_tx c.session_done.ensures.input_rx

@@ -1,20 +1,28 @@
 use Rattle.std.proofs.Common.{inr}
 use Rattle.gps_words.specs.Serve.{shown}
 use Rattle.report_book.specs.BookView.{BookView}
-use Rattle.world_opening.specs.Opening.{dial_of}
 use Rattle.serve_end_settling.specs.Runs.{source_facts}
-use Rattle.gps_serve.specs.AtEnd.{AtEnd, DaemonSettings, gate_facts, sink_facts, settings_in}
+use Rattle.gps_serve.specs.AtEnd.{AtEnd, DaemonSettings, handed_back, settings_in, start_in}
+use Rattle.gps_serve.specs.Facts.{world_facts}
 use Rattle.gpsrelay.specs.Served.{AsksWhole, HaveEdges, HeldBehind}
-use Rattle.gpsrelay.proofs.Serving.{asks_whole, for_words, have_edges, held_behind, told_for}
+use Rattle.gpsrelay.proofs.Serving.{asks_for, asks_whole, for_words, have_edges, held_behind, not_two, one_of_command, told_for}
 use Rattle.gpsrelay.proofs.serve.serve_main.Goals as goal
 
 pub returns-in-Ok-plan_of-clause-at_end : goal.returns-in-Ok-plan_of-clause-at_end
 returns-in-Ok-plan_of-clause-at_end g c =
-    told_for (λ (told : DaemonSettings) (book : BookView). AtEnd told (dial_of (g.W.World.stamps c.args.world))
-    (source_facts g.W.In.Source.content g.W.In.Source.faults g.W.In.Source.quiets) (sink_facts g.W.Out.Sink.written g.W.Out.Sink.faults)
-    (gate_facts g.W.Gate.Door.links g.W.Gate.Door.faults g.W.Gate.Door.quiets) (g.W.World.links c.args.world) c.serve.result.full c.serve.result.no_memory book
-    c.serve.result.devices.items c.serve.result.sessions.items c.serve.result.monitors.items c.serve.result.gate)
+    told_for (λ (told : DaemonSettings) (book : BookView). AtEnd (start_in g.W.World told c.args.world)
+    (world_facts g.W.In.Source g.W.Out.Sink g.W.Gate.Door) (handed_back c.serve.result) book)
     _ (shown c.in-Ok.options) (settings_in c.in-Ok-plan_of.plan) c.serve.result.book c.in-Ok.ensures.ok c.in-Ok-plan_of.ensures.told c.serve.ensures.at_end
+
+pub returns-in-Ok-plan_of-clause-range : goal.returns-in-Ok-plan_of-clause-range
+returns-in-Ok-plan_of-clause-range g c = one_of_command c.serve.result.status c.serve.ensures.range
+
+pub returns-in-Ok-plan_of-clause-only : goal.returns-in-Ok-plan_of-clause-only
+returns-in-Ok-plan_of-clause-only g c two = not_two c.serve.result.status c.serve.ensures.range two
+
+pub returns-in-Ok-plan_of-clause-asked : goal.returns-in-Ok-plan_of-clause-asked
+returns-in-Ok-plan_of-clause-asked g c =
+    asks_for _ (shown c.in-Ok.options) _ _ _ c.in-Ok.ensures.ok c.in-Ok-plan_of.ensures.places c.in-Ok-plan_of.ensures.listen c.serve.ensures.asked
 
 pub returns-in-Ok-plan_of-clause-none : goal.returns-in-Ok-plan_of-clause-none
 returns-in-Ok-plan_of-clause-none g c none = inr (c.serve.ensures.none none)
@@ -31,7 +39,7 @@ returns-in-Ok-plan_of-clause-edges g c some =
 
 pub returns-in-Ok-plan_of-clause-held : goal.returns-in-Ok-plan_of-clause-held
 returns-in-Ok-plan_of-clause-held g c some =
-    let facts = source_facts g.W.In.Source.content g.W.In.Source.faults g.W.In.Source.quiets in
+    let facts = source_facts g.W.In.Source in
     for_words (HeldBehind (g.W.World.behind c.args.world) facts c.serve.result.devices.items) _ (shown c.in-Ok.options) c.in-Ok.ensures.ok
     (held_behind (g.W.World.behind c.args.world) facts c.serve.result.devices.items (shown c.in-Ok.options) _ _ c.in-Ok-plan_of.ensures.inputs c.in-Ok-plan_of.ensures.edges
     (λ once. c.serve.ensures.held once some))

@@ -1,0 +1,109 @@
+-- Unless the daemon was out of memory, no lane tells of a reader that was.
+use Rattle.std.proofs.Common.{◌≡◌, ℕ, ◌||◌, true, false, zero, suc, List, [], ◌∷◌, Option, Some, None, option_map, sym, ◌∙◌, ap, subst, arith}
+use Rattle.std.specs.List.{All, AllZip, list_any}
+use Rattle.gps_fixed.specs.Moment.{Moment}
+use Rattle.book_sessions.specs.MemberView.{MemberView}
+use Rattle.gps_lane.specs.Ends.{Putting, Taking}
+use Rattle.hub_promise.specs.Given.{ending_of}
+use Rattle.hub_promise.specs.Parts.{InletsView}
+use Rattle.serve_end_parts.specs.declared.done.DeviceDone.{DeviceDone}
+use Rattle.serve_end_parts.specs.declared.done.SessionDone.{SessionDone}
+use Rattle.serve_pieces.specs.declared.piece.Ending.{Ending}
+use Rattle.serve_pieces.specs.declared.piece.Ending.TheVariants.{NoMemory}
+use Rattle.serve_pieces.specs.declared.piece.Piece.{Piece}
+use Rattle.serve_threads.specs.declared.reading.ReaderDone.{ReaderDone}
+use Rattle.serve_threads.specs.declared.session.LinkDone.{LinkDone}
+use Rattle.serve_end_settling.specs.declared.device.DeviceRun.{DeviceRun}
+use Rattle.serve_end_settling.specs.Lanes.{tx_of}
+use Rattle.serve_end_settling.specs.Runs.{EdgesRan, SourceFacts}
+use Rattle.gps_serve.specs.declared.starts.EdgeStart.{EdgeStart}
+use Rattle.gps_serve.specs.Facts.{SinkFacts}
+use Rattle.gps_serve.specs.Lost.{DeviceHadMemory, ReadersHadMemory, SessionHadMemory, TellsShort, is_short, lines_lack, link_lacks, run_lacks}
+use Rattle.gps_serve.specs.Readies.{AreReady, IsLeftOfLink, SessionReady}
+use Rattle.gps_serve.specs.Runs.{DeviceReady, IsLeftOf}
+use Rattle.gps_serve.specs.Starts.{IsFreshEdge, edge_start_of}
+use Rattle.gps_serve.proofs.Lost.{neither}
+use Rattle.gps_serve.proofs.Whole.{bytes_told, input_told, lines_told}
+
+-- a reader that had memory did not end out of memory
+not_short : (ending : Option Ending) → is_short ending ≡ false → ending ≡ Some NoMemory → ⊥
+not_short ending had is =
+    let so : is_short ending ≡ true = ap is_short is in
+    absurd (cc (so, had))
+
+bytes_had : {S R : Type 0} (may : Option (List Moment)) (facts : SourceFacts S) (x : InletsView) (run : DeviceRun S R) → DeviceReady may facts x run
+    → is_short run.bytes.ending ≡ false → ending_of run.bytes.pieces.put ≡ Some NoMemory → ⊥
+bytes_had may facts x run ready had tells =
+    let start = ready.start in
+    not_short run.bytes.ending had
+    (sym (bytes_told may run.bytes.ending start.bytes.put run.bytes.pieces.put (facts.content start.source) (facts.content run.bytes.source)
+    ready.ran.bytes.hands ready.fresh.bytes.put)
+    ∙ tells)
+
+lines_had : {S R : Type 0} (facts : SourceFacts S) (start : Option (EdgeStart S R)) (first : Option (Taking Piece)) (reader : Option (ReaderDone S R))
+    → IsFreshEdge facts start first → EdgesRan facts (option_map edge_start_of start) reader → lines_lack reader ≡ false → TellsShort (tx_of reader) → ⊥
+lines_had facts start first None fresh ran had tells = absurd tells
+lines_had facts None first (Some reader) fresh ran had tells = absurd ran
+lines_had facts (Some start) None (Some reader) fresh ran had tells = absurd fresh
+lines_had facts (Some start) (Some first) (Some reader) fresh ran had tells =
+    not_short reader.ending had
+    (sym (lines_told reader.ending start.lines.put reader.pieces.put (facts.content start.source) (facts.content reader.source) ran.hands fresh.0.put) ∙ tells)
+
+device_had : {S R : Type 0} (may : Option (List Moment)) (facts : SourceFacts S) (x : InletsView) (run : DeviceRun S R) (device : DeviceDone S R)
+    → DeviceReady may facts x run → IsLeftOf run device → run_lacks run ≡ false → DeviceHadMemory device
+device_had may facts x run device ready left none =
+    let had = neither (is_short run.bytes.ending) (lines_lack run.edges) none in
+    record {
+      bytes = λ (tells : ending_of device.bytes_tx.put ≡ Some NoMemory).
+          let same : ending_of run.bytes.pieces.put ≡ ending_of device.bytes_tx.put = ap (λ (tx : Putting Piece). ending_of tx.put) (sym left.bytes_tx) in
+          bytes_had may facts x run ready had.0 (same ∙ tells);
+      edges = λ (tells : TellsShort device.edges_tx).
+          lines_had facts ready.start.edges ready.first.edges run.edges ready.fresh.edges ready.ran.edges had.1 (subst TellsShort left.edges_tx tells);
+    }
+
+pub devices_had : {S R : Type 0} (may : Option (List Moment)) (facts : SourceFacts S) (inlets : List InletsView) (runs : List (DeviceRun S R))
+    (devices : List (DeviceDone S R)) → AllZip (DeviceReady may facts) inlets runs → AllZip IsLeftOf runs devices → list_any run_lacks runs ≡ false
+    → All DeviceHadMemory devices
+devices_had may facts inlets runs [] ready left none k d there = absurd (omega arith)
+devices_had may facts inlets [] (device ∷ devices) ready left none k d there = absurd left
+devices_had may facts [] (run ∷ runs) (device ∷ devices) ready left none k d there = absurd ready
+devices_had may facts (x ∷ inlets) (run ∷ runs) (device ∷ devices) ready left none zero d there =
+    device_had may facts x run device ready.0 left.0 (neither (run_lacks run) (list_any run_lacks runs) none).0
+devices_had may facts (x ∷ inlets) (run ∷ runs) (device ∷ devices) ready left none (suc k) d there =
+    devices_had may facts inlets runs devices ready.1 left.1 (neither (run_lacks run) (list_any run_lacks runs) none).1 k d (omega arith)
+
+session_had : {S K R : Type 0} (sources : SourceFacts S) (sinks : SinkFacts K) (a : MemberView) (x : Taking Piece) (run : LinkDone S K R) (done : SessionDone S K R)
+    → SessionReady sources sinks a x run → IsLeftOfLink sources sinks run done → link_lacks run ≡ false → SessionHadMemory done
+session_had sources sinks a x run done ready left had =
+    let link = ready.link in
+    record {
+      input = λ (tells : ending_of done.input_tx.put ≡ Some NoMemory).
+          let same : ending_of run.reader.pieces.put ≡ ending_of done.input_tx.put = ap (λ (tx : Putting Piece). ending_of tx.put) (sym left.input) in
+          not_short run.reader.ending had
+          (sym (input_told run.reader.ending link.pieces.put run.reader.pieces.put (sources.content link.source) (sources.content run.reader.source)
+          ready.ran.reads.hands ready.unused.1)
+          ∙ same ∙ tells);
+    }
+
+pub sessions_had : {S K R : Type 0} (sources : SourceFacts S) (sinks : SinkFacts K) (sessions : List MemberView) (inputs : List (Taking Piece))
+    (runs : List (LinkDone S K R)) (dones : List (SessionDone S K R)) → AreReady sources sinks sessions inputs runs
+    → AllZip (IsLeftOfLink sources sinks) runs dones → list_any link_lacks runs ≡ false → All SessionHadMemory dones
+sessions_had sources sinks sessions inputs runs [] ready left none k d there = absurd (omega arith)
+sessions_had sources sinks sessions inputs [] (done ∷ dones) ready left none k d there = absurd left
+sessions_had sources sinks [] [] (run ∷ runs) (done ∷ dones) ready left none k d there = absurd ready
+sessions_had sources sinks [] (x ∷ inputs) (run ∷ runs) (done ∷ dones) ready left none k d there = absurd ready
+sessions_had sources sinks (a ∷ sessions) [] (run ∷ runs) (done ∷ dones) ready left none k d there = absurd ready
+sessions_had sources sinks (a ∷ sessions) (x ∷ inputs) (run ∷ runs) (done ∷ dones) ready left none zero d there =
+    session_had sources sinks a x run done ready.0 left.0 (neither (link_lacks run) (list_any link_lacks runs) none).0
+sessions_had sources sinks (a ∷ sessions) (x ∷ inputs) (run ∷ runs) (done ∷ dones) ready left none (suc k) d there =
+    sessions_had sources sinks sessions inputs runs dones ready.1 left.1 (neither (link_lacks run) (list_any link_lacks runs) none).1 k d (omega arith)
+
+-- of no device and no session
+pub none_read : {S K R : Type 0} (devices : List (DeviceDone S R)) (sessions : List (SessionDone S K R)) → devices ≡ [] → sessions ≡ []
+    → ReadersHadMemory devices sessions
+none_read [] [] none none' = record {
+  devices_had = λ k d there. absurd (omega (arith, there));
+  sessions_had = λ k d there. absurd (omega (arith, there));
+}
+none_read [] (session ∷ sessions) none none' = absurd (cc)
+none_read (device ∷ devices) sessions none none' = absurd (cc)

@@ -8,6 +8,4 @@ pub mod Renewed
 pub mod Told
 pub mod Low
 pub mod EpochLaws
-pub mod Slices
-pub mod Bounds
 pub mod Naming

@@ -5,11 +5,9 @@
 #![tactic(auto)]
 
 mod checkpoint;
-mod dated_note;
 mod days;
 mod epochs;
 mod fixes;
-mod grouped;
 mod heard;
 mod keys;
 mod laws;
@@ -19,9 +17,13 @@ mod point;
 mod running;
 mod said;
 mod used_id;
-mod whole;
 
+pub use days::Days;
 pub use epochs::Epochs;
-pub use grouped::{Grouped, all_fit, group_all};
+pub use fixes::fix_of;
 pub use heard::Heard;
 pub use laws::{epochs_hold_all_notes, reports_are_those_of_the_closed_epochs};
+pub use marks::all_marked;
+pub use running::{is_eoe, is_gsa, system_of};
+pub use said::{Said, is_fix_kind, is_sky_kind, itow_tag, serial_time, tod_tag};
+pub use used_id::UsedId;

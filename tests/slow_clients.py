@@ -37,6 +37,21 @@ def watching(daemon):
     return client
 
 
+def one_watching():
+    """A daemon with a long queue, its device, and a client with a small buffer that watches; and how many threads the daemon has with it."""
+    daemon, device = started("--queue", "65536")
+    client = watching(daemon)
+    time.sleep(0.2)
+    return daemon, device, client, daemon.threads()
+
+
+def end_well(title, daemon, device, client):
+    """The client goes, then the device ends, and the daemon with it."""
+    client.close()
+    device.end()
+    check(f"{title}: status", 0, daemon.wait()[0])
+
+
 class Takers:
     """Takes this number of bytes from each client by turns, with a pause between, until it is told to stop."""
 
@@ -87,16 +102,12 @@ def draining():
     within("closed clients that still take: after ten seconds all are gone", gone and took < 13, took)
     client = daemon.client()
     check("closed clients that still take: the next one is served", VERSION, client.line())
-    client.close()
-    device.end()
-    check("closed clients that still take: status", 0, daemon.wait()[0])
+    end_well("closed clients that still take", daemon, device, client)
 
 
 def slow_end():
     """At the daemon's end a client takes 2,000 bytes each 0.3 s of the megabytes that are left: the daemon ends within some ten seconds."""
-    daemon, device = started("--queue", "65536")
-    client = watching(daemon)
-    time.sleep(0.2)
+    daemon, device, client, _ = one_watching()
     device.send(fixes(20_000))
     takers = Takers([client], 2000, 0.3)
     start = time.monotonic()
@@ -112,10 +123,7 @@ def slow_end():
 def slow_reader():
     """A client that takes 200 bytes each 0.1 s through a small buffer is slow, but takes: it keeps its link, and loses nothing."""
     count = 20_000
-    daemon, device = started("--queue", "65536")
-    client = watching(daemon)
-    time.sleep(0.2)
-    threads = daemon.threads()
+    daemon, device, client, threads = one_watching()
     device.send(fixes(count))
     start, found = time.monotonic(), bytearray()
     while time.monotonic() - start < 20 and daemon.threads() >= threads:
@@ -126,25 +134,18 @@ def slow_reader():
     while found.count(b'"TPV"') < count and (data := client.receive()):
         found += data
     check("a reader that is slow loses nothing", count, found.count(b'"TPV"'))
-    client.close()
-    device.end()
-    check("a reader that is slow: status", 0, daemon.wait()[0])
+    end_well("a reader that is slow", daemon, device, client)
 
 
 def deaf():
     """A client that takes nothing is ended after a second."""
-    daemon, device = started("--queue", "65536")
-    client = watching(daemon)
-    time.sleep(0.2)
-    before = daemon.threads()
+    daemon, device, client, before = one_watching()
     start = time.monotonic()
     device.send(fixes(20_000))
     gone = until(lambda: daemon.threads() < before, 10)
     took = time.monotonic() - start
     within("a client that takes nothing is ended after some second", gone and 1 <= took <= 5, took)
-    client.close()
-    device.end()
-    check("a client that takes nothing: status", 0, daemon.wait()[0])
+    end_well("a client that takes nothing", daemon, device, client)
 
 
 class FewThreads(Daemon):

@@ -9,8 +9,6 @@ mod help;
 mod near;
 mod option_name;
 mod refusal;
-#[cfg(test)]
-mod tests;
 mod told;
 mod word;
 

@@ -8,8 +8,6 @@ mod ends;
 mod order;
 mod outlet;
 mod table_name;
-#[cfg(test)]
-mod tests;
 
 pub use bell::Bell;
 pub use ends::{Pushed, Rx, Tx, lane, settle, settle_or_close};

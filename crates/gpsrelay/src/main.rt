@@ -2,8 +2,6 @@
 //! receiver or a recorded script sends on standard input.
 #![tactic(auto)]
 
-#[cfg(test)]
-mod cues;
 mod decode;
 mod outcome;
 mod place_text;
@@ -11,19 +9,13 @@ mod progress;
 mod reasons;
 mod run;
 mod serve;
-#[cfg(test)]
-mod serve_tests;
 mod standard_streams;
 mod streams;
 mod system;
 mod telling;
 mod telling_door;
 mod telling_source;
-#[cfg(test)]
-mod tests;
 mod texts;
-#[cfg(test)]
-mod upstream_tests;
 
 use gps_fixed::NoMemory;
 use gps_outside::{RealClock, RealSink, write_all};

@@ -5,7 +5,5 @@
 mod numbers;
 mod script;
 mod sentences;
-#[cfg(test)]
-mod tests;
 
 pub use script::workload;

@@ -18,8 +18,6 @@ mod plays;
 mod rule;
 mod stores;
 mod taker;
-#[cfg(test)]
-mod tests;
 mod view;
 
 pub use consumption::{Consumption, TakeStep};

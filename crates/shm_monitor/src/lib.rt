@@ -9,8 +9,6 @@ mod loads;
 mod monitor;
 mod plays;
 mod reading;
-#[cfg(test)]
-mod tests;
 
 pub use monitor::Monitor;
 pub use reading::{MonStep, Reading};

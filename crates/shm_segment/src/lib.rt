@@ -15,8 +15,6 @@ mod sample;
 mod seats;
 mod segment;
 mod stores;
-#[cfg(test)]
-mod tests;
 mod view;
 mod word_numbers;
 

@@ -1,0 +1,5 @@
+use Rattle.std.proofs.Common.{◌≡◌}
+use Rattle.library_tests.proofs.segment_threads.watch.Given as goal
+
+abbrev pub invariant-loop : goal.invariant-loop
+invariant-loop l = l.monitor.segment ≡ l.fn.monitor.segment

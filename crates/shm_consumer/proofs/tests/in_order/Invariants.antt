@@ -1,8 +1,0 @@
-use Rattle.std.proofs.Common.{◌≡◌}
-use Rattle.shm_consumer.proofs.tests.in_order.Given as goal
-
-abbrev pub invariant-loop-turn : goal.invariant-loop-turn
-invariant-loop-turn l = (l.giver.segment ≡ l.fn.giver.segment) × (l.taker.segment ≡ l.fn.taker.segment)
-
-abbrev pub invariant-loop-consumption : goal.invariant-loop-consumption
-invariant-loop-consumption l = l.taker.segment ≡ l.fn.taker.segment

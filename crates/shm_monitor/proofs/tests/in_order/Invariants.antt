@@ -1,6 +1,0 @@
-use Rattle.std.proofs.Common.{◌≡◌}
-use Rattle.shm_monitor.proofs.tests.in_order.Given as goal
-
-abbrev pub invariant-loop-turn : goal.invariant-loop-turn
-invariant-loop-turn l =
-    (l.publisher.segment ≡ l.fn.publisher.segment) × (l.monitor.segment ≡ l.fn.monitor.segment)

@@ -1,0 +1,62 @@
+#!/usr/bin/env python3
+"""Which bytes of a client are a request, told by when it is closed: a client that has asked nothing is closed after a minute, one that has
+asked and watches nothing after 15 minutes, and one that watches never.
+
+Use: idle.py PROGRAM [whole]. It looks after a minute, and with `whole` after 15 minutes once more. Prints a line for each check, and ends with
+1 if one fails. Every wait is bounded.
+"""
+import os
+import sys
+import time
+
+from harness import Daemon, TcpDevice, check, run_parts, second, until
+
+PROGRAM = os.path.abspath(sys.argv[1])
+MINUTE, QUARTER = 60, 900  # seconds
+LATE = 12                  # seconds that an end may come late
+LONG = 1_025 * b"x"        # one byte more than a request has
+
+ASKED_NOTHING = [b"", b" ;\r\n", b"?VERSION", b'?WATCH={"enable":true', b'?WATCH={"device":"a;\n\\"b"', LONG + b";"]
+ASKED = [b"?VERSION;", b"?WATCH;", b'?WATCH={}\n?WATCH={"enable":false} \r\n', LONG + b";\n?POLL;"]
+WATCHES = [b'?WATCH={"enable":true};', b'?WATCH={};?WATCH={"enable":false,"enable":true};', b'?WATCH={};x?WATCH={"enable":false};',
+           b"?WATCH={};?POLL;"]
+
+
+def is_closed(client):
+    """Whether the daemon has closed it; what it was sent is dropped."""
+    while data := client.receive(seconds=0.01):
+        pass
+    return data is not None
+
+
+def closed(clients):
+    return [sent for sent, client in clients if is_closed(client)]
+
+
+def looks(clients, begun, after, wanted):
+    """Shortly before this time as few are closed as before, and soon after it these are."""
+    before = closed(clients)
+    time.sleep(max(0, begun + after - 5 - time.monotonic()))
+    check(f"5 s before {after} s: nobody else is closed", before, closed(clients))
+    until(lambda: closed(clients) == wanted, max(0, begun + after + LATE - time.monotonic()), pause=0.5)
+    check(f"after {after} s: who is closed", wanted, closed(clients))
+
+
+def idle():
+    device = TcpDevice()
+    daemon = Daemon(PROGRAM, device.word)
+    device.take()
+    clients = [(sent, daemon.client()) for sent in ASKED_NOTHING + ASKED + WATCHES]
+    begun = time.monotonic()
+    for sent, client in clients:
+        client.line()
+        client.send(sent)
+    looks(clients, begun, MINUTE, ASKED_NOTHING)
+    if "whole" in sys.argv[2:]:
+        looks(clients, begun, QUARTER, ASKED_NOTHING + ASKED)
+    device.send(second(0) + second(1))
+    device.end()
+    check("status", 0, daemon.wait()[0])
+
+
+sys.exit(run_parts(idle))

@@ -17,8 +17,6 @@ mod numbered;
 #[cfg(test)]
 mod readings;
 #[cfg(test)]
-mod reports_spread;
-#[cfg(test)]
 mod segment_threads;
 #[cfg(test)]
 mod segments;

@@ -1,6 +1,6 @@
 -- What holds of a content where it is told, step after step.
-use Rattle.std.proofs.Common.{Option, Some, None}
-use Rattle.gps_outside.specs.Told.{Goes}
+use Rattle.std.proofs.Common.{Option, Some, None, inl, refl}
+use Rattle.gps_outside.specs.Told.{Goes, MayLose, Stream}
 
 pub goes_as : {X : Type 0} (P Q : X → X → Type 0) (a b : Option X)
     → ((x y : X) → P x y → Q x y)
@@ -16,3 +16,8 @@ goes_on P Q R None b c step p q = tt
 goes_on P Q R (Some x) None c step p q = absurd p
 goes_on P Q R (Some x) (Some y) None step p q = absurd q
 goes_on P Q R (Some x) (Some y) (Some z) step p q = step x y z p q
+
+-- what is left need not be lost
+pub loses_nothing : (now : Option Stream) → Goes MayLose now now
+loses_nothing None = tt
+loses_nothing (Some now) = record { same = refl; lost = inl refl }

@@ -16,7 +16,7 @@ pub trait Source: Drop {
     ghost use Rattle.std.specs.Prelude.{◌≡◌, ℕ, ◌<◌, ◌≤◌, length, Option, IfSome, true};
     ghost use Rattle.gps_outside.specs.declared.source.ReadStep.{ReadStep};
     ghost use Rattle.gps_outside.specs.Counts.{Rose};
-    ghost use Rattle.gps_outside.specs.Told.{Stream, Goes, HasMore, Stays};
+    ghost use Rattle.gps_outside.specs.Told.{Stream, Goes, HasMore, MayLose, Stays};
     ghost use Rattle.gps_outside.specs.Reads.{FitsBuffer, Reads};
 
     /// How often a read failed.
@@ -50,9 +50,10 @@ pub trait Source: Drop {
         false
     }
 
-    /// Says that nothing more will be read, so that what stands behind the source may be closed.
+    /// Says that nothing more will be read, so that what stands behind the source may be closed. What is left may be lost.
+    #[tactic(auto, using(crate::proofs::Going::loses_nothing))]
     fn finish(&mut self)
-        ensures content { content self.new ≡ content self.old }
+        ensures content { Goes MayLose (content self.old) (content self.new) }
         ensures faults { faults self.new ≡ faults self.old }
         ensures quiets { quiets self.new ≡ quiets self.old }
     {}

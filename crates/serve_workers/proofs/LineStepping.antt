@@ -16,7 +16,7 @@ use Rattle.serve_workers.specs.declared.edges.Put.{Put}
 use Rattle.serve_workers.specs.declared.edges.Put.TheVariants as was
 use Rattle.serve_workers.specs.Readings.{last_piece}
 use Rattle.serve_workers.specs.EdgeLines.{edge_lines, last_edge_line, line_pieces, AreFirst, AreLinesOf, TookLines, HandsLines, CutsLines, PutsLines, PutsLast, TookTurn, LinesIn, StandsIn, EdgeLineSteps}
-use Rattle.serve_workers.proofs.Stepping.{pass_on, all_on, some_on, stays}
+use Rattle.serve_workers.proofs.Stepping.{pass_on, all_on, some_on, all_closed, some_closed, stays}
 
 passed_some : (bytes : List ℕ) (x y : Stream) → Passes bytes x y → TakesSome bytes x y
 passed_some bytes x y p = record { rest = y.left; next = p.next; joins = p.joins; kept = inl refl }
@@ -253,3 +253,25 @@ pub lines_refused : (result : Option Ending) (put : List Piece) (now : Option St
 lines_refused result put now same =
     handed_lines result NoMemory put put now now same
     (record { bytes = []; lines = []; puts = sym (append-nil put); are = (edge_lines [] ++ last_edge_line [], refl); took = stop_took now now (stays now) })
+
+took_closed : (result : Option Ending) (bytes : List ℕ) (before now after : Option Stream)
+    → TookLines result bytes before now → Goes MayLose now after → TookLines result bytes before after
+took_closed (Some End) bytes before now after took closed =
+    goes_on (TakesAll bytes) MayLose (TakesAll bytes) before now after (all_closed bytes) took closed
+took_closed (Some Failed) bytes before now after took closed =
+    goes_on (TakesSome bytes) MayLose (TakesSome bytes) before now after (some_closed bytes) took closed
+took_closed (Some NoMemory) bytes before now after took closed =
+    goes_on (TakesSome bytes) MayLose (TakesSome bytes) before now after (some_closed bytes) took closed
+took_closed None bytes before now after took closed =
+    goes_on (TakesSome bytes) MayLose (TakesSome bytes) before now after (some_closed bytes) took closed
+
+-- behind the reading the source is closed
+pub lines_closed : (result : Option Ending) (put put' : List Piece) (before now after : Option Stream)
+    → HandsLines result put put' before now → Goes MayLose now after → HandsLines result put put' before after
+lines_closed result put put' before now after hands closed = record {
+  bytes = hands.bytes;
+  lines = hands.lines;
+  puts = hands.puts;
+  are = hands.are;
+  took = took_closed result hands.bytes before now after hands.took closed;
+}

@@ -1,6 +1,7 @@
 -- The steps of a reader, one after another.
-use Rattle.std.proofs.Common.{◌≡◌, ℕ, ◌≤◌, List, [], ◌∷◌, ◌++◌, length, take, Option, Some, None, IfSome, subst, inl, inr, refl, sym, ◌∙◌, ap, append_assoc, append-nil, arith}
+use Rattle.std.proofs.Common.{◌≡◌, ℕ, ◌+◌, ◌≤◌, List, [], ◌∷◌, ◌++◌, length, take, Option, Some, None, IfSome, ◌⊎◌, subst, inl, inr, refl, sym, ◌∙◌, ap, append_assoc, append-nil, length-append, arith}
 use Rattle.std.specs.List.{flat_map}
+use Rattle.std.proofs.lemmas.List.{nil_from_length}
 use Rattle.std.proofs.lemmas.List.Concat.{flat_map-append}
 use Rattle.std.proofs.lemmas.Grind.{common_steps}
 use Rattle.std.proofs.lemmas.Option.{none-some, same_Some}
@@ -16,7 +17,7 @@ use Rattle.serve_pieces.specs.declared.piece.Ending.TheVariants as ending
 use Rattle.serve_pieces.specs.declared.piece.Piece.{Piece}
 use Rattle.serve_workers.specs.declared.readers.ReaderStep.{ReaderStep}
 use Rattle.serve_workers.specs.declared.readers.ReaderStep.TheVariants.{On, Over, Closed}
-use Rattle.serve_workers.specs.Readings.{Each, HandsOn, StepHasCause, Took, TookIn, TakesMore, ReaderSteps, WasRead, last_piece}
+use Rattle.serve_workers.specs.Readings.{Each, HandsOn, StepHasCause, Took, TookIn, TakesMore, ReaderSteps, WasRead, last_piece, over}
 
 got_some : (n : ℕ) (buf : List ℕ) (faults quiets : ℕ) (x y : Stream) → (1 ≤ n) × (n ≤ length buf) → Passes (take n buf) x y → WasRead faults quiets x y
 got_some n buf faults quiets x y fits passed = inl (grind (arith, common_steps))
@@ -164,32 +165,120 @@ unsaid part P last put mid before after turns = record {
   took = took_less last (flat_map part turns.pieces) before after turns.took;
 }
 
--- the same of a read behind what left the content as it was
+-- Behind a reading the source is closed: what it has left may be lost.
+none_left : (y z : Stream) → y.left ≡ [] → (z.left ≡ y.left) ⊎ (z.left ≡ []) → z.left ≡ []
+none_left y z none (inl kept) = kept ∙ none
+none_left y z none (inr lost) = lost
+
+rest_left : (rest : List ℕ) (y z : Stream) → (y.left ≡ rest) ⊎ (y.left ≡ []) → (z.left ≡ y.left) ⊎ (z.left ≡ []) → (z.left ≡ rest) ⊎ (z.left ≡ [])
+rest_left rest y z p (inr lost) = inr lost
+rest_left rest y z (inl same) (inl kept) = inl (kept ∙ same)
+rest_left rest y z (inr none) (inl kept) = inr (kept ∙ none)
+
+pub all_closed : (bytes : List ℕ) (x y z : Stream) → TakesAll bytes x y → MayLose y z → TakesAll bytes x z
+all_closed bytes x y z p q = record { all = p.all; joins = q.same ∙ p.joins; none = none_left y z p.none q.lost }
+
+pub some_closed : (bytes : List ℕ) (x y z : Stream) → TakesSome bytes x y → MayLose y z → TakesSome bytes x z
+some_closed bytes x y z p q = record { rest = p.rest; next = p.next; joins = q.same ∙ p.joins; kept = rest_left p.rest y z p.kept q.lost }
+
+more_closed : (bytes : List ℕ) (x y z : Stream) → TakesMore bytes x y → MayLose y z → TakesMore bytes x z
+more_closed bytes x y z p q = (p.0, (p.1.0, some_closed (bytes ++ p.0) x y z p.1.1 q))
+
+took_closed : (result : Option Ending) (bytes : List ℕ) (before now after : Option Stream)
+    → Took result bytes before now → Goes MayLose now after → Took result bytes before after
+took_closed (Some ending.End) bytes before now after took closed =
+    goes_on (TakesAll bytes) MayLose (TakesAll bytes) before now after (all_closed bytes) took closed
+took_closed (Some ending.Failed) bytes before now after took closed =
+    goes_on (TakesSome bytes) MayLose (TakesSome bytes) before now after (some_closed bytes) took closed
+took_closed (Some ending.NoMemory) bytes before now after took closed =
+    goes_on (TakesMore bytes) MayLose (TakesMore bytes) before now after (more_closed bytes) took closed
+took_closed None bytes before now after took closed =
+    goes_on (TakesMore bytes) MayLose (TakesMore bytes) before now after (more_closed bytes) took closed
+
+pub steps_closed : (part : Piece → List ℕ) (P : Piece → Type 0) (result : Option Ending) (put put' : List Piece) (before now after : Option Stream)
+    → ReaderSteps part P (over result) put put' before now → Goes MayLose now after → ReaderSteps part P (over result) put put' before after
+steps_closed part P (Some last) put put' before now after steps closed = record {
+  pieces = steps.pieces;
+  puts = steps.puts;
+  good = steps.good;
+  took = took_closed (Some last) (flat_map part steps.pieces) before now after steps.took closed;
+}
+steps_closed part P None put put' before now after steps closed = record {
+  pieces = steps.pieces;
+  puts = steps.puts;
+  good = steps.good;
+  took = took_closed None (flat_map part steps.pieces) before now after steps.took closed;
+}
+
+still_read : (faults quiets : ℕ) (x y z : Stream) → WasRead faults quiets x y → MayLose y z → WasRead faults quiets x z
+still_read faults quiets x y z (inl some) q = inl (rw q.same some)
+still_read faults quiets x y z (inr (inl quiet)) q = inr (inl quiet)
+still_read faults quiets x y z (inr (inr (inl fault))) q = inr (inr (inl fault))
+still_read faults quiets x y z (inr (inr (inr none))) q = inr (inr (inr (none_left y z none q.lost)))
+
+-- a source that was read, and then closed
+pub was_read_closed : (faults faults' quiets quiets' : ℕ) (before now after : Option Stream) → faults' ≡ faults → quiets' ≡ quiets
+    → Goes (WasRead faults quiets) before now → Goes MayLose now after → Goes (WasRead faults' quiets') before after
+was_read_closed faults faults' quiets quiets' before now after same_faults same_quiets was closed =
+    subst (λ f. Goes (WasRead f quiets') before after) (sym same_faults)
+    (subst (λ q. Goes (WasRead faults q) before after) (sym same_quiets)
+    (goes_on (WasRead faults quiets) MayLose (WasRead faults quiets) before now after (still_read faults quiets) was closed))
+
+-- Before a read the source is closed: what was left may be lost, and then nothing comes.
+front_none : (bytes rest : List ℕ) → [] ≡ bytes ++ rest → bytes ≡ []
+front_none bytes rest is =
+    let both : 0 ≡ length bytes + length rest = ap length is ∙ length-append bytes rest in
+    nil_from_length bytes (omega (arith, both))
+
+back_none : (bytes rest : List ℕ) → [] ≡ bytes ++ rest → rest ≡ []
+back_none bytes rest is =
+    let both : 0 ≡ length bytes + length rest = ap length is ∙ length-append bytes rest in
+    nil_from_length rest (omega (arith, both))
+
+gone : (rest : List ℕ) (z : Stream) → rest ≡ [] → (z.left ≡ rest) ⊎ (z.left ≡ []) → z.left ≡ []
+gone rest z none (inl same) = same ∙ none
+gone rest z none (inr lost) = lost
+
+closed_some : (bytes : List ℕ) (x y z : Stream) → y.taken ≡ x.taken → (y.left ≡ x.left) ⊎ (y.left ≡ []) → TakesSome bytes y z → TakesSome bytes x z
+closed_some bytes x y z same (inl kept) q =
+    record { rest = q.rest; next = sym kept ∙ q.next; joins = q.joins ∙ ap (λ l. l ++ bytes) same; kept = q.kept }
+closed_some bytes x y z same (inr lost) q = record {
+  rest = x.left;
+  next = ap (λ l. l ++ x.left) (sym (front_none bytes q.rest (sym lost ∙ q.next)));
+  joins = q.joins ∙ ap (λ l. l ++ bytes) same;
+  kept = inr (gone q.rest z (back_none bytes q.rest (sym lost ∙ q.next)) q.kept);
+}
+
+closed_more : (bytes : List ℕ) (x y z : Stream) → MayLose x y → TakesMore bytes y z → TakesMore bytes x z
+closed_more bytes x y z p q = (q.0, (q.1.0, closed_some (bytes ++ q.0) x y z p.same p.lost q.1.1))
+
 pub was_read_on : (step : ReadStep) (buf : List ℕ) (first before after : Option Stream) (faults faults' quiets quiets' : ℕ)
-    → before ≡ first → FitsBuffer step (length buf) → Reads step buf before after
+    → Goes MayLose first before → FitsBuffer step (length buf) → Reads step buf before after
     → (step ≡ Failed → Rose faults faults') → (step ≡ Quiet → Rose quiets quiets')
     → Goes (WasRead faults' quiets') first after
-was_read_on step buf first before after faults faults' quiets quiets' same fits reads failed quiet =
-    subst (λ s. Goes (WasRead faults' quiets') s after) same (was_read step buf before after faults faults' quiets quiets' fits reads failed quiet)
+was_read_on step buf first before after faults faults' quiets quiets' closed fits reads failed quiet =
+    goes_on MayLose (WasRead faults' quiets') (WasRead faults' quiets') first before after (λ x y z p q. q) closed
+    (was_read step buf before after faults faults' quiets quiets' fits reads failed quiet)
 
--- a source that is read once more, of which nothing is put
-pub dropped_all : (n : ℕ) (buf : List ℕ) (first before after : Option Stream) → before ≡ first → n ≤ 512 → Goes (Passes (take n buf)) before after
-    → Goes (TakesMore []) first after
-dropped_all n buf first before after same fits reads =
-    goes_as (Passes (take n buf)) (TakesMore []) first after (λ x y p. more_of n buf x y fits p) (subst (λ s. Goes (Passes (take n buf)) s after) same reads)
+pub dropped_all : (n : ℕ) (buf : List ℕ) (first before after : Option Stream) → Goes MayLose first before → n ≤ 512
+    → Goes (Passes (take n buf)) before after → Goes (TakesMore []) first after
+dropped_all n buf first before after closed fits reads =
+    goes_on MayLose (Passes (take n buf)) (TakesMore []) first before after (λ x y z p q. closed_more [] x y z p (more_of n buf y z fits q)) closed reads
 
-pub nothing_came : (first before after : Option Stream) → before ≡ first → Goes Stays before after → Goes (TakesMore []) first after
-nothing_came first before after same stays =
-    goes_as Stays (TakesMore []) first after nothing_more (subst (λ s. Goes Stays s after) same stays)
+pub nothing_came : (first before after : Option Stream) → Goes MayLose first before → Goes Stays before after → Goes (TakesMore []) first after
+nothing_came first before after closed stays =
+    goes_on MayLose Stays (TakesMore []) first before after (λ x y z p q. closed_more [] x y z p (nothing_more y z q)) closed stays
 
-pub nothing_was_left : (first before after : Option Stream) → before ≡ first → Goes IsAtEnd before after → Goes (TakesMore []) first after
-nothing_was_left first before after same ends =
-    goes_as IsAtEnd (TakesMore []) first after (λ x y p. nothing_more x y p.same) (subst (λ s. Goes IsAtEnd s after) same ends)
+pub nothing_was_left : (first before after : Option Stream) → Goes MayLose first before → Goes IsAtEnd before after → Goes (TakesMore []) first after
+nothing_was_left first before after closed ends =
+    goes_on MayLose IsAtEnd (TakesMore []) first before after (λ x y z p q. closed_more [] x y z p (nothing_more y z q.same)) closed ends
 
-pub nothing_taken : (first before after : Option Stream) → before ≡ first → Goes MayLose before after → Goes (TakesSome []) first after
-nothing_taken first before after same fails =
-    goes_as MayLose (TakesSome []) first after
-    (λ x y p. record { rest = x.left; next = refl; joins = p.same ∙ sym (append-nil x.taken); kept = p.lost }) (subst (λ s. Goes MayLose s after) same fails)
+lost_some : (x y : Stream) → MayLose x y → TakesSome [] x y
+lost_some x y p = record { rest = x.left; next = refl; joins = p.same ∙ sym (append-nil x.taken); kept = p.lost }
+
+pub nothing_taken : (first before after : Option Stream) → Goes MayLose first before → Goes MayLose before after → Goes (TakesSome []) first after
+nothing_taken first before after closed fails =
+    goes_on MayLose MayLose (TakesSome []) first before after (λ x y z p q. closed_some [] x y z p.same p.lost (lost_some y z q)) closed fails
 
 pub stays : (now : Option Stream) → Goes Stays now now
 stays None = tt
@@ -217,12 +306,11 @@ pub handed_last : (part : Piece → List ℕ) (P : Piece → Type 0) (result : O
     → IfSome result (λ said. said ≡ last) → Took (Some last) [] before after → HandsOn part P result put (put ++ last_piece result) before after
 handed_last part P result last put before after same took = handed part P result last put put before after same (none_put part P last put before after took)
 
--- memory was wanting for the reading of a source that stayed as it was
+-- a source that was closed and not read
 pub refused : (part : Piece → List ℕ) (P : Piece → Type 0) (result : Option Ending) (put : List Piece) (before after : Option Stream)
-    → after ≡ before → IfSome result (λ said. said ≡ ending.NoMemory) → HandsOn part P result put (put ++ last_piece result) before after
-refused part P result put before after still same =
-    handed_last part P result ending.NoMemory put before after same
-    (nothing_came before before after refl (subst (λ s. Goes Stays before s) (sym still) (stays before)))
+    → Goes MayLose before after → IfSome result (λ said. said ≡ ending.NoMemory) → HandsOn part P result put (put ++ last_piece result) before after
+refused part P result put before after closed same =
+    handed_last part P result ending.NoMemory put before after same (goes_as MayLose (TakesMore []) before after (λ x y p. some_more [] x y (lost_some x y p)) closed)
 
 -- that it failed was said only where its faults rose
 pub said_cause : (result : Option Ending) (last : Ending) (before now : ℕ)

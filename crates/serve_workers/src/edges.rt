@@ -235,6 +235,7 @@ fn put_edges<S: Source, R: Wait + Copy>(
 /// Reads the lines of an edges file to its end, and puts each that has at most 64 bytes without its line end, LF or CR
 /// LF; the last may lack it. The last piece tells how the source ended. None: it was told to end before that was put, as
 /// [`read_device`](crate::read_device). In whatever way it ends, the source is closed.
+#[tactic(auto, using(crate::proofs::LineStepping::lines_closed))]
 pub fn read_edges<S: Source, R: Wait + Copy>(
     rt: &R,
     alloc: Global,

@@ -110,6 +110,30 @@ fn read_on<M: Maker, S: Source, R: Wait + Copy>(
     unreachable!()
 }
 
+/// Reads a source to its end, puts what each read gave, and closes the source. None: it was told to end before.
+#[tactic(auto, using(crate::proofs::Stepping::steps_closed, crate::proofs::Stepping::was_read_closed))]
+fn read_and_close<M: Maker, S: Source, R: Wait + Copy>(
+    rt: &R,
+    alloc: Global,
+    maker: &M,
+    source: &mut S,
+    pieces: &mut Tx<Piece, R>,
+    own: &Bell,
+    pump: &Bell,
+) -> Option<Ending>
+    requires open { pieces.old.is_open ≡ true }
+    ensures turns { ReaderSteps M.part M.good (over result) pieces.old.put pieces.new.put (S.content source.old) (S.content source.new) }
+    ensures lane { pieces.new ≡ record pieces.old { put = pieces.new.put } }
+    ensures read { Goes (WasRead (S.faults source.new) (S.quiets source.new)) (S.content source.old) (S.content source.new) }
+    ensures faults_stay { S.faults source.old ≤ S.faults source.new }
+    ensures quiets_stay { S.quiets source.old ≤ S.quiets source.new }
+    ensures failed { StepHasCause (over result) (S.faults source.old) (S.faults source.new) }
+{
+    let ending = read_on(rt, alloc, maker, source, pieces, own, pump);
+    source.finish();
+    ending
+}
+
 /// Reads a source to its end, puts what each read gave, and behind it how the source ended. In whatever way it ends, the source is
 /// closed.
 fn read_all<M: Maker, S: Source, R: Wait + Copy>(
@@ -129,8 +153,7 @@ fn read_all<M: Maker, S: Source, R: Wait + Copy>(
     ensures quiets_stay { S.quiets source.old ≤ S.quiets source.new }
     ensures failed { result ≡ Some Ending.Failed → Rose (S.faults source.old) (S.faults source.new) }
 {
-    let ending = read_on(rt, alloc, maker, source, pieces, own, pump);
-    source.finish();
+    let ending = read_and_close(rt, alloc, maker, source, pieces, own, pump);
     put_ending(rt, pieces, ending?, own, pump)
 }
 

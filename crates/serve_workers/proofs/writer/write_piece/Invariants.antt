@@ -1,4 +1,4 @@
-use Rattle.std.proofs.Common.{◌≡◌, ◌≤◌, length}
+use Rattle.std.proofs.Common.{◌≤◌, length}
 use Rattle.gps_outside.specs.Waiting.{Waits}
 use Rattle.serve_workers.proofs.writer.write_piece.Given as goal
 

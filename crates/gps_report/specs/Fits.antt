@@ -2,6 +2,7 @@
 use Rattle.std.specs.Prelude.{ℕ, ℤ, pos, negsuc, Bool, true, false, ◌&&◌, ◌||◌, ◌+◌, ◌*◌, ◌≡◌, List, Option, Some, None, nat_eq, nat_le, nat_lt, is_none, is_some}
 use Rattle.std.specs.List.{list_all}
 use Rattle.gps_report.specs.declared.note.Note.{Note}
+use Rattle.gps_report.specs.Systems.{gps, galileo, beidou, glonass}
 use Rattle.gps_report.specs.declared.satellite.Satellite.{Satellite}
 
 -- a test of a quantity, where it is given
@@ -21,9 +22,9 @@ is_day (negsuc _) = false
 abbrev pub is_dim : ℕ → Bool
 is_dim dim = nat_eq dim 1 || nat_eq dim 2 || nat_eq dim 3
 
--- GPS, Galileo, BeiDou and GLONASS
+-- a system that sentences name
 abbrev pub is_named_system : ℕ → Bool
-is_named_system g = nat_eq g 0 || nat_eq g 2 || nat_eq g 3 || nat_eq g 6
+is_named_system g = nat_eq g gps || nat_eq g galileo || nat_eq g beidou || nat_eq g glonass
 
 -- an id of a sentence
 abbrev pub is_id : ℕ → Bool

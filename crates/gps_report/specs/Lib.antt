@@ -1,3 +1,4 @@
 pub mod Fits
 pub mod Name
 pub mod Note
+pub mod Systems

@@ -2,12 +2,12 @@ ghost use Rattle.std.specs.Prelude.{◌≡◌, ◌↔◌, IsTrue};
 ghost use Rattle.std.specs.List.{list_all};
 ghost use Rattle.gps_report.specs.Fits.{Fits, is_day, is_dim, is_id, is_named_system, is_satellite, is_sentence_satellite, is_frame_satellite, is_tod, where_given};
 
-use crate::{Note, Satellite};
+use crate::{BEIDOU, GALILEO, GLONASS, GPS, Note, Satellite};
 
 fn is_named(system: u8) -> bool
     ensures { result ≡ is_named_system system }
 {
-    matches!(system, 0 | 2 | 3 | 6)
+    matches!(system, GPS | GALILEO | BEIDOU | GLONASS)
 }
 
 fn is_of_sentence(satellite: &Satellite) -> bool

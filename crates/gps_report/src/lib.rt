@@ -17,6 +17,7 @@ mod policy;
 mod report;
 mod satellite;
 mod sats;
+mod systems;
 
 pub use edge::{Edge, EdgeKind, Symbol};
 pub use fitting::fits;
@@ -30,3 +31,4 @@ pub use policy::{CommandFault, Form, Policy};
 pub use report::{Body, Report};
 pub use satellite::Satellite;
 pub use sats::Sats;
+pub use systems::{BEIDOU, GALILEO, GLONASS, GPS};

@@ -3,6 +3,7 @@
 use Rattle.std.specs.Prelude.{ℕ, ◌==◌, Bool, ◌&&◌, not, List, length, nat_le, slice_index, Option, Some, None, codes, if◌then◌else◌}
 use Rattle.std.specs.List.{list_all}
 use Rattle.std.specs.Str.{bytes_eq}
+use Rattle.gps_report.specs.Systems.{gps, galileo, beidou, glonass}
 
 abbrev pub is_upper : ℕ → Bool
 is_upper c = nat_le 65 c && nat_le c 90
@@ -10,19 +11,6 @@ is_upper c = nat_le 65 c && nat_le c 90
 -- five upper-case letters, of which P would begin an address of a maker's own
 abbrev pub is_address : List ℕ → Bool
 is_address text = (length text == 5) && list_all is_upper text && not (slice_index text 0 == 80)
-
--- u-blox's numbers of the systems
-abbrev pub gps : ℕ
-gps = 0
-
-abbrev pub galileo : ℕ
-galileo = 2
-
-abbrev pub beidou : ℕ
-beidou = 3
-
-abbrev pub glonass : ℕ
-glonass = 6
 
 -- the system of a talker
 unfoldable pub talker_system : List ℕ → Option ℕ

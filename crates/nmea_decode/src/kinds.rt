@@ -2,14 +2,7 @@ ghost use Rattle.std.specs.Prelude.{◌≡◌};
 ghost use Rattle.std.specs.List.{list_all};
 ghost use Rattle.nmea_decode.specs.Kinds.{dim_of, is_address, is_upper, stated_system, talker_system};
 
-/// The systems, as u-blox numbers them (gnssId).
-const GPS: u8 = 0;
-
-const GALILEO: u8 = 2;
-
-const BEIDOU: u8 = 3;
-
-const GLONASS: u8 = 6;
+use gps_report::{BEIDOU, GALILEO, GLONASS, GPS};
 
 fn is_upper_case(text: &[u8]) -> bool
     ensures { result ≡ list_all is_upper text.now }

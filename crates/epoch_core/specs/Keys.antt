@@ -3,6 +3,7 @@ use Rattle.std.specs.Prelude.{ℕ, ◌+◌, ◌-◌, ◌*◌, ◌<◌, Bool, fal
 use Rattle.std.specs.List.{slice_get, IsDistinct}
 use Rattle.std.specs.Ordering.{nat_cmp}
 use Rattle.std.specs.BTreeMap.{BTreeMap, get}
+use Rattle.gps_report.specs.Systems.{gps, galileo, beidou, glonass}
 use Rattle.gps_report.specs.declared.satellite.Satellite.{Satellite}
 use Rattle.epoch_core.specs.declared.used_id.UsedId.{UsedId}
 use Rattle.epoch_core.specs.Satellites.{system_of}
@@ -10,7 +11,7 @@ use Rattle.epoch_core.specs.Satellites.{system_of}
 -- the place of a system that sentences name, with 5 for all others
 abbrev pub system_place : Option ℕ → ℕ
 system_place None = 0
-system_place (Some g) = cond (nat_eq g 0) 1 (cond (nat_eq g 2) 2 (cond (nat_eq g 3) 3 (cond (nat_eq g 6) 4 5)))
+system_place (Some g) = cond (nat_eq g gps) 1 (cond (nat_eq g galileo) 2 (cond (nat_eq g beidou) 3 (cond (nat_eq g glonass) 4 5)))
 
 abbrev pub signal_place : Option ℕ → ℕ
 signal_place None = 0

@@ -4,7 +4,7 @@ ghost use Rattle.epoch_core.specs.Keys.{satellite_key, used_id_key, system_place
 use crate::once::Keyed;
 use crate::running::system_of;
 use crate::used_id::UsedId;
-use gps_report::Satellite;
+use gps_report::{BEIDOU, GALILEO, GLONASS, GPS, Satellite};
 
 /// How many satellites sentences can tell apart: five systems, the absent one among them, 999 numbers and
 /// 17 signals.
@@ -16,10 +16,10 @@ fn system_place(system: Option<u8>) -> u64
 {
     match system {
         None => 0,
-        Some(0) => 1,
-        Some(2) => 2,
-        Some(3) => 3,
-        Some(6) => 4,
+        Some(GPS) => 1,
+        Some(GALILEO) => 2,
+        Some(BEIDOU) => 3,
+        Some(GLONASS) => 4,
         Some(_) => 5,
     }
 }

@@ -10,7 +10,7 @@ use crate::once::{Keyed, Once};
 use crate::running::system_of;
 use crate::used_id::UsedId;
 use gps_fixed::NoMemory;
-use gps_report::Satellite;
+use gps_report::{BEIDOU, GALILEO, GLONASS, GPS, Satellite};
 use std::alloc::Global;
 
 /// Where both name a system, it is the same.
@@ -70,7 +70,7 @@ pub fn all_marked(
 fn is_named_system(system: u8) -> bool
     ensures { result ≡ named_system_number system }
 {
-    matches!(system, 0 | 2 | 3 | 6)
+    matches!(system, GPS | GALILEO | BEIDOU | GLONASS)
 }
 
 fn is_id(id: u32) -> bool
@@ -118,8 +118,14 @@ fn has_name(used_ids: &Once<UsedId>, id: u32, system: Option<u8>) -> bool
         None => either(
             without,
             either(
-                either(has_id(used_ids, id, Some(0)), has_id(used_ids, id, Some(2))),
-                either(has_id(used_ids, id, Some(3)), has_id(used_ids, id, Some(6))),
+                either(
+                    has_id(used_ids, id, Some(GPS)),
+                    has_id(used_ids, id, Some(GALILEO)),
+                ),
+                either(
+                    has_id(used_ids, id, Some(BEIDOU)),
+                    has_id(used_ids, id, Some(GLONASS)),
+                ),
             ),
         ),
     }

@@ -94,7 +94,7 @@ IsCut piece a requests cutter = (bytes : List ℕ) → input.StandsFor a.cutter 
 -- requests are answered at one place by what is known, until the session is closed; while it is open, this is its cutter
 pub record AnswersCut (exact : Bool) (known : ReplyDataView) (names : List (List ℕ)) (place : ℕ) (requests : List RawCommand) (cutter : CommandCutterView) (old new : MemberView) : Type 0 where
   pub goes_on : new.session.closing ≡ None → new.cutter ≡ cutter
-  -- so many are answered
+  -- how many are answered
   pub count : ℕ
   pub few : count ≤ length requests
   pub puts : Puts place old new (take count (answered known names old.session.policy requests))

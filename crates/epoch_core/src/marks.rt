@@ -150,7 +150,7 @@ fn marked_by_key(satellite: &Satellite, used_ids: &Once<UsedId>) -> Satellite
     }
 }
 
-/// So many ids are searched one by one.
+/// Up to this number of ids are searched one by one.
 const FEW_IDS: usize = 64;
 
 /// The satellites of the sky, each with its mark.

@@ -31,7 +31,7 @@ abbrev pub told_by : Serve → DaemonSettings
 told_by s =
     record { names = s.devices.names; limit = s.numbers.history; wait = s.numbers.wait; queue = s.numbers.queue; tries = s.numbers.monitor }
 
--- the world is asked for the first of the places of the words, in order, and for their address; for nothing, where the words ask for nothing
+-- The world is asked for the first of the places of the words, in order, and for their address. If the words ask for no daemon, it is asked for nothing.
 abbrev pub AsksFor : Option Serve → Asking → Type 0
 AsksFor None asked = asked ≡ asked_nothing
 AsksFor (Some s) asked = AsksSome asked (places_of s) s.listen

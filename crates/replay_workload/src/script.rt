@@ -12,7 +12,7 @@ const BEGIN: u64 = 1_717_243_200;
 
 const NOON: u32 = 43_200;
 
-/// So many bytes for each second are enough, and those before them.
+/// This number of bytes for each second is enough, and also for those before them.
 const SECOND_ROOM: usize = 1_184;
 
 const HEAD_ROOM: usize = 147;

@@ -247,7 +247,7 @@ pub ends_as : (ending ending' : Ending) (bytes : List ℕ) (kept : LineCutterVie
     → ending ≡ ending' → EdgeLineSteps (Over ending) bytes kept put put' before after → EdgeLineSteps (Over ending') bytes kept put put' before after
 ends_as ending ending' bytes kept put put' before after is turns = subst (λ (e : Ending). EdgeLineSteps (Over e) bytes kept put put' before after) is turns
 
--- memory was wanting for the reading, and only that was put
+-- the reading was out of memory, and only that was put
 pub lines_refused : (result : Option Ending) (put : List Piece) (now : Option Stream)
     → IfSome result (λ said. said ≡ NoMemory) → HandsLines result put (put ++ last_piece result) now now
 lines_refused result put now same =

@@ -59,7 +59,7 @@ impl Row {
     }
 
     /// Takes the forms of the next report off the row: the item of the form in which the policy selects that
-    /// report, or `None` where it does not. The report is the next one of the row's batch, and the names are that
+    /// report, or `None` if it does not. The report is the next one of the row's batch, and the names are that
     /// batch's. Takes no memory.
     pub fn item_for(&mut self, policy: &Policy, names: &Names, report: &Report) -> Option<Item>
         requires named { report.now.device < length names.now }

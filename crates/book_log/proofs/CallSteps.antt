@@ -41,7 +41,7 @@ behind : (b : Bool) (line : DeviceStateView) (news olds : List DeviceStateView) 
 behind true line news olds m n same = omega arith
 behind false line news olds m n same = same
 
--- how many run, where one line became another
+-- how many run, if one line became another
 pub running_set : (lines : List DeviceStateView) (d : ℕ) (next free : DeviceStateView) → d < length lines
     → length (filter runs (set lines d next)) + cond (runs (get_or lines d free)) 1 0 ≡ length (filter runs lines) + cond (runs next) 1 0
 running_set [] d next free within = absurd (omega arith)
@@ -104,7 +104,7 @@ pub piece_long : (at : Moment) (bytes : List ℕ) → length (piece at bytes) �
 piece_long at [] = refl
 piece_long at (byte ∷ bytes) = ap (λ n. suc n) (piece_long at bytes)
 
--- a call that adds symbols, where a new generation begins before them if one is due
+-- a call that adds symbols, if a new generation begins before them if one is due
 pub called : (old : DeviceLogView) (devices present : DeviceStatesView) (limit number later : ℕ) (was current : Generation) (next : Option Generation) (reserved log : LogView) (turns : Bool)
     (entries : List Entry) (reports : List Report) (more bytes count : ℕ)
     → LogHolds (shown devices limit number was) → shown devices limit number was ≡ old

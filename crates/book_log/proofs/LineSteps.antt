@@ -41,7 +41,7 @@ no_sky_announced : (known : Option Moment) (out : List Body) → last_of sky_in 
 no_sky_announced None out = refl
 no_sky_announced (Some at) out = or_none (last_of sky_in out)
 
--- symbols that a device took, where a first byte among them is announced at once
+-- symbols that a device took, if a first byte among them is announced at once
 pub goes_on : (d : ℕ) (old new : DeviceStateView) (symbols : List Symbol) (stamp : Option Moment) (out : List Body) (reports : List Report)
     → stamp ≡ first_stamp symbols
     → ((log : List Entry) → history_after log (got d symbols) ≡ of_device d (announcement (unless_known (first_stamp (stream d log)) stamp) ++ reports_from (stream d log) symbols))

@@ -1,4 +1,4 @@
--- All devices go on from each log that is stood for, where one of them does.
+-- All devices go on from each log that is stood for, if one of them does.
 use Rattle.std.proofs.Common.{◌≡◌, ◌<◌, ℕ, inl, inr, ◌⊎◌, Bool, true, false, ◌||◌, refl, sym, ap, ◌∙◌, subst, List, [], ◌∷◌, ◌++◌, length, get_or, Option, Some, None, append-nil, append_assoc, nat_eq, arith, eqb-true}
 use Rattle.std.proofs.lemmas.Bool.{eqb-false}
 use Rattle.std.specs.Option.{option_or}

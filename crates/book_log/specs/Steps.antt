@@ -20,7 +20,7 @@ abbrev pub announcement : Option Moment → List Body
 announcement None = []
 announcement (Some at) = Device (Some at) ∷ []
 
--- a first stamp is announced where there was none
+-- a first stamp is announced if there was none
 abbrev pub unless_known : Option Moment → Option Moment → Option Moment
 unless_known (Some first) at = None
 unless_known None at = at

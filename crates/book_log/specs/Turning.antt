@@ -19,7 +19,7 @@ pub record Begins (now : DeviceStatesView) (g : Generation) : Type 0 where
   pub places : g.length ≡ 0
   pub symbols : g.symbols ≡ 0
 
--- there is a next generation exactly where one is due
+-- there is a next generation exactly if one is due
 abbrev pub IsNext : Bool → DeviceStatesView → Option Generation → Type 0
 IsNext true now (Some g) = Begins now g
 IsNext true now None = ⊥

@@ -44,7 +44,7 @@ impl Model for DeviceLog {
 
 impl DeviceLog {
     /// The given number of devices that were given nothing yet, an empty log, and room for an end or a loss of each device. A generation holds at
-    /// most `limit` symbols, or those of one call where that is more.
+    /// most `limit` symbols, or those of one call if that is more.
     pub fn new(alloc: Global, devices: u8, limit: u32) -> Result<DeviceLog, NoMemory>
         requires { limit ≤ 33_554_432 }
         ensures fresh { IfOk result (λ log. IsFresh devices limit log) }
@@ -69,7 +69,7 @@ impl DeviceLog {
     }
 
     /// Gives a device its next piece of bytes, which came at this stamp: the reports that it adds, the announcement of the device's first
-    /// byte before its packets. The log turns before it exactly where it holds a symbol and would come to more than the limit.
+    /// byte before its packets. The log turns before it exactly if it holds a symbol and would come to more than the limit.
     pub fn feed(
         &mut self,
         device: u8,
@@ -118,7 +118,7 @@ impl DeviceLog {
         })
     }
 
-    /// Gives a device its next pulse edge: the report that it adds, where it has one. The log turns before it exactly where it holds a
+    /// Gives a device its next pulse edge: the report that it adds, if it has one. The log turns before it exactly if it holds a
     /// symbol and would come to more than the limit.
     pub fn edge(
         &mut self,
@@ -245,7 +245,7 @@ impl DeviceLog {
         self.present.stamp()
     }
 
-    /// The stamp of a device's first byte, where it has had one and has not stopped.
+    /// The stamp of a device's first byte, if it has had one and has not stopped.
     pub fn active(&self, device: u8) -> Option<Stamp>
         requires { device < length self.now.present.lines }
         ensures { (before : List Entry) → StandsFor self.now.opening before → result ≡ active device (before ++ self.now.log) }

@@ -36,7 +36,7 @@ impl Model for DeviceState {
     ghost invariant = { λ l. l.device.back ≡ None };
 }
 
-/// Replaces a fix and a sky by newer ones, where there are.
+/// Replaces a fix and a sky by newer ones, if there are.
 fn renew(
     fix: &mut Option<Fix>,
     sky: &mut Option<Sky>,
@@ -58,7 +58,7 @@ fn renew_one<T: Drop>(value: &mut Option<T>, newer: Option<T>)
     }
 }
 
-/// The stamp of a device's first byte, where none was known.
+/// The stamp of a device's first byte, if none was known.
 fn first_if_none(first: Option<Stamp>, at: Stamp) -> Option<Stamp>
     ensures { result ≡ unless_known first (Some at) }
 {
@@ -120,7 +120,7 @@ impl DeviceState {
         self.stage
     }
 
-    /// The stamp of the first byte, where the device has not stopped.
+    /// The stamp of the first byte, if the device has not stopped.
     pub fn active(&self) -> Option<Stamp>
         ensures { result ≡ cond (has_stopped self.now.stage) None self.now.first }
     {

@@ -46,7 +46,7 @@ fn renew_sky(last: &mut Option<Sky>, body: &Body) -> Result<(), NoMemory>
     Ok(())
 }
 
-/// Room for the given number of reports, and in it the announcement of a first byte, where there is one.
+/// Room for the given number of reports, and in it the announcement of a first byte, if there is one.
 fn begun(
     alloc: Global,
     device: u8,
@@ -63,7 +63,7 @@ fn begun(
     Ok(reports)
 }
 
-/// The reports of a device's new bodies, behind the announcement of its first byte, where it came with them.
+/// The reports of a device's new bodies, behind the announcement of its first byte, if it came with them.
 #[tactic(auto, using(crate::proofs::ReadingLaws::last_more, crate::proofs::ReadingLaws::of_device_more))]
 fn list(
     alloc: Global,
@@ -121,7 +121,7 @@ fn batched(
     Ok(Gathered { batch, fix, sky })
 }
 
-/// The reports of a device's new bodies, behind the announcement of its first byte, where it came with them, and their lines.
+/// The reports of a device's new bodies, behind the announcement of its first byte, if it came with them, and their lines.
 #[tactic(auto, using(crate::proofs::Owned::own_ones))]
 pub fn gather(
     alloc: Global,

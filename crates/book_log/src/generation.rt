@@ -24,7 +24,7 @@ pub fn turns_due(symbols: u32, limit: u32, more: u32) -> bool
     0 < symbols && u64::from(limit) < u64::from(symbols) + u64::from(more)
 }
 
-/// Takes what a call with the given number of bytes will need: where a turn is due the next generation, which opens with copies of the devices; and
+/// Takes what a call with the given number of bytes will need: if a turn is due the next generation, which opens with copies of the devices; and
 /// room in the log that the call goes to, beside one event for each device's end or loss.
 pub fn prepared(
     alloc: Global,
@@ -55,7 +55,7 @@ pub fn prepared(
     }
 }
 
-/// Begins the next generation, where there is one.
+/// Begins the next generation, if there is one.
 pub fn begin(next: Option<Generation>, current: &mut Generation, number: &mut u64)
     ensures current { current.new ≡ unwrap_or next current.old }
     ensures number { number.new ≡ cond (is_some next) (next_generation number.old) number.old }

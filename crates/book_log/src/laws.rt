@@ -29,7 +29,7 @@ pub fn turns_forget_no_device()
     ensures holds { (b : DeviceLogView) → LogHolds b → LogHolds (turned b) }
 {}
 
-/// A device has its end in the whole log exactly where it has ended, and its loss exactly where it was lost.
+/// A device has its end in the whole log exactly if it has ended, and its loss exactly if it was lost.
 #[tactic(auto, using(crate::proofs::ReadLaws::stops_stand, crate::proofs::ReadLaws::end_stands, crate::proofs::ReadLaws::loss_stands))]
 pub fn stops_stand_in_the_log()
     ensures stopped { (b : DeviceLogView) (before : List Entry) (d : ℕ) → LogHolds b → StandsFor b.opening before → d < length b.present.lines

@@ -48,7 +48,7 @@ impl Model for Log {
 /// To an event of at most this many bytes those of one more piece can be added, so that 16 bits still hold their number.
 const MOST_BEFORE: u16 = 65_023;
 
-/// Adds bytes to the last event, where that is of the same device and the same stamp: pieces of few bytes that come at one stamp
+/// Adds bytes to the last event, if that is of the same device and the same stamp: pieces of few bytes that come at one stamp
 /// take one event together.
 fn lengthens(events: &mut Vec<LogEvent>, device: u8, at: Stamp, more: u16) -> bool
     requires { more ≤ 512 }

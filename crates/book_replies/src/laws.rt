@@ -17,7 +17,7 @@ pub fn policies_are_those_after()
     ensures { HasPolicyAfter }
 {}
 
-/// Where no request is `?POLL`, the answers are the same without the last fixes and skies of the devices.
+/// If no request is `?POLL`, the answers are the same without the last fixes and skies of the devices.
 #[tactic(auto, using(crate::proofs::Polls::polls_alone))]
 pub fn polls_alone_show_reports()
     ensures { PollsAloneShowReports }

@@ -25,7 +25,7 @@ fn some_begins(requests: &[RawCommand]) -> bool
     requests.iter().any(begins_as_poll)
 }
 
-/// Whether one of these requests begins as `?POLL` does. Where none does, no reply shows a fix or a sky. Takes no memory.
+/// Whether one of these requests begins as `?POLL` does. If none does, no reply shows a fix or a sky. Takes no memory.
 #[tactic(auto, using(crate::proofs::Polls::none_polls))]
 pub fn may_poll(requests: &[RawCommand]) -> bool
     ensures { result ≡ false → list_any is_poll requests.now ≡ false }

@@ -48,7 +48,7 @@ later_by a b same = record {
   rest = λ rest. let P : MemberView → Type 0 = λ x. IsAtRest x in subst P (sym (same (rest_is_closed a rest))) rest;
 }
 
--- what a call makes of a session, where its marks, its policy and its closing stay
+-- what a call makes of a session, if its marks, its policy and its closing stay
 pub record LeavesMarks (f : MemberView → MemberView) : Type 0 where
   pub later : (a : MemberView) → IsLater a (f a)
   pub watched : (a : MemberView) → (f a).watched ≡ a.watched
@@ -236,7 +236,7 @@ module _ (exact : Bool) (names : List (List ℕ)) (first : ℕ) (reports : List 
       let P : List ℕ → Type 0 = λ l. Walks Becomes l old new in
       walk_zip listens Becomes spread_silent old new (subst P ones walks)
 
-  -- where none listens
+  -- if none listens
   pub spread_to_none : (listening : List ℕ) (old : List MemberView) → AreListening listening old → listening ≡ [] → AllZip Becomes old old
   spread_to_none listening old ones none =
       let P : List ℕ → Type 0 = λ l. Walks Becomes l old old in

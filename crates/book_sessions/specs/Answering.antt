@@ -69,7 +69,7 @@ Causes s TooManyRequests = most_requests ≤ s.requests
 Causes s Overrun = (s.requests < most_requests) × (s.cap ≤ length s.kept)
 Causes s _ = ⊥
 
--- where the session is closed now, some answers were not put, else all were
+-- if the session is closed now, some answers were not put, else all were
 abbrev pub Stops : ℕ → ℕ → SessionView → Option (ℕ × Close) → Type 0
 Stops place left s None = left ≡ 0
 Stops place left s (Some closing) = (0 < left) × (closing.0 ≡ place) × Causes s closing.1

@@ -44,7 +44,7 @@ room_of s = s.cap - length s.kept
 abbrev pub overrun_at : Due → ℕ × Close
 overrun_at d = (d.place, Overrun)
 
--- What is due is put as far as there is room, and the first line beyond it closes the session. So the session is open still exactly where
+-- What is due is put as far as there is room, and the first line beyond it closes the session. So the session is open still exactly if
 -- what it kept and what was due come to at most its capacity.
 pub record TakesByRoom (dues : List Due) (old new : SessionView) : Type 0 where
   pub kept : new.kept ≡ old.kept ++ map (λ d. d.line) (take (room_of old) dues)

@@ -112,7 +112,7 @@ fn count_of(replies: &Vec<Reply>) -> Result<u32, NoMemory>
 }
 
 impl<O: Outlet> Member<O> {
-    /// A new session, whose first item is the opening reply. Where memory is refused, the outlet comes back.
+    /// A new session, whose first item is the opening reply. If memory is refused, the outlet comes back.
     pub(crate) fn new(alloc: Global, outlet: O, place: u64) -> Result<Member<O>, O>
         requires empty { O.kept outlet ≡ [] }
         requires cap { 1 ≤ O.cap outlet }
@@ -189,7 +189,7 @@ impl<O: Outlet> Member<O> {
         self.session.close(place, why);
     }
 
-    /// Gives up the bytes of an open request where the session is closed.
+    /// Gives up the bytes of an open request if the session is closed.
     fn rest(&mut self, alloc: Global)
         ensures { self.new ≡ rested self.old }
     {

@@ -130,7 +130,7 @@ impl<O: Outlet> Roster<O> {
         self.members[s as usize].is_open()
     }
 
-    /// The number of items put to a session, or `None` where there is no such session.
+    /// The number of items put to a session, or `None` if there is no such session.
     pub fn items(&self, s: u32) -> Option<u64>
         ensures { result ≡ option_map (λ a. a.session.items) (slice_get self.now s) }
     {
@@ -140,7 +140,7 @@ impl<O: Outlet> Roster<O> {
         }
     }
 
-    /// Where and why a session was closed, or `None` where there is no such session or it is open.
+    /// Where and why a session was closed, or `None` if there is no such session or it is open.
     pub fn closing(&self, s: u32) -> Option<(u64, Close)>
         ensures { result ≡ option_and_then (λ a. a.session.closing) (slice_get self.now s) }
     {
@@ -150,8 +150,8 @@ impl<O: Outlet> Roster<O> {
         }
     }
 
-    /// Opens the next session, numbered from 0; its first item is the opening reply. Refused where 64 are live or 100,000
-    /// were opened, and then where memory is refused. A refusal changes nothing, and the outlet comes back.
+    /// Opens the next session, numbered from 0; its first item is the opening reply. Refused if 64 are live or 100,000
+    /// were opened, and then if memory is refused. A refusal changes nothing, and the outlet comes back.
     #[tactic(auto, using(crate::proofs::Places::opening_holds))]
     pub fn admit(&mut self, outlet: O, place: u64) -> Result<u32, (O, AdmitFault)>
         requires empty { O.kept outlet ≡ [] }
@@ -204,7 +204,7 @@ impl<O: Outlet> Roster<O> {
     }
 
     /// Answers, at one place, each request that was cut of a session's input, in order, until the session is closed: by the
-    /// 65,537th request, or where its outlet is full. A refusal changes nothing.
+    /// 65,537th request, or if its outlet is full. A refusal changes nothing.
     pub fn input(
         &mut self,
         s: u32,
@@ -314,7 +314,7 @@ impl<O: Outlet> Roster<O> {
 }
 
 impl Roster<PlainOutlet> {
-    /// Takes the first item that the session's outlet holds, or `None` exactly where it holds nothing. Takes no memory.
+    /// Takes the first item that the session's outlet holds, or `None` exactly if it holds nothing. Takes no memory.
     pub fn take(&mut self, s: u32) -> Option<Item>
         requires { s < length self.old }
         ensures item { (free : MemberView) → result ≡ slice_get (slice_index_or self.old s free).session.kept 0 }

@@ -14,7 +14,7 @@ use book_batch::{Batch, Row};
 use gps_report::{Names, Report};
 use session_core::{Close, Item, Outlet, Push, Session};
 
-/// Where there is no item, nothing is pushed.
+/// If there is no item, nothing is pushed.
 fn report_some<O: Outlet>(session: &mut Session<O>, place: u64, item: Option<Item>) -> Push
     requires open { session.old.closing ≡ None }
     requires after { last_place 0 session.old.marks ≤ place }

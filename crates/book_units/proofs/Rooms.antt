@@ -194,7 +194,7 @@ pub spare_turned : (rooms : List RoomView) → map room_in (map turned_with_room
 spare_turned [] = refl
 spare_turned (r ∷ rooms) = ap (λ (l : List ℕ). r.spare ∷ l) (spare_turned rooms)
 
--- what holds of each unit by itself, where it is seen in the list
+-- what holds of each unit by itself, if it is seen in the list
 pub all_kept : (rooms : List RoomView) (s : UnitsView) → units_view rooms ≡ s → All (λ (r : RoomView). IsUnit r.unit) rooms → All IsUnit s.units
 all_kept rooms s is keeps =
     let P : UnitsView → Type 0 = λ v. All IsUnit v.units in

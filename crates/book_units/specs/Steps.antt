@@ -18,7 +18,7 @@ abbrev pub Begins : UnitView → UnitView → Type 0
 Begins old new =
     (sample : Sample) × (old.waiting ≡ sample ∷ new.waiting) × (new ≡ record old { publisher = beginning old.publisher sample; waiting = new.waiting })
 
--- a unit that has a next store: where none was being made and count is not spent, the first waiting sample is begun
+-- a unit that has a next store: if none was being made and count is not spent, the first waiting sample is begun
 abbrev pub IsReady : UnitView → UnitView → Type 0
 IsReady old ready =
     ((old.publisher.phase ≢ Idle) × (ready ≡ old)) ⊎ ((old.publisher.phase ≡ Idle) × (count_of old.publisher ≢ 2_147_483_646) × Begins old ready)
@@ -29,7 +29,7 @@ StoresAs ready (Stored word value) new = IsStore ready.publisher word value new.
 StoresAs ready Empty new = ⊥
 StoresAs ready Spent new = ⊥
 
--- Empty exactly where the phase is Idle and no sample waits, Spent exactly where it is Idle, a sample waits and count is 2,147,483,646; else one store is made
+-- Empty exactly if the phase is Idle and no sample waits, Spent exactly if it is Idle, a sample waits and count is 2,147,483,646; else one store is made
 abbrev pub PublishesAs : UnitView → UnitStep → UnitView → Type 0
 PublishesAs old (Stored word value) new =
     (ready : UnitView) × IsReady old ready × StoresAs ready (Stored word value) new

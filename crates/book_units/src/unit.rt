@@ -85,7 +85,7 @@ impl Unit {
         })
     }
 
-    /// Makes room for this many more samples. Refused also where more than 4,294,967,294 could wait then.
+    /// Makes room for this many more samples. Refused also if more than 4,294,967,294 could wait then.
     pub(crate) fn reserve(&mut self, more: usize) -> Result<(), NoMemory>
         ensures unit { self.new.unit ≡ self.old.unit }
         ensures room { OnOk result (more ≤ self.new.spare) }
@@ -146,7 +146,7 @@ impl Unit {
         self.carry = carry;
     }
 
-    /// Begins the first waiting sample where none is being stored, and makes one store, or none. Takes no memory.
+    /// Begins the first waiting sample if none is being stored, and makes one store, or none. Takes no memory.
     pub(crate) fn publish_step(&mut self) -> UnitStep
         ensures steps { Steps result self.old.unit self.new.unit }
         ensures kept { IsUnit self.new.unit }

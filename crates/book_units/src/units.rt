@@ -83,7 +83,7 @@ impl Units {
         self.units.len()
     }
 
-    /// Makes room at both units of a device for this many more samples. Refused also where more than 4,294,967,294 could
+    /// Makes room at both units of a device for this many more samples. Refused also if more than 4,294,967,294 could
     /// wait at one of them then. A refusal changes no unit.
     pub fn reserve(&mut self, device: u8, more: usize) -> Result<(), NoMemory>
         requires { 2 * device + 1 < length self.old.units }
@@ -147,7 +147,7 @@ impl Units {
         turn_all(self.units.as_mut_slice());
     }
 
-    /// Begins the first waiting sample of a unit where none is being stored there, and makes one store, or none. Takes no
+    /// Begins the first waiting sample of a unit if none is being stored there, and makes one store, or none. Takes no
     /// memory.
     pub fn publish_step(&mut self, u: u8) -> UnitStep
         requires { u < length self.old.units }

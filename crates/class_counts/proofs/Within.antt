@@ -26,7 +26,7 @@ bad_among (v ∷ values) [] line rest are bad = no_bad v line are.0 bad
 bad_among [] (l ∷ before) line rest are bad = absurd are
 bad_among (v ∷ values) (l ∷ before) line rest are bad = bad_among values before line rest are.1 bad
 
--- the same where the line begins one of them
+-- the same if the line begins one of them
 first_read : (values : List Line) (before : List (List ℕ)) (line : List ℕ) (rest : List (List ℕ)) → AreRead values (before ++ line ∷ rest) → is_too_long limit line ≡ false
 first_read [] [] line rest are = absurd are
 first_read (v ∷ values) [] line rest are = are.0.fits

@@ -25,7 +25,7 @@ Completed bytes source source' text =
     HasReadAll bytes source source' × ((values : List Line) × AreRead values (whole_lines bytes) × text values)
 
 -- Which bytes were read, and what was written: all that was left, and the numbers of its lines; those before a fault, after which the rest may
--- be lost, those before a thousand quiets, or as many as an input may have where more came, and nothing; those up to a refused line, and its
+-- be lost, those before a thousand quiets, or as many as an input may have if more came, and nothing; those up to a refused line, and its
 -- number; a part of what was due; or, out of memory, nothing.
 abbrev pub Ends : CountOutcome → List ℕ → Option Stream → Option Stream → Option (List ℕ) → Option (List ℕ) → Type 0
 Ends Done bytes source source' sink sink' = Completed bytes source source' (λ values. Goes (Appends (summary values)) sink sink')

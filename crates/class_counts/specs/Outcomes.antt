@@ -1,4 +1,4 @@
--- How a count of lines ends, its exit status, and what must have happened outside where it ends so.
+-- How a count of lines ends, its exit status, and what must have happened outside if it ends so.
 use Rattle.std.specs.Prelude.{ℕ}
 use Rattle.gps_outside.specs.Counts.{Rose, RoseBy}
 use Rattle.class_counts.specs.declared.outcome.CountOutcome.{CountOutcome}

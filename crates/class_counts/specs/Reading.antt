@@ -12,7 +12,7 @@ use Rattle.class_counts.specs.Standing.{CountStands, Stops}
 abbrev pub most_bytes : ℕ
 most_bytes = 1_073_741_824
 
--- Where a count breaks off in mid-source, all bytes that it took were read: no more than an input may have, or as many where more came.
+-- If a count breaks off in mid-source, all bytes that it took were read: no more than an input may have, or as many if more came.
 abbrev pub HasReadSoFar : List ℕ → Option Stream → Option Stream → Type 0
 HasReadSoFar bytes before after =
     ((length bytes ≤ most_bytes) × Goes (Passes bytes) before after) ⊎ ((length bytes ≡ most_bytes) × Goes (PassesMore bytes) before after)

@@ -27,7 +27,7 @@ abbrev pub now_of : Option Draft → List Stamped → EpochsKept → Option Edge
 now_of None bytes epochs edge toff = record { bytes = bytes; epochs = epochs; edge = edge; toff = toff }
 now_of (Some draft) bytes epochs edge toff = record { bytes = changed draft.change bytes; epochs = epochs; edge = draft.pulses; toff = draft.toff }
 
--- what is kept without the draft, where there is one
+-- what is kept without the draft, if there is one
 abbrev pub back_of : Option Draft → List Stamped → Option EpochsKept → Option Edge → Option Pair → Option DeviceKept
 back_of None bytes back edge toff = None
 back_of (Some draft) bytes back edge toff = option_map (λ epochs. record { bytes = bytes; epochs = epochs; edge = edge; toff = toff }) back
@@ -39,7 +39,7 @@ IsDraft (Some draft) bytes back = (is_some back ≡ true) × FitsBytes draft.cha
 abbrev pub IsSound : Option Draft → List Stamped → Option EpochsKept → Option Pair → Type 0
 IsSound draft bytes back toff = IsDraft draft bytes back × (is_low toff ≡ true)
 
--- what is kept where an open draft is taken back
+-- what is kept if an open draft is taken back
 abbrev pub back_or : DeviceView → DeviceKept
 back_or held = unwrap_or held.back held.now
 

@@ -19,7 +19,7 @@ pub record DeviceKept : Type 0 where
   pub edge : Option Edge
   pub toff : Option Pair
 
--- what is kept now, and what was kept before an open draft, where there is one
+-- what is kept now, and what was kept before an open draft, if there is one
 pub record DeviceView : Type 0 where
   pub now : DeviceKept
   pub back : Option DeviceKept

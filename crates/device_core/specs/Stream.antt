@@ -1,4 +1,4 @@
--- A device's stream: its bytes, each with the stamp of its piece, and its pulse edges, in the order in which they came. Where pieces were cut
+-- A device's stream: its bytes, each with the stamp of its piece, and its pulse edges, in the order in which they came. If pieces were cut
 -- is not in it.
 use Rattle.std.specs.Prelude.{ℕ, List, [], ◌∷◌, map}
 use Rattle.std.specs.List.{flat_map}

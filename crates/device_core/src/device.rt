@@ -154,7 +154,7 @@ impl Device {
         }
     }
 
-    /// Gives the next pulse edge, as a draft: its pulse, where it has one, so at most one report.
+    /// Gives the next pulse edge, as a draft: its pulse, if it has one, so at most one report.
     #[tactic(auto, using(crate::proofs::Devices::gains_edge, crate::proofs::Devices::stands_edge))]
     pub fn draft_edge(&mut self, edge: Edge) -> Result<Vec<Body>, NoMemory>
         ensures gains { IfOk result (λ out. (stream : List SymbolValue) → StandsFor self.old.now stream → Gains stream (Symbol.Edge edge ∷ []) out.items) }
@@ -229,7 +229,7 @@ impl Device {
         Ok(out)
     }
 
-    /// Gives the next pulse edge: its pulse, where it has one, so at most one report. A refusal leaves what the device keeps as it was.
+    /// Gives the next pulse edge: its pulse, if it has one, so at most one report. A refusal leaves what the device keeps as it was.
     pub fn edge(&mut self, edge: Edge) -> Result<Vec<Body>, NoMemory>
         ensures gains { IfOk result (λ out. (stream : List SymbolValue) → StandsFor self.old.now stream → Gains stream (Symbol.Edge edge ∷ []) out.items) }
         ensures few { IfOk result (λ out. length out.items ≤ 1) }
@@ -322,7 +322,7 @@ fn toff_now(toff: Option<Pair>, draft: &Option<Draft>) -> Option<Pair>
     }
 }
 
-/// The report of a pulse, where there is one.
+/// The report of a pulse, if there is one.
 fn pulse_reported(alloc: Global, pulse: Option<Pair>) -> Result<Vec<Body>, NoMemory>
     ensures { IfOk result (λ out. out.items ≡ option_to_list (option_map (λ pair. Body.Pps pair) pulse)) }
 {

@@ -1,4 +1,4 @@
--- The checkpoint, where the running epoch is replaced or grows.
+-- The checkpoint, if the running epoch is replaced or grows.
 use Rattle.std.proofs.Common.{◌≡◌, [], refl, sym, ap, ◌∙◌, subst, Option, None, Some, unwrap_or}
 use Rattle.epoch_core.specs.declared.checkpoint.Checkpoint.{Checkpoint}
 use Rattle.epoch_core.specs.Days.{Dated, dated, day_known}
@@ -41,7 +41,7 @@ checkpoint_grown (Some m) r now d h e =
     let P : Ran → Type 0 = λ v. IsWithin m.point (unwrap_or m.aside v) in
     record { day = h.day; within = subst P (sym e) (grown_within m.point m.aside r d h.within).1 }
 
--- where no note was heard
+-- if no note was heard
 pub stands_new : (r : Ran) → r ≡ nothing_ran → kept_now (record { day = None; last_tod = None }) r ≡ kept_of []
 unfolding kept_of dated epochs day_known ran_of nothing_ran
 stands_new r e = ap (λ v. kept_now (record { day = None; last_tod = None }) v) e

@@ -1,4 +1,4 @@
--- Satellites, and used ids, are the same exactly where their keys are; so lists that are kept once by key are those that are kept once by sameness.
+-- Satellites, and used ids, are the same exactly if their keys are; so lists that are kept once by key are those that are kept once by sameness.
 use Rattle.std.proofs.Common.{◌≡◌, ℕ, zero, suc, ◌+◌, ◌-◌, ◌*◌, ◌<◌, ◌≤◌, inl, inr, Bool, true, false, cond, ◌&&◌, ◌||◌, List, [], ◌∷◌, ◌++◌, length, map, take, Option, Some, None, nat_eq, nat_le, is_none, is_some, option_map, refl, sym, ap, ◌∙◌, arith, eqb-true, eq-eqb, get_or}
 use Rattle.std.specs.List.{list_any, list_all}
 use Rattle.std.proofs.lemmas.Bool.Decides.{nat_tests}

@@ -1,4 +1,4 @@
--- A checkpoint, to which an Epochs can go back: where the running epoch stood, and that epoch itself where it has closed since.
+-- A checkpoint, to which an Epochs can go back: where the running epoch stood, and that epoch itself if it has closed since.
 use Rattle.std.specs.Prelude.{◌≤◌, true, length, take, Option, None, Some, unwrap_or, ◌≡◌}
 use Rattle.gps_report.specs.Fits.{where_given}
 use Rattle.epoch_core.specs.declared.days.Days.{Days}

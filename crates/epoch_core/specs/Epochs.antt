@@ -1,5 +1,5 @@
--- The epochs of a device's notes, and the reports that they give. A note begins an epoch where it is the first, where the note before it
--- ends one (UBX-NAV-EOE), or where its tag is another than the last of its variant in the running epoch.
+-- The epochs of a device's notes, and the reports that they give. A note begins an epoch if it is the first, if the note before it
+-- ends one (UBX-NAV-EOE), or if its tag is another than the last of its variant in the running epoch.
 use Rattle.std.specs.Prelude.{ℤ, pos, negsuc, nat_le, Bool, true, false, ◌||◌, cond, List, [], ◌∷◌, ◌++◌, reverse, option_map, option_to_list, unwrap_or, ◌≡◌}
 use Rattle.gps_report.specs.declared.note.NoteKind.{NoteKind}
 use Rattle.gps_report.specs.declared.note.NoteKind.TheVariants.{Eoe}
@@ -61,7 +61,7 @@ abbrev pub all_closed : List (List Dated) → List Body
 all_closed [] = []
 all_closed (epoch ∷ earlier) = all_closed earlier ++ toffs epoch ++ closing epoch
 
--- an epoch is closed where another follows it, or where it has ended
+-- an epoch is closed if another follows it, or if it has ended
 abbrev pub all_told : List (List Dated) → List Body
 all_told [] = []
 all_told (epoch ∷ earlier) = all_closed earlier ++ toffs epoch ++ cond (has_ended epoch) (closing epoch) []

@@ -14,7 +14,7 @@ is_number n (Some m) = nat_eq m n
 unfoldable pub has_no_fix : Said → Bool
 has_no_fix s = is_none s.position || is_denied s.status || is_number 1 s.dim
 
--- 1 without a position or where the receiver denies a fix; else what was said, or what the heights show
+-- 1 without a position or if the receiver denies a fix; else what was said, or what the heights show
 unfoldable pub mode_of : Said → ℕ
 mode_of s = cond (has_no_fix s) 1 (unwrap_or s.dim (cond (is_some s.alt_msl || is_some s.alt_hae) 3 2))
 

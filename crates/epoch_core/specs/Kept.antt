@@ -20,7 +20,7 @@ pub record EpochsKept : Type 0 where
   pub day : Option ℕ
   pub last_tod : Option ℕ
 
--- what is kept now, and what was kept at the checkpoint, where there is one
+-- what is kept now, and what was kept at the checkpoint, if there is one
 pub record EpochsView : Type 0 where
   pub now : EpochsKept
   pub back : Option EpochsKept

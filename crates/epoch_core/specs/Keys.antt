@@ -48,7 +48,7 @@ abbrev pub has_it : {X : Type 0} → (X → ℕ) → ℕ → Option X → Bool
 has_it key k None = false
 has_it key k (Some x) = nat_eq (key x) k
 
--- the element at the place, where there is one, has the key
+-- the element at the place, if there is one, has the key
 abbrev pub at_place : {X : Type 0} → (X → ℕ) → List X → ℕ → Option ℕ → Bool
 at_place key items k None = false
 at_place key items k (Some i) = has_it key k (slice_get items i)

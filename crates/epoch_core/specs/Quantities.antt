@@ -13,7 +13,7 @@ use Rattle.epoch_core.specs.declared.said.Said.{Said}
 use Rattle.epoch_core.specs.Days.{Dated}
 use Rattle.epoch_core.specs.Past.{latest, earliest}
 
--- the time that a time of day has where the day is known
+-- the time that a time of day has if the day is known
 abbrev pub serial_time : Option ℕ → Option ℕ → Option Moment
 serial_time None day = None
 serial_time (Some tod) None = None
@@ -22,7 +22,7 @@ serial_time (Some tod) (Some day) = Some (utc (pos day) tod)
 abbrev pub stamped : Dated → Option Moment
 stamped d = serial_time d.note.tod d.day
 
--- the time of a note that has a time of day; it is absent where no day is known at it
+-- the time of a note that has a time of day; it is absent if no day is known at it
 abbrev pub timed : Dated → Option (Option Moment)
 timed d = option_map (λ tod. stamped d) d.note.tod
 

@@ -49,7 +49,7 @@ abbrev pub all_used_ids : List Dated → List UsedId
 all_used_ids [] = []
 all_used_ids (d ∷ past) = all_used_ids past ++ used_ids_in d.note
 
--- the id is the satellite's, and where both name a system, it is the same
+-- the id is the satellite's, and if both name a system, it is the same
 abbrev pub speaks_of : Satellite → UsedId → Bool
 speaks_of s a = nat_eq a.id s.prn && (is_none a.system || is_none (system_of s) || same_number a.system (system_of s))
 

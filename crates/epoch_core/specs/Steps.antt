@@ -82,7 +82,7 @@ unfoldable pub ran_closing : Ran → List Body
 ran_closing r =
     cond r.said.has_fix (Tpv (fix_of r.said) ∷ []) [] ++ cond r.said.has_sky (SkyBody (ran_sky r) ∷ []) []
 
--- the serial time, where this note is the first of its epoch to have one
+-- the serial time, if this note is the first of its epoch to have one
 unfoldable pub toff_told : Said → Dated → List Body
 toff_told s d = cond (is_some s.stamped) [] (toff_of (said_grown s d.note d.first (stamped d)))
 

@@ -5,7 +5,7 @@ use crate::days::Days;
 use crate::point::Point;
 use crate::running::Running;
 
-/// The way back: where the running epoch stood at the checkpoint, and that epoch itself where it has closed since.
+/// The way back: where the running epoch stood at the checkpoint, and that epoch itself if it has closed since.
 #[derive(Debug, Drop)]
 pub struct Checkpoint {
     pub days: Days,

@@ -17,7 +17,7 @@ pub struct Days {
     pub last_tod: Option<u64>,
 }
 
-/// The day at a note that gives none: one more where the time of day fell by more than half a day.
+/// The day at a note that gives none: one more if the time of day fell by more than half a day.
 #[tactic(auto, unfolding(crate::specs::Days::carried, crate::specs::Days::day_after))]
 fn carry(tod: Option<u64>, last: Option<u64>, day: Option<u32>) -> Option<u32>
     ensures { result ≡ carried tod last day }

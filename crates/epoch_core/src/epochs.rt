@@ -57,7 +57,7 @@ impl Epochs {
         }
     }
 
-    /// Puts a running epoch in the place of the one that ran; that one stands aside where there is a checkpoint.
+    /// Puts a running epoch in the place of the one that ran; that one stands aside if there is a checkpoint.
     #[tactic(auto, using(crate::proofs::Renewed::back_stays, crate::proofs::Renewed::checkpoint_stays))]
     fn renew(&mut self, fresh: Running)
         ensures { self.new ≡ record { now = record self.old.now { ran = fresh }; back = self.old.back } }
@@ -86,7 +86,7 @@ impl Epochs {
         self.checkpoint = None;
     }
 
-    /// Goes back to the checkpoint, where there is one, and drops it. Takes no memory.
+    /// Goes back to the checkpoint, if there is one, and drops it. Takes no memory.
     #[tactic(auto, unfolding(crate::specs::Checkpoints::back_from, crate::specs::Checkpoints::HoldsCheckpoint))]
     pub fn undo(&mut self)
         ensures { self.new ≡ record { now = unwrap_or self.old.back self.old.now; back = None } }
@@ -197,7 +197,7 @@ impl Epochs {
     }
 
     /// The reports that one more note causes: the Tpv and the Sky of an epoch that it closes by beginning another, a Toff
-    /// where it is the first of its epoch with a time of day at which the day is known, then the Tpv and the Sky of an epoch
+    /// if it is the first of its epoch with a time of day at which the day is known, then the Tpv and the Sky of an epoch
     /// that it ends. `first` is the stamp of the first byte of its packet. The whole second after each Toff's reference is a
     /// stamp as well. A refusal changes nothing; the checkpoint stays.
     #[tactic(auto, using(crate::proofs::Told::gained))]

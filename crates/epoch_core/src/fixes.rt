@@ -11,7 +11,7 @@ fn has_no_fix(said: &Said) -> bool
     said.position.is_none() || said.status == Some(false) || said.dim == Some(1)
 }
 
-/// 1 without a position or where the receiver denies a fix; else what was said, or what the heights show.
+/// 1 without a position or if the receiver denies a fix; else what was said, or what the heights show.
 #[tactic(auto, unfolding(crate::specs::Fixes::mode_of))]
 fn mode_of(said: &Said) -> u8
     ensures { result ≡ mode_made said.now }

@@ -13,7 +13,7 @@ use gps_fixed::NoMemory;
 use gps_report::{BEIDOU, GALILEO, GLONASS, GPS, Satellite};
 use std::alloc::Global;
 
-/// Where both name a system, it is the same.
+/// If both name a system, it is the same.
 fn agree(one: Option<u8>, other: Option<u8>) -> bool
     ensures { result ≡ (is_none one || is_none other || same_numbers one other) }
 {
@@ -23,7 +23,7 @@ fn agree(one: Option<u8>, other: Option<u8>) -> bool
     }
 }
 
-/// The id is the satellite's, and where both name a system, it is the same.
+/// The id is the satellite's, and if both name a system, it is the same.
 fn speaks_of(satellite: &Satellite, used_id: &UsedId) -> bool
     ensures { result ≡ speaks satellite.now used_id.now }
 {

@@ -27,7 +27,7 @@ const FEW: usize = 64;
 /// A list that takes each key once, in the order in which they came.
 ///
 /// The keys stand beside it, so that a search makes none anew. `places` may know keys that the list has lost again: a place counts only
-/// where the list has that key.
+/// if the list has that key.
 #[derive(Debug, Drop)]
 pub struct Once<T: Keyed> {
     items: Vec<T>,
@@ -102,7 +102,7 @@ fn place_long<T: Keyed>(items: &[T], places: &mut BTreeMap<u64, usize>) -> Resul
     }
 }
 
-/// The map of the places of a list, where the list is long.
+/// The map of the places of a list, if the list is long.
 fn places_of<T: Keyed>(alloc: Global, items: &[T]) -> Result<BTreeMap<u64, usize>, NoMemory>
     requires { IsDistinct nat_eq (map T.key items.now) }
     ensures { IfOk result (λ m. few < length items.now → IsPlaced T.key items.now m) }
@@ -114,7 +114,7 @@ fn places_of<T: Keyed>(alloc: Global, items: &[T]) -> Result<BTreeMap<u64, usize
     Ok(places)
 }
 
-/// Makes the map ready for one more element with this key, where the list is long enough to want one.
+/// Makes the map ready for one more element with this key, if the list is long enough to want one.
 fn place_next<T: Keyed>(
     items: &[T],
     places: &mut BTreeMap<u64, usize>,

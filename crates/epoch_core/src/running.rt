@@ -63,7 +63,7 @@ pub fn system_of(satellite: &Satellite) -> Option<u8>
     }
 }
 
-/// The Toff of an epoch, where its next note is the first that has a serial time.
+/// The Toff of an epoch, if its next note is the first that has a serial time.
 #[tactic(auto, unfolding(crate::specs::Steps::toff_told, crate::specs::Steps::said_grown))]
 fn push_toff(
     out: &mut Vec<Body>,
@@ -255,7 +255,7 @@ impl Running {
         self.push_sky(alloc, out)
     }
 
-    /// One more note of this epoch, and what it tells: a Toff, and the closing where the note ends the epoch.
+    /// One more note of this epoch, and what it tells: a Toff, and the closing if the note ends the epoch.
     /// A refusal changes nothing but `out`.
     #[tactic(auto, unfolding(crate::specs::Steps::ran_told))]
     pub fn tell(

@@ -35,7 +35,7 @@ pub struct Said {
     pub has_sky: bool,
 }
 
-/// The point of time of a day and a time of that day, where both are given.
+/// The point of time of a day and a time of that day, if both are given.
 pub fn serial_time(tod: Option<u64>, day: Option<u32>) -> Option<Stamp>
     requires tod { where_given is_tod tod ≡ true }
     requires day { where_given is_known_day day ≡ true }

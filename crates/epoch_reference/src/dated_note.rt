@@ -49,7 +49,7 @@ impl<'a> DatedNote<'a> {
         serial_time(self.heard.note.tod, self.day)
     }
 
-    /// The serial time of a note that has a time of day; it is absent where no day is known.
+    /// The serial time of a note that has a time of day; it is absent if no day is known.
     pub fn timed(&self) -> Option<Option<Stamp>>
         ensures { result ≡ timed_at self.now }
     {

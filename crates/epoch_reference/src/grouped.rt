@@ -31,7 +31,7 @@ pub fn all_fit(notes: &[Heard]) -> bool
     true
 }
 
-/// Closes the epoch where the next note begins another, and says whether it does.
+/// Closes the epoch if the next note begins another, and says whether it does.
 fn close_before(
     alloc: Global,
     out: &mut Vec<Body>,
@@ -50,7 +50,7 @@ fn close_before(
     Ok(closes)
 }
 
-/// The reports with those of the last epoch, which is closed only where it has ended.
+/// The reports with those of the last epoch, which is closed only if it has ended.
 #[tactic(auto, using(crate::proofs::Bounds::nothing_closes))]
 fn finished(alloc: Global, mut reports: Vec<Body>, last: &[DatedNote]) -> Result<Grouped, NoMemory>
     ensures reports { IfOk result (λ g. g.reports.items ≡ reports.items ++ toffs (reverse last.now)

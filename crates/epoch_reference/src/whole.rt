@@ -54,7 +54,7 @@ fn earliest<'a, T: Copy, F: Fn(&DatedNote<'a>) -> Option<T>>(
     None
 }
 
-/// The time of the last note that has a time of day, where the day is known at that note.
+/// The time of the last note that has a time of day, if the day is known at that note.
 fn last_time(epoch: &[DatedNote]) -> Option<Stamp>
     ensures { result ≡ option_flatten (latest_of timed (reverse epoch.now)) }
 {
@@ -217,7 +217,7 @@ fn firsts(alloc: Global, satellites: &[Satellite]) -> Result<Vec<Satellite>, NoM
     Ok(first)
 }
 
-/// The satellites of the epoch, each once, and marked where it is used.
+/// The satellites of the epoch, each once, and marked if it is used.
 #[tactic(auto, unfolding(epoch_core::specs::Satellites::satellites))]
 fn satellites(alloc: Global, epoch: &[DatedNote]) -> Result<Vec<Satellite>, NoMemory>
     ensures { IfOk result (λ sats. sats.items ≡ satellites_in (reverse epoch.now)) }

@@ -90,7 +90,7 @@ both_clear : (ks js : List (List ℕ)) (rest : List ℕ) → AllClear (ks ++ js)
 both_clear [] js rest h = (tt, h)
 both_clear (k ∷ ks) js rest h = let more = both_clear ks js rest h.1 in ((h.0, more.0), more.1)
 
--- a reading of values in a range by their text, where what follows is clear of some labels
+-- a reading of values in a range by their text, if what follows is clear of some labels
 pub record IsPart {X : Type 0} (labels : List (List ℕ)) (R : X → Type 0) (text : X → List ℕ) (read : Reading X) : Type 0 where
   pub sound : (b : List ℕ) (x : X) (rest : List ℕ) → read b ≡ Some (x, rest) → R x × (b ≡ text x ++ rest)
   pub full : (x : X) (rest : List ℕ) → R x → After labels rest → read (text x ++ rest) ≡ Some (x, rest)

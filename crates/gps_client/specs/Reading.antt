@@ -39,11 +39,11 @@ such test r text = do
   x ← r text
   if test x.0 then Some x else None
 
--- what stands behind these bytes, where the text begins with them
+-- what stands behind these bytes, if the text begins with them
 unfoldable pub behind : List ℕ → List ℕ → Option (List ℕ)
 behind head text = if bytes_eq (take (length head) text) head then Some (drop (length head) text) else None
 
--- a value behind these bytes; where they do not stand there, no value
+-- a value behind these bytes; if they do not stand there, no value
 abbrev pub labelled : {X : Type 0} → List ℕ → Reading X → Reading X
 labelled label value text = do
   rest ← behind label text
@@ -115,7 +115,7 @@ is_hundredths (negsuc n) = false
 unfoldable pub hundredths_at : Reading ℕ
 hundredths_at text = made unsigned_abs (such is_hundredths (fixed_at 2)) text
 
--- the stamp that an ISO text says, where it is that of a stamp
+-- the stamp that an ISO text says, if it is that of a stamp
 abbrev pub said : List ℕ → Moment
 said text =
     let day = unsigned_abs (days_from_civil (pos (100 * two_at 0 text + two_at 2 text)) (two_at 5 text) (two_at 8 text)) in

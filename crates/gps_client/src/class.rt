@@ -40,7 +40,7 @@ fn class_in(line: &[u8]) -> Option<Class>
     }
 }
 
-/// The class of a line: its bytes begin with `{"class":"`, the name of the class and `"`. `None` comes exactly where they begin so
+/// The class of a line: its bytes begin with `{"class":"`, the name of the class and `"`. `None` comes exactly if they begin so
 /// with none of the ten names. Takes no memory.
 pub fn class_of(line: &[u8]) -> Option<Class>
     ensures exact { (c : Class) → (result ≡ Some c) ↔ Begins c line.now }

@@ -18,7 +18,7 @@ impl<'a> Model for Cursor<'a> {
     ghost view = { λ c. c.rest.now };
 }
 
-/// What stands behind these bytes, where the text begins with them.
+/// What stands behind these bytes, if the text begins with them.
 #[tactic(auto, unfolding(crate::specs::Reading::behind))]
 fn behind<'a>(head: &[u8], text: &'a [u8]) -> Option<&'a [u8]>
     ensures { option_map (λ r. r.now) result ≡ behind head.now text.now }
@@ -40,7 +40,7 @@ impl<'a> Cursor<'a> {
         self.rest.len()
     }
 
-    /// Passes these bytes, where they stand here.
+    /// Passes these bytes, if they stand here.
     pub fn pass(&mut self, head: &[u8]) -> bool
         ensures passed { behind head.now self.old ≡ if result then Some self.new else None }
         ensures stays { result ≡ false → self.new ≡ self.old }

@@ -1,4 +1,4 @@
-//! The JSON lines of this project's daemon, read back: a line is read exactly where it is the text of a value in range, each byte of it.
+//! The JSON lines of this project's daemon, read back: a line is read exactly if it is the text of a value in range, each byte of it.
 //!
 //! The lines are those that `json_line` writes, after gpsd_json(5). Lines of other daemons are not read.
 #![tactic(auto)]

@@ -27,7 +27,7 @@ impl<'a> Cursor<'a> {
         self.up_to(most)
     }
 
-    /// A whole number of 32 bits, where there is one.
+    /// A whole number of 32 bits, if there is one.
     pub fn up_to_member_if(&mut self, key: Key, most: u32) -> Option<Option<u32>>
         ensures is { option_map (λ x. (x, self.new)) result ≡ member_if_at key (up_to most) self.old }
         ensures small { IfSome result (λ o. IfSome o (λ n. n ≤ most)) }

@@ -27,7 +27,7 @@ step_stays : (end : Bool) (n more m : ℕ) → (n < m → more ≡ n) → cond e
 step_stays true n more m same h = refl
 step_stays false n more m same h = ap suc (same (omega arith))
 
--- where there is an end, nothing behind it matters
+-- if there is an end, nothing behind it matters
 pub open-stays : (quote : Quote) (b d : List ℕ) → open_length quote b < length b → open_length quote (b ++ d) ≡ open_length quote b
 unfolding open_length
 open-stays quote [] d h = absurd (omega arith)
@@ -41,7 +41,7 @@ step_grows false n more m k grows h =
     let e : n ≡ m = omega arith in
     omega (arith, grows e)
 
--- where there is none, one more byte is one more, or the end
+-- if there is none, one more byte is one more, or the end
 pub open-grows : (quote : Quote) (b : List ℕ) (x : ℕ) → open_length quote b ≡ length b
     → open_length quote (b ++ x ∷ []) ≡ length b + cond (ends (fold quote_after quote b) x) 0 1
 unfolding open_length

@@ -25,7 +25,7 @@ kept_open held = record { stand = Open (quote_of held); held = held }
 abbrev pub kept_skipping : CommandCutterView
 kept_skipping = record { stand = Skipping; held = [] }
 
--- what the bytes leave, where the first `skip` of them belong to what went before
+-- what the bytes leave, if the first `skip` of them belong to what went before
 unfoldable pub kept_from : ℕ → List ℕ → CommandCutterView
 kept_from skip [] = kept_open []
 kept_from (suc skip) (c ∷ bytes) = kept_from skip bytes

@@ -28,12 +28,12 @@ ends Outside c = is_end c
 ends Inside c = false
 ends Escaped c = false
 
--- how many bytes stand before the first end outside a string; all, where there is none
+-- how many bytes stand before the first end outside a string; all, if there is none
 unfoldable pub open_length : Quote → List ℕ → ℕ
 open_length quote [] = 0
 open_length quote (c ∷ bytes) = if ends quote c then 0 else suc (open_length (quote_after quote c) bytes)
 
--- how many bytes a line has, with its line feed; all, where there is none
+-- how many bytes a line has, with its line feed; all, if there is none
 unfoldable pub line_length : List ℕ → ℕ
 line_length [] = 0
 line_length (c ∷ bytes) = if is_line_feed c then 1 else suc (line_length bytes)
@@ -49,7 +49,7 @@ by_begin c bytes gap long ended begun =
 abbrev pub long_length : List ℕ → ℕ
 long_length bytes = 1023 + line_length (drop 1023 bytes)
 
--- the requests that the bytes end, where the first `skip` bytes belong to what went before
+-- the requests that the bytes end, if the first `skip` bytes belong to what went before
 unfoldable pub requests_from : ℕ → List ℕ → List RawCommand
 requests_from skip [] = []
 requests_from (suc skip) (c ∷ bytes) = requests_from skip bytes

@@ -14,7 +14,7 @@ use Rattle.gps_command.specs.Requests.{ends, is_gap, is_line_feed, quote_after}
 abbrev pub after_long : ℕ → Stand
 after_long c = if is_line_feed c then Open Outside else Skipping
 
--- a byte that stands in a request, or before one where nothing is held
+-- a byte that stands in a request, or before one if nothing is held
 abbrev pub by_open : {X : Type 0} → Quote → List ℕ → ℕ → X → X → X → X → X
 by_open quote held c gap ended longer long =
     if (length held == 0) && is_gap c then gap

@@ -98,10 +98,10 @@ fn command_of_words(alloc: Global, text: &[u8]) -> Result<Command, ReadFault>
     }
 }
 
-/// What a request asks for. Each fault comes exactly by the bytes, and where several hold the first of these:
-/// `TooLong` for a request of more than 1,024 bytes; `Unknown` where it is none of `?VERSION`, `?DEVICES`,
-/// `?POLL` and `?WATCH` and does not begin with `?WATCH=`; `BadJson` where the rest is not one JSON text,
-/// nested at most 127 deep; `BadWatch` where its value is refused by [`change_of`]. Memory is taken only where
+/// What a request asks for. Each fault comes exactly by the bytes, and if several hold the first of these:
+/// `TooLong` for a request of more than 1,024 bytes; `Unknown` if it is none of `?VERSION`, `?DEVICES`,
+/// `?POLL` and `?WATCH` and does not begin with `?WATCH=`; `BadJson` if the rest is not one JSON text,
+/// nested at most 127 deep; `BadWatch` if its value is refused by [`change_of`]. Memory is taken only if
 /// something stands behind `?WATCH=`.
 pub fn command_of(alloc: Global, request: &RawCommand) -> Result<Command, ReadFault>
     ensures ok { IfOk result (λ command. command_in request.now ≡ Ok command) }

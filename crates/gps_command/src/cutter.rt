@@ -11,7 +11,7 @@ use std::marker::Model;
 /// Where the next byte of the input stands.
 #[derive(Clone, Copy, Debug, PartialEq, Eq)]
 pub enum Stand {
-    /// In a request whose bytes are held, or before one where none are.
+    /// In a request whose bytes are held, or before one if none are.
     Open(Quote),
     /// In the line of a request that was too long.
     Skipping,

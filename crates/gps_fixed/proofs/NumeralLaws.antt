@@ -142,7 +142,7 @@ first_small k ds all =
     let long : length (first_digits k ds) ≡ k = length-take k (ds ++ replicate k 48) ∙ omega (arith, length-append ds (replicate k 48), length-replicate {A = ℕ} k 48) in
     subst (λ n. number (first_digits k ds) < 10 ^ n) long (number_below (first_digits k ds) (first_pass k ds all))
 
--- the first digits, with zeros where there are fewer, as the code computes them
+-- the first digits, with zeros if there are fewer, as the code computes them
 first_value : (k used value : ℕ) (ds : List ℕ) → list_all is_ascii_digit ds ≡ true → used ≡ min (length ds) k → value ≡ number (take used ds) → value * 10 ^ (k - used) ≡ number (first_digits k ds)
 first_value k used value ds all e v =
     elim (cases_lt (length ds) k) [
@@ -156,7 +156,7 @@ first_value k used value ds all e v =
           ap (λ n. value * 10 ^ n) none ∙ (omega (arith, pow-zero 10) ∙ (v ∙ ap number (ap (λ n. take n ds) whole ∙ sym (take-append-le k ds (replicate k 48) enough))))
     ]
 
--- what should be digits is, where a number was read of it
+-- what should be digits is, if a number was read of it
 if_some : (b : Bool) (n value : ℕ) → Some value ≡ if_digits b n → (b ≡ true) × (value ≡ n)
 if_some true n value e = (refl, ap (λ o. unwrap_or o 0) e)
 if_some false n value e = absurd (cc)

@@ -1,4 +1,4 @@
--- The reading of a decimal text is what its spelling says: each text has at most one spelling, and it is read exactly where it has one.
+-- The reading of a decimal text is what its spelling says: each text has at most one spelling, and it is read exactly if it has one.
 use Rattle.std.proofs.Common.{◌≡◌, ℕ, ◌+◌, ◌≤◌, refl, sym, ap, ◌∙◌, subst, ◌↔◌, Bool, true, false, cond, ◌&&◌, ◌==◌, nat_lt, arith, List, [], ◌∷◌, ◌++◌, length, take, drop, take-append-drop, Option, Some, None}
 use Rattle.std.proofs.lemmas.Bool.{and_parts, cond-true, cond-false}
 use Rattle.std.proofs.lemmas.Bool.Decides.{nat_tests}

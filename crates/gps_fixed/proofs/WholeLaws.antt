@@ -129,7 +129,7 @@ pub all_read : (b : Bool) (n value : ℕ) → Some value ≡ if_digits b n → b
 all_read true n value e = refl
 all_read false n value e = absurd (cc)
 
--- the magnitude is small where the numeral's is
+-- the magnitude is small if the numeral's is
 pub small_whole : (count k m : ℕ) (o : Option Numeral) → Some m ≡ whole_value count o → ((n : Numeral) → o ≡ Some n → n.magnitude < 10 ^ (n.before + k)) → m < 10 ^ (count + k)
 small_whole count k m None e small = cc
 small_whole count k m (Some n) e small = by_test (has_whole count n) refl e (small n refl)

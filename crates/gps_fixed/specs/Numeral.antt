@@ -10,11 +10,11 @@ use Rattle.gps_fixed.specs.declared.numeral.Numeral.{Numeral}
 abbrev pub number : List ℕ → ℕ
 number digits = fold (λ n c. n * 10 + (c - 48)) 0 digits
 
--- the first k of the digits, with zeros where there are fewer
+-- the first k of the digits, with zeros if there are fewer
 abbrev pub first_digits : ℕ → List ℕ → List ℕ
 first_digits k digits = take k (digits ++ replicate k 48)
 
--- the digits before the point, and those behind it where there is a point
+-- the digits before the point, and those behind it if there is a point
 pub record Parts : Type 0 where
   pub whole : List ℕ
   pub behind : Option (List ℕ)
@@ -47,7 +47,7 @@ reading k p = record { before = length p.whole; behind = option_map length p.beh
 abbrev pub IsNumeral : ℕ → List ℕ → Numeral → Type 0
 IsNumeral k text n = (p : Parts) × AreParts p × (text ≡ spelling p) × (n ≡ reading k p)
 
--- a number, where what should write it is all digits
+-- a number, if what should write it is all digits
 abbrev pub if_digits : Bool → ℕ → Option ℕ
 if_digits all n = if all then Some n else None
 

@@ -4,7 +4,7 @@ use Rattle.std.specs.Option.{option_map, option_and_then, unwrap_or}
 use Rattle.gps_fixed.specs.declared.numeral.Numeral.{Numeral}
 use Rattle.gps_fixed.specs.Numeral.{Parts, AreParts, fraction, spelling, scaled_magnitude, numeral}
 
--- digits with an optional point, at least one digit in all, written behind a `-` where the value is negative
+-- digits with an optional point, at least one digit in all, written behind a `-` if the value is negative
 abbrev pub sign : Bool → List ℕ
 sign true = 45 ∷ []
 sign false = []

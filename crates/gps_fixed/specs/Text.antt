@@ -4,7 +4,7 @@ use Rattle.std.specs.Fmt.{decimal}
 use Rattle.gps_fixed.specs.Moment.{Moment}
 use Rattle.gps_fixed.specs.Civil.{CivilDate, civil_of}
 
--- the last k digits of n, zeros in front where it has fewer
+-- the last k digits of n, zeros in front if it has fewer
 abbrev pub digits_in : ℕ → ℕ → List ℕ
 digits_in zero n = []
 digits_in (suc k) n = (48 + n / 10 ^ k % 10) ∷ digits_in k n

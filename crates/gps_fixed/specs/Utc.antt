@@ -1,4 +1,4 @@
--- The point of time of a day and a time of that day, in UTC, where each day has 86,400 seconds.
+-- The point of time of a day and a time of that day, in UTC, if each day has 86,400 seconds.
 use Rattle.std.specs.Prelude.{ℕ, ◌/◌, ◌%◌, ◌^◌, ℤ, pos, ◌+ℤ◌, ◌*ℤ◌}
 use Rattle.gps_fixed.specs.Moment.{Moment}
 

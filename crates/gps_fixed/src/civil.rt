@@ -5,7 +5,7 @@ use jiff::civil::Date;
 
 /// The number of a civil date, counted from 1970-01-01.
 ///
-/// `None` comes exactly where the date is no civil date or its year is outside 1980..=2099.
+/// `None` comes exactly if the date is no civil date or its year is outside 1980..=2099.
 pub fn day_of(year: i32, month: u8, day: u8) -> Option<i32>
     ensures value { result ≡ day_number year month day }
     ensures exact { (n : ℕ) → (result ≡ Some (pos n)) ↔ IsDayOf year month day n }
@@ -33,7 +33,7 @@ fn is_receivable(year: i32, month: u8, day: u8) -> bool
     1980 <= year && year <= 2099 && month <= 12 && day <= 31
 }
 
-/// The number of a civil date of the years 1980..=2099, or `None` where the calendar has no such day.
+/// The number of a civil date of the years 1980..=2099, or `None` if the calendar has no such day.
 fn number_of(year: i16, month: i8, day: i8) -> Option<i32>
     requires from { pos 1980 ≤ℤ year }
     requires to { year ≤ℤ pos 2099 }

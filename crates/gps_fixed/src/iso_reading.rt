@@ -10,7 +10,7 @@ use jiff::civil::Date;
 
 /// The stamp in whole milliseconds whose [`crate::iso_text`] this is.
 ///
-/// `None` comes exactly where the text is the `iso_text` of no stamp. Takes no memory.
+/// `None` comes exactly if the text is the `iso_text` of no stamp. Takes no memory.
 #[tactic(auto, using(crate::proofs::IsoLaws::exact, crate::proofs::IsoLaws::none))]
 pub fn stamp_of_iso(text: &[u8]) -> Option<Stamp>
     ensures exact { (at : Moment) → (result ≡ Some at) ↔ IsIsoOf at text.now }
@@ -55,7 +55,7 @@ fn stamp_in(text: &[u8]) -> Option<Stamp>
     }
 }
 
-/// The number of a day, counted from 1970-01-01, where a stamp may lie in it.
+/// The number of a day, counted from 1970-01-01, if a stamp may lie in it.
 fn number_of_day(year: u32, month: u32, day: u32) -> Option<u32>
     ensures few { IfSome result (λ n. n ≤ 115_740) }
     ensures found { (n : ℕ) → n ≤ 115_740 → civil_of n ≡ civil year month day → result ≡ Some n }

@@ -10,7 +10,7 @@ ghost use Rattle.gps_fixed.specs.Numeral.{number, first_digits, numeral_behind, 
 pub struct Numeral {
     /// How many digits stand before the point.
     pub before: usize,
-    /// How many digits stand behind the point, where there is one.
+    /// How many digits stand behind the point, if there is one.
     pub behind: Option<usize>,
     /// The value times a power of ten, further digits dropped.
     pub magnitude: u64,
@@ -28,7 +28,7 @@ struct Digits {
 
 /// Reads at most nine digits, and behind a point any number of them; the value is scaled by `10^decimals`.
 ///
-/// `None` comes exactly where the text is not of this form. The text may have no digit at all.
+/// `None` comes exactly if the text is not of this form. The text may have no digit at all.
 pub fn read_numeral(text: &[u8], decimals: u8) -> Option<Numeral>
     requires { decimals ≤ 9 }
     ensures value { result ≡ numeral decimals text.now }
@@ -56,7 +56,7 @@ fn numeral_in(text: &[u8], decimals: u8) -> Option<Numeral>
     }
 }
 
-/// The digits that begin a text, where there are at most nine.
+/// The digits that begin a text, if there are at most nine.
 #[tactic(auto, using(crate::proofs::NumeralLaws::below_leading))]
 fn leading_digits(text: &[u8]) -> Option<Digits>
     ensures none { result ≡ None → 9 < prefix_len is_ascii_digit text.now }
@@ -121,7 +121,7 @@ fn are_digits(text: &[u8]) -> bool
     text.iter().all(|c| c.is_ascii_digit())
 }
 
-/// The number that at most eighteen digits write; `None` where one of them is no digit.
+/// The number that at most eighteen digits write; `None` if one of them is no digit.
 #[inline(always)]
 pub(crate) fn number_of(text: &[u8]) -> Option<u64>
     requires few { length text.now ≤ 18 }
@@ -138,7 +138,7 @@ pub(crate) fn number_of(text: &[u8]) -> Option<u64>
     Some(value)
 }
 
-/// The number that the first digits behind a point write, with zeros where there are fewer; `None` where what stands there is not all digits.
+/// The number that the first digits behind a point write, with zeros if there are fewer; `None` if what stands there is not all digits.
 fn fraction(text: &[u8], count: u8) -> Option<u64>
     requires few { count ≤ 9 }
     ensures value { result ≡ if_digits (list_all is_ascii_digit text.now) (number (first_digits count text.now)) }

@@ -8,7 +8,7 @@ use crate::{Numeral, read_numeral};
 /// Reads a fixed point number: an optional `-`, then 0 to 9 digits, then optionally `.` and any number of digits,
 /// with at least one digit in all. The answer is the value times `10^decimals`, further digits dropped.
 ///
-/// `None` comes exactly where the text is not of this form.
+/// `None` comes exactly if the text is not of this form.
 #[tactic(auto, unfolding(crate::specs::Scaled::scaled))]
 pub fn read_scaled(text: &[u8], decimals: u8) -> Option<i64>
     requires { decimals ≤ 9 }
@@ -54,7 +54,7 @@ pub fn read_magnitude(text: &[u8], decimals: u8) -> Option<u64>
 }
 
 /// Reads exactly `count` digits, and optionally a point and at least one digit behind it; times `10^decimals`, further digits dropped.
-/// Where the count is a constant, the digits before the point are read without a loop.
+/// If the count is a constant, the digits before the point are read without a loop.
 #[inline(always)]
 #[tactic(auto, using(crate::proofs::WholeLaws::none_long, crate::proofs::WholeLaws::none_short, crate::proofs::WholeLaws::none_first, crate::proofs::WholeLaws::all_read))]
 pub fn read_digits(text: &[u8], count: usize, decimals: u8) -> Option<u64>

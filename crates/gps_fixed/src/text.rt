@@ -33,7 +33,7 @@ fn push_long(out: &mut Bytes, n: u64) -> Result<(), NoMemory>
     out.extend_from_slice(digits.format(n).as_bytes())
 }
 
-/// Adds the last `count` digits of a number, at most nine, with zeros in front where it has fewer.
+/// Adds the last `count` digits of a number, at most nine, with zeros in front if it has fewer.
 pub fn push_digits(out: &mut Bytes, n: u32, count: u8) -> Result<(), NoMemory>
     requires { count ≤ 9 }
     ensures { OnOk result (out.new ≡ out.old ++ digits_in count n) }

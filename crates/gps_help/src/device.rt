@@ -9,7 +9,7 @@ struct DeviceWord<'a> {
     place: &'a str,
 }
 
-/// The device word at this place, where a plain word with an `=` stands there that is no option's value.
+/// The device word at this place, if a plain word with an `=` stands there that is no option's value.
 fn device_at(words: &[String], at: usize) -> Option<DeviceWord<'_>> {
     if option_before(CommandName::Serve, words, at).is_some() {
         return None;

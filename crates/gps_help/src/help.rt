@@ -1,4 +1,4 @@
-/// The first line of standard error where the words are refused.
+/// The first line of standard error if the words are refused.
 pub const USAGE: &str = "usage: gpsrelay decode|replay|generate|pseudo|lines|serve";
 
 /// The version, as the daemon's VERSION line says it.

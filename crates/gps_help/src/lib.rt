@@ -1,4 +1,4 @@
-//! Why the words of the command line are refused, in words for a person, and the help. [`refused`] gives a reason exactly where no command
+//! Why the words of the command line are refused, in words for a person, and the help. [`refused`] gives a reason exactly if no command
 //! and no daemon is asked for. This project's own.
 #![tactic(auto)]
 

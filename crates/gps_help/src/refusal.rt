@@ -142,7 +142,7 @@ fn fault_in(command: CommandName, words: &[String]) -> (Option<usize>, Cause)
     (None, lack(command, words))
 }
 
-/// What the first word says where it is no command.
+/// What the first word says if it is no command.
 fn first_cause(word: &str) -> Cause {
     if word == "help" || word == "--help" || word == "-h" {
         Cause::Help
@@ -153,7 +153,7 @@ fn first_cause(word: &str) -> Cause {
     }
 }
 
-/// Why the words are refused, where they are.
+/// Why the words are refused, if they are.
 fn reason(words: &[String]) -> Refusal
     ensures there { IsThere result (length words.now) }
     ensures command { result.command ≡ command_in (map string_bytes words.now) }
@@ -183,7 +183,7 @@ fn reason(words: &[String]) -> Refusal
     }
 }
 
-/// Why the words, which stand without the program's name, are refused: a reason comes exactly where they ask for no command and not
+/// Why the words, which stand without the program's name, are refused: a reason comes exactly if they ask for no command and not
 /// for the daemon. The reason names the command that the words begin with, and a word only by its place among them; which of several
 /// causes it names is free.
 pub fn refused(alloc: Global, words: &[String]) -> Result<Option<Refusal>, NoMemory>

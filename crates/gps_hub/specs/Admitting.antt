@@ -8,12 +8,12 @@ use Rattle.session_core.specs.Naming.{of_table}
 use Rattle.report_book.specs.declared.fault.BookFault.{BookFault}
 use Rattle.report_book.specs.declared.fault.BookFault.TheVariants.{NoSuch, Ended, TooManySessions, NoMemory}
 
--- where the book was shut before, the new session is closed at once
+-- if the book was shut before, the new session is closed at once
 abbrev pub ShutIf : Bool → BookView → BookView → Type 0
 ShutIf false old new = new ≡ old
 ShutIf true old new = ShutsAll old new
 
--- a session was admitted over these lanes, and is closed at once where the book was shut before
+-- a session was admitted over these lanes, and is closed at once if the book was shut before
 abbrev pub AdmitsAs : SessionLanes → Bool → BookView → BookView → Type 0
 AdmitsAs link is_shut old new = (mid : BookView) × Admits (of_table link.outlet) link.cap old mid × ShutIf is_shut mid new
 
@@ -27,7 +27,7 @@ abbrev pub RefusesLink : {X O I : Type 0} → Option BookFault → Result X (O �
 RefusesLink (Some fault) result = (outlet : _) × (input : _) × (result ≡ Err (outlet, input, fault))
 RefusesLink None result = IfErr result (λ refusal. refusal.2 ≡ NoMemory)
 
--- where too many sessions are the fault, at least 64 were admitted before
+-- if too many sessions are the fault, at least 64 were admitted before
 abbrev pub IsCrowded : BookFault → ℕ → Type 0
 IsCrowded NoSuch admitted = Unit {0}
 IsCrowded Ended admitted = Unit {0}

@@ -1,4 +1,4 @@
--- Where a closed session's outlet holds nothing more.
+-- What holds once a closed session's outlet holds nothing more.
 use Rattle.std.specs.Prelude.{◌≡◌, ◌⊎◌, ℕ, List, slice_index_or}
 use Rattle.book_sessions.specs.MemberView.{MemberView}
 use Rattle.gps_lane.specs.Ends.{Taking}

@@ -26,7 +26,7 @@ use Rattle.gps_hub.specs.declared.inlets.Next.TheVariants.{Nothing, Bytes, Edges
 use Rattle.gps_hub.specs.declared.pumped.Pumped.{Pumped}
 use Rattle.gps_hub.specs.declared.pumped.Pumped.TheVariants.{Fed, Empty, Waiting, Done, Refused}
 
--- which lane gave a piece, where one did
+-- which lane gave a piece, if one did
 abbrev pub MatchNext : Next → InletsView → InletsView → Type 0
 MatchNext Nothing old new = new ≡ old
 MatchNext (Bytes piece) old new = new ≡ with_bytes piece old
@@ -37,7 +37,7 @@ abbrev pub edge_entries : ℕ → Option Edge → List Entry
 edge_entries d None = []
 edge_entries d (Some edge) = edged d edge
 
--- what a piece of a device's lane adds to the log, where the device ends so by it
+-- what a piece of a device's lane adds to the log, if the device ends so by it
 abbrev pub bytes_entries : ℕ → Piece → Option DeviceEnd → List Entry
 bytes_entries d (BytesPiece at bytes) end = fed d at bytes
 bytes_entries d (Line line) end = []
@@ -113,8 +113,8 @@ IsWaiting h = (count_by was_watched h.book.sessions < h.wait) × (h.door.done �
 abbrev pub DeviceGoesOn : HubView → ℕ → Type 0
 DeviceGoesOn h d = MayGoOn (parts_of h) × (get_or h.ends d None ≡ None)
 
--- Waiting exactly where devices wait; Done exactly where the device has stopped. Else a piece is got of one lane, or none is there; and it is Fed
--- exactly where the book did not refuse that piece.
+-- Waiting exactly if devices wait; Done exactly if the device has stopped. Else a piece is got of one lane, or none is there; and it is Fed
+-- exactly if the book did not refuse that piece.
 abbrev pub DevicePumped : Pumped → ℕ → HubView → HubView → Type 0
 DevicePumped (Waiting watched) d old new = IsWaiting old × (watched ≡ count_by was_watched old.book.sessions) × (new ≡ old)
 DevicePumped Done d old new = (is_some (get_or old.ends d None) ≡ true) × (new ≡ old)
@@ -172,7 +172,7 @@ IsOpenIn h s = IsOpenAt s h.book.sessions
 abbrev pub GetsInput : Piece → ℕ → HubView → HubView → Type 0
 GetsInput piece s old new = (x : Taking Piece) → get_or new.inputs s x ≡ with_got piece (get_or old.inputs s x)
 
--- Done exactly where the session is closed. Else a piece is got of its lane and heard, or none is there. Where the book refuses it, the session
+-- Done exactly if the session is closed. Else a piece is got of its lane and heard, or none is there. If the book refuses it, the session
 -- is hung up, and is else as it was.
 abbrev pub SessionPumped : Pumped → ℕ → HubView → HubView → Type 0
 SessionPumped (Waiting watched) s old new = ⊥

@@ -100,7 +100,7 @@ fn stop_as<R: Wait + Copy>(
     }
 }
 
-/// Stops a device in the book, where both of its lanes have told how their source ended.
+/// Stops a device in the book, if both of its lanes have told how their source ended.
 fn stop<R: Wait + Copy>(
     book: &mut Book<Tx<Item, R>>,
     d: u8,
@@ -277,7 +277,7 @@ fn take_edge<R: Wait + Copy>(
     }
 }
 
-/// Gets a piece of a device's lanes, where there is one, and gives it to the book.
+/// Gets a piece of a device's lanes, if there is one, and gives it to the book.
 pub(crate) fn pump<R: Wait + Copy>(
     book: &mut Book<Tx<Item, R>>,
     inlets: &mut Inlets<R>,

@@ -32,7 +32,7 @@ pub(crate) fn finish<J: DoorNaming>(keeper: &mut Keeper<J>, is_done: bool, door:
     }
 }
 
-/// Opens the next session, which is closed at once where the book was shut.
+/// Opens the next session, which is closed at once if the book was shut.
 pub(crate) fn open<R: Wait + Copy>(
     book: &mut Book<Tx<Item, R>>,
     outlet: Tx<Item, R>,
@@ -58,7 +58,7 @@ pub(crate) fn open<R: Wait + Copy>(
     }
 }
 
-/// Closes each live session, where the book was shut.
+/// Closes each live session, if the book was shut.
 fn shut_if<R: Wait + Copy>(book: &mut Book<Tx<Item, R>>, is_shut: bool)
     requires { is_shut ≡ true → list_all (λ line. has_stopped line.stage) book.old.log.present.lines ≡ true }
     ensures { ShutIf is_shut book.old book.new }

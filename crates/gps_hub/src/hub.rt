@@ -122,7 +122,7 @@ impl<J: HubNaming, R: Wait + Copy> Hub<J, R> {
         Ok((hub, seat))
     }
 
-    /// How many sessions have watched, where the devices wait.
+    /// How many sessions have watched, if the devices wait.
     fn waiting(&self) -> Option<u32>
         ensures { MatchOption result (MayGoOn (parts_of self.now)) (λ watched. IsWaiting self.now × (watched ≡ count_by was_watched self.now.book.sessions)) }
     {
@@ -174,7 +174,7 @@ impl<J: HubNaming, R: Wait + Copy> Hub<J, R> {
         pumped
     }
 
-    /// One step of a unit: it begins the first waiting sample where none is being stored, and makes one store, or none.
+    /// One step of a unit: it begins the first waiting sample if none is being stored, and makes one store, or none.
     pub fn publish(&mut self, u: u8) -> UnitStep
         requires { u < length J.terms.segments }
         ensures publishes { PublishesAt u result self.old.book self.new.book }
@@ -194,7 +194,7 @@ impl<J: HubNaming, R: Wait + Copy> Hub<J, R> {
         self.is_done = true;
     }
 
-    /// Admits a session over these lanes. Where the book was shut before, it is closed at once.
+    /// Admits a session over these lanes. If the book was shut before, it is closed at once.
     pub fn admit_link(
         &mut self,
         door: &mut DoorSeat<J>,
@@ -242,7 +242,7 @@ impl<J: HubNaming, R: Wait + Copy> Hub<J, R> {
         }
     }
 
-    /// Shuts the book where each device has ended or was lost: no session is live then, nor will one be. Else it changes nothing.
+    /// Shuts the book if each device has ended or was lost: no session is live then, nor will one be. Else it changes nothing.
     pub fn shut(&mut self) -> bool
         ensures exact { result ≡ list_all (λ line. has_stopped line.stage) self.old.book.log.present.lines }
         ensures shuts { result ≡ true → ShutsAll self.old.book self.new.book }
@@ -260,7 +260,7 @@ impl<J: HubNaming, R: Wait + Copy> Hub<J, R> {
         true
     }
 
-    /// Gets the next item of a closed session's outlet, where there is one. None where the session is not closed.
+    /// Gets the next item of a closed session's outlet, if there is one. None if the session is not closed.
     pub fn settle_outlet(
         &mut self,
         door: &mut DoorSeat<J>,
@@ -282,7 +282,7 @@ impl<J: HubNaming, R: Wait + Copy> Hub<J, R> {
     }
 
     /// Lets both ends of a closed session's input lane meet: pieces that it still holds are got, and no request of them is answered. Then the
-    /// lane may be closed, so that nothing can be put into it any more. Nothing changes where the session is not closed.
+    /// lane may be closed, so that nothing can be put into it any more. Nothing changes if the session is not closed.
     pub fn settle_input(&mut self, door: &mut DoorSeat<J>, s: u32, pieces: &mut Tx<Piece, R>)
         requires there { s < length door.old.links }
         requires input { (free : SessionLanes) → pieces.old.lane ≡ (get_or door.old.links s free).input }
@@ -320,7 +320,7 @@ impl<J: HubNaming, R: Wait + Copy> Hub<J, R> {
         &self.book
     }
 
-    /// What is new of the session at a place of the list of those that were not closed at the last look; none behind the last. Where it is
+    /// What is new of the session at a place of the list of those that were not closed at the last look; none behind the last. If it is
     /// closed now, it leaves the list, and the last one takes its place.
     pub fn look(&mut self, place: usize) -> Option<Look>
         ensures session { IfSome result (λ look. look.session < length self.old.inputs) }

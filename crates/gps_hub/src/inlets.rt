@@ -10,7 +10,7 @@ use std::alloc::Global;
 use std::marker::Model;
 use std::sync::Wait;
 
-/// The receiving ends of a device's lane and of its edge lane, where it has one.
+/// The receiving ends of a device's lane and of its edge lane, if it has one.
 #[derive(Drop)]
 pub struct Inlets<R> {
     pub bytes: Rx<Piece, R>,
@@ -25,7 +25,7 @@ impl<R> Model for Inlets<R> {
     ghost view = { λ x. record { bytes = x.bytes; edges = x.edges } };
 }
 
-/// How the sources of a device's lanes ended, where the lanes have told, and which lane is looked at first.
+/// How the sources of a device's lanes ended, if the lanes have told, and which lane is looked at first.
 #[derive(Drop)]
 pub(crate) struct Lasts {
     pub(crate) bytes: Option<Ending>,
@@ -118,7 +118,7 @@ impl<R: Wait + Copy> Inlets<R> {
         }
     }
 
-    /// The next piece of a lane that has not told how its source ended; none, where each of these holds none. The lanes take turns at
+    /// The next piece of a lane that has not told how its source ended; none, if each of these holds none. The lanes take turns at
     /// being looked at first.
     pub(crate) fn next(&mut self, lasts: &mut Lasts) -> Next
         ensures next { MatchNext result self.old self.new }

@@ -43,13 +43,13 @@ impl OpenSessions {
         Ok(())
     }
 
-    /// A new session. It is forgotten where no room was taken.
+    /// A new session. It is forgotten if no room was taken.
     pub(crate) fn add(&mut self, session: u32) {
         let one = OpenSession { session, items: 0 };
         if self.list.push(one).is_err() {}
     }
 
-    /// Looks at the session at a place of the list; none behind the last. Where it is closed, the last one takes its place.
+    /// Looks at the session at a place of the list; none behind the last. If it is closed, the last one takes its place.
     pub(crate) fn look<R: Wait + Copy>(
         &mut self,
         book: &Book<Tx<Item, R>>,

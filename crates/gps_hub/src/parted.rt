@@ -6,7 +6,7 @@ use serve_pieces::Piece;
 use session_core::Item;
 use std::sync::Wait;
 
-/// What a hub held: its book, the lanes of each device and how the device ended, where it has stopped, and the input lane of each session.
+/// What a hub held: its book, the lanes of each device and how the device ended, if it has stopped, and the input lane of each session.
 #[derive(Drop)]
 pub struct Parted<R: Wait + Copy> {
     pub book: Book<Tx<Item, R>>,

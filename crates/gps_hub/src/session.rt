@@ -88,7 +88,7 @@ fn take_input<R: Wait + Copy>(book: &mut Book<Tx<Item, R>>, s: u32, piece: Piece
     }
 }
 
-/// Gets a piece of a session's input lane, where there is one, and gives it to the book.
+/// Gets a piece of a session's input lane, if there is one, and gives it to the book.
 pub(crate) fn pump<R: Wait + Copy>(
     book: &mut Book<Tx<Item, R>>,
     input: &mut Rx<Piece, R>,

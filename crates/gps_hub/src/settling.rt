@@ -16,7 +16,7 @@ use std::sync::Wait;
 /// As many pieces as an input lane may hold.
 const PIECES: u32 = 64;
 
-/// Gets the next item of a session's outlet, where there is one.
+/// Gets the next item of a session's outlet, if there is one.
 #[tactic(auto, using(hub_promise::proofs::Settling::settles, hub_promise::proofs::Settling::far_end))]
 pub(crate) fn next_item<R: Wait + Copy>(
     book: &mut Book<Tx<Item, R>>,
@@ -35,7 +35,7 @@ pub(crate) fn next_item<R: Wait + Copy>(
     }
 }
 
-/// Gets the next piece of a closed session's input lane, and drops it; false where there was none.
+/// Gets the next piece of a closed session's input lane, and drops it; false if there was none.
 fn drop_piece<R: Wait + Copy>(pieces: &mut Tx<Piece, R>, input: &mut Rx<Piece, R>) -> bool
     requires one_lane { input.old.lane ≡ pieces.old.lane }
     requires once { TellsOnce pieces.old.put }

@@ -1,4 +1,4 @@
--- What stays of the end that puts, where its lane may have been closed.
+-- What stays of the end that puts, if its lane may have been closed.
 use Rattle.std.proofs.Common.{◌≡◌, Bool, ap, sym, ◌∙◌}
 use Rattle.gps_lane.specs.Ends.{Putting}
 

@@ -14,7 +14,7 @@ module _ {A B T : Type 0} where
   pub same_ids : (q : Option A) (r : Option B) (id id' : TableId) (all all' : List T) → bond_by q id all ≡ bond_by r id' all' → id' ≡ id
   same_ids q r id id' all all' same = sym (id_of r id' all') ∙ (sym (ap (λ (b : Bond T). b.queue.name) same) ∙ id_of q id all)
 
-  -- where the one still has it the other has it too
+  -- if the one still has it the other has it too
   pub still_there : (P : B → Type 0) (q : Option A) (r : Option B) (x : A) (id id' : TableId) (all all' : List T)
       → q ≡ Some x → bond_by q id all ≡ bond_by r id' all' → IfSome r P → (y : B) × P y
   still_there P q None x id id' all all' is same has =

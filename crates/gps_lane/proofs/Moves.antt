@@ -144,7 +144,7 @@ module _ {T : Type 0} where
   pub holds_last : (end : ℕ) (v : Items T) → v.puts ≡ true → Learns IsInOrder end v (λ items. EndsWith items v.put)
   holds_last end v may items views h at = (h.3, ((h.5 end v at).0 may).1 ∙ h.4)
 
-  -- where one end puts and gets, it knows what the lane holds
+  -- if one end puts and gets, it knows what the lane holds
   pub holds_rest : (end : ℕ) (v : Items T) → v.gets ≡ true → Learns IsInOrder end v (λ items. v.puts ≡ true → v.put ≡ v.got ++ items)
   holds_rest end v may items views h at puts =
       let mine = h.5 end v at in

@@ -19,7 +19,7 @@ open_over queue = record { queue = table_name queue; all = None }
 abbrev pub let_go : {T : Type 0} → TableId → List T → Bond T
 let_go queue all = record { queue = table_name queue; all = Some all }
 
--- what both ends know, where they still have a queue or have dropped it
+-- what both ends know, if they still have a queue or have dropped it
 abbrev pub bond_by : {Q T : Type 0} → Option Q → TableId → List T → Bond T
 bond_by (Some queue) id all = open_over id
 bond_by None id all = let_go id all

@@ -8,7 +8,7 @@ use Rattle.gps_lane.specs.declared.order.LaneLog.{LaneLog}
 abbrev pub log : {X : Type 0} → Bool → Bool → X → X → LaneLog X
 log puts gets put got = record { puts = puts; gets = gets; put = put; got = got }
 
--- what an end knows is so, where `writer` is the number of the end that puts, and `reader` that of the end that gets
+-- what an end knows is so, if `writer` is the number of the end that puts, and `reader` that of the end that gets
 abbrev pub Fits : {X : Type 0} → ℕ → ℕ → X → X → ℕ → LaneLog X → Type 0
 Fits writer reader put got end v = (v.puts ≡ true → (end ≡ writer) × (v.put ≡ put)) × (v.gets ≡ true → (end ≡ reader) × (v.got ≡ got))
 

@@ -114,7 +114,7 @@ pub fn lane<T: Drop, R: Wait + Copy>(
 }
 
 impl<T: Drop, R: Wait + Copy> Tx<T, R> {
-    /// Puts an item. Full comes where the lane held as many items as it may at one moment of the call; the clause says that this number was put.
+    /// Puts an item. Full comes if the lane held as many items as it may at one moment of the call; the clause says that this number was put.
     ///
     /// Takes no memory. It may wait for a step of the other end inside the queue. A lane that is closed ([`settle_or_close`]) takes no item:
     /// neither answer would be true of it.
@@ -141,7 +141,7 @@ impl<T: Drop, R: Wait + Copy> Tx<T, R> {
 }
 
 impl<T: Drop, R: Wait + Copy> Rx<T, R> {
-    /// Gets the next item, or None where the lane holds none. No clause says that None comes only then; [`settle`] says it, where both ends
+    /// Gets the next item, or None if the lane holds none. No clause says that None comes only then; [`settle`] says it, if both ends
     /// are at hand.
     ///
     /// Takes no memory. It may wait for a step of the other end inside the queue.
@@ -180,8 +180,8 @@ fn next<T: Drop, R: Wait + Copy>(
     item
 }
 
-/// Gets the next item where both ends of a lane are at hand. What was got is then a prefix of what was put, and all of
-/// it where there was none to get. Takes no memory.
+/// Gets the next item if both ends of a lane are at hand. What was got is then a prefix of what was put, and all of
+/// it if there was none to get. Takes no memory.
 pub fn settle<T: Drop, R: Wait + Copy>(tx: &mut Tx<T, R>, rx: &mut Rx<T, R>) -> Option<T>
     requires { rx.old.lane ≡ tx.old.lane }
     ensures tx { tx.new ≡ tx.old }

@@ -25,7 +25,7 @@ impl<T> Protocol<T, Items<T>> for InOrder {
     ghost first = { log true true [] [] };
 }
 
-/// One more item is put; the lane is full only where it holds as many of the last items as it has room for.
+/// One more item is put; the lane is full only if it holds as many of the last items as it has room for.
 pub struct Puts;
 
 impl<T> Outcome<T, Items<T>> for Puts {
@@ -42,7 +42,7 @@ impl<T> Lesson<T, Items<T>> for Puts {
 }
 
 /// One more item is got. An end that knows both lists knows that what was got is the first of what was put, and all of
-/// it where there was none to get.
+/// it if there was none to get.
 pub struct Gets;
 
 impl<T> Outcome<T, Items<T>> for Gets {

@@ -53,7 +53,7 @@ part_on piece more before now after first second =
     ))
     first second
 
--- and so are the pieces that are written whole, where more was due
+-- and so are the pieces that are written whole, if more was due
 pub part_of : (piece more : List ℕ) (before after : Option (List ℕ))
     → Goes (Appends piece) before after → Goes (AppendsPart (piece ++ more)) before after
 part_of piece more before after written =

@@ -1,4 +1,4 @@
--- A reader of std as a source: the bytes that are still to come, where the reader tells them, and what was counted.
+-- A reader of std as a source: the bytes that are still to come, if the reader tells them, and what was counted.
 use Rattle.std.specs.Prelude.{ℕ, List, [], take, Option}
 use Rattle.std.specs.Io.KnownBytes.{Consumes, IsAtEnd, Keeps}
 use Rattle.gps_outside.specs.declared.source.ReadStep.{ReadStep}

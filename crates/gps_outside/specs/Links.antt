@@ -20,20 +20,20 @@ Admits Quiet before after = Goes Stays before after
 Admits Closed before after = Goes HasNoLink before after
 Admits Failed before after = Goes Stays before after
 
--- a door's faults rise only where it answers Failed
+-- a door's faults rise only if it answers Failed
 abbrev pub FailsOnly : {I O : Type 0} → DoorStep I O → ℕ → ℕ → Type 0
 FailsOnly (Link source sink) before after = after ≡ before
 FailsOnly Quiet before after = after ≡ before
 FailsOnly Closed before after = after ≡ before
 FailsOnly Failed before after = Unit {0}
 
--- nothing was taken from a source, where it tells that, and it counted nothing
+-- nothing was taken from a source, if it tells that, and it counted nothing
 pub record IsUnread (content : Option Stream) (faults quiets : ℕ) : Type 0 where
   pub nothing : IfSome content (λ stream. stream.taken ≡ [])
   pub no_fault : faults ≡ 0
   pub no_quiet : quiets ≡ 0
 
--- nothing was written to a sink, where it tells that, and it counted nothing
+-- nothing was written to a sink, if it tells that, and it counted nothing
 pub record IsUnwritten (written : Option (List ℕ)) (faults : ℕ) : Type 0 where
   pub nothing : IfSome written (λ bytes. bytes ≡ [])
   pub no_fault : faults ≡ 0

@@ -82,7 +82,7 @@ ReadsToEnd Full limit bytes before after = (length bytes ≡ limit) × Goes (Pas
 ReadsToEnd EndsFailed limit bytes before after = (length bytes ≤ limit) × Goes (TakesSome bytes) before after
 ReadsToEnd EndsTooQuiet limit bytes before after = (length bytes ≤ limit) × Goes (Passes bytes) before after
 
--- the counts that must have risen where a reading ends so: the source's faults, or its quiets by a thousand
+-- the counts that must have risen if a reading ends so: the source's faults, or its quiets by a thousand
 abbrev pub ReadHasCause : ReadEnd → ℕ → ℕ → ℕ → ℕ → Type 0
 ReadHasCause AtEnd faults faults' quiets quiets' = Unit {0}
 ReadHasCause Full faults faults' quiets quiets' = Unit {0}

@@ -8,13 +8,13 @@ pub record Dial : Type 0 where
   pub may : List Moment
   pub left : List Moment
 
--- One stamp is given: one of those that the clock may give, which stay the same. It is the next of those left, where one is left.
+-- One stamp is given: one of those that the clock may give, which stay the same. It is the next of those left, if one is left.
 pub record Gives (stamp : Moment) (before after : Dial) : Type 0 where
   pub allowed : IsAmong before.may stamp
   pub same : after.may ≡ before.may
   pub next : (before.left ≡ stamp ∷ after.left) ⊎ ((before.left ≡ []) × (after.left ≡ []))
 
--- the stamp that is the given number of nanoseconds after 1970-01-01T00:00:00Z, or the last one where that lies behind it
+-- the stamp that is the given number of nanoseconds after 1970-01-01T00:00:00Z, or the last one if that lies behind it
 abbrev pub nearest_stamp : ℕ → Moment
 nearest_stamp nanos =
     if nat_le (nanos / 1_000_000_000) 9_999_999_999

@@ -6,7 +6,7 @@ pub record Stream : Type 0 where
   pub taken : List ℕ
   pub left : List ℕ
 
--- A content goes from `before` to `after` as P says, where it is told; and then it stays told.
+-- A content goes from `before` to `after` as P says, if it is told; and then it stays told.
 abbrev pub Goes : {X : Type 0} → (X → X → Type 0) → Option X → Option X → Type 0
 Goes P None after = Unit {0}
 Goes P (Some x) None = ⊥

@@ -14,7 +14,7 @@ pub record Filled : Type 0 where
   pub room : ℕ
   pub faults : ℕ
 
--- at most n of the piece's bytes, but one at least, as far as the space goes; a fault where there is none
+-- at most n of the piece's bytes, but one at least, as far as the space goes; a fault if there is none
 abbrev pub taken : ℕ → ℕ → ℕ → WriteStep
 taken most len zero = Failed
 taken most len (suc space) = Wrote (min (max 1 most) (min len (suc space)))

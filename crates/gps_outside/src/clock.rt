@@ -6,7 +6,7 @@ pub trait Clock: Drop {
     ghost use Rattle.gps_outside.specs.Told.{Goes};
     ghost use Rattle.gps_outside.specs.Ticks.{Dial, Gives};
 
-    /// The stamps that the clock may give and those left, where it tells them.
+    /// The stamps that the clock may give and those left, if it tells them.
     ghost stamps: { Self → Option Dial };
 
     /// The time now.

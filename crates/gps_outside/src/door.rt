@@ -30,10 +30,10 @@ pub trait Door: Drop {
     /// How often no link waited.
     ghost quiets: { Self → ℕ };
 
-    /// The links that are left, where the door tells them.
+    /// The links that are left, if the door tells them.
     ghost links: { Self → Option (List (Self.In × Self.Out)) };
 
-    /// Takes the next link, where one waits.
+    /// Takes the next link, if one waits.
     fn accept(&mut self) -> DoorStep<Self::In, Self::Out>
         ensures links { Admits result (links self.old) (links self.new) }
         ensures unread { IfLink result (λ source sink.
@@ -45,7 +45,7 @@ pub trait Door: Drop {
         ensures only { FailsOnly result (faults self.old) (faults self.new) }
         ensures quiet { result ≡ DoorStep.Quiet → Rose (quiets self.old) (quiets self.new) };
 
-    /// What closes it from another thread; none where no call of it waits for long.
+    /// What closes it from another thread; none if no call of it waits for long.
     fn closer(&self) -> Option<Closer> {
         None
     }

@@ -148,7 +148,7 @@ impl IdleTimer {
         }
     }
 
-    /// The request has ended, where one was begun.
+    /// The request has ended, if one was begun.
     fn end(&mut self, now: Duration) {
         if self.len == 0 {
             return;

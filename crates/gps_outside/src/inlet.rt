@@ -28,7 +28,7 @@ pub enum Awaited {
     Host,
 }
 
-/// The link of a client, which ends where the client is idle for too long.
+/// The link of a client, which ends if the client is idle for too long.
 #[derive(Drop)]
 pub(crate) struct Link {
     stream: TcpStream,
@@ -73,7 +73,7 @@ fn open_host<R: Net<Stream = TcpStream> + Clock>(
             stream.set_read_timeout(Some(Duration::from_secs(HOST_WAIT)))?;
             Ok(Inlet::Stream(stream))
         }
-        // A host that does not answer is a fault, where a stream without bytes is only quiet.
+        // A host that does not answer is a fault, if a stream without bytes is only quiet.
         Err(error) if is_quiet(&error) => {
             Err(io::Error::new(ErrorKind::HostUnreachable, "no answer within 5 seconds"))
         }

@@ -22,7 +22,7 @@ const TRIES: u32 = 10_000;
 
 /// The link of a client as a sink, a TCP stream with no buffer between: each try of a write is one call of the system.
 ///
-/// It is seen as the number of its faults, and tells no content. A write is a fault where the client takes nothing for a second; a client that
+/// It is seen as the number of its faults, and tells no content. A write is a fault if the client takes nothing for a second; a client that
 /// is slow but takes what it is sent keeps its link. Once the sink was told that it ends soon, all that is left has ten seconds, however the
 /// client takes it. A write that a signal interrupts begins anew.
 #[derive(Drop)]

@@ -32,7 +32,7 @@ impl<I: Source, K: Sink> Model for MemoryDoor<I, K> {
 }
 
 impl<I: Source, K: Sink> MemoryDoor<I, K> {
-    /// Nothing was taken from a link's source and nothing was written to its sink, where they tell that.
+    /// Nothing was taken from a link's source and nothing was written to its sink, if they tell that.
     pub fn new(plan: Vec<DoorPlan<I, K>>, at_end: AtEnd) -> MemoryDoor<I, K>
         requires { HaveLinks
             (λ source. IsUnread (I.content source) (I.faults source) (I.quiets source))

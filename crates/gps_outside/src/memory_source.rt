@@ -11,7 +11,7 @@ use std::vec::IntoIter;
 
 /// A source in memory that follows a plan, entry by entry, and after the plan gives as many bytes as fit.
 ///
-/// Where nothing is left, an entry `Give` and the time after the plan answer as `at_end` says.
+/// If nothing is left, an entry `Give` and the time after the plan answer as `at_end` says.
 #[derive(Drop)]
 pub struct MemorySource {
     held: Vec<u8>,

@@ -13,7 +13,7 @@ pub enum ReadPlan {
     Fail,
 }
 
-/// What an object in memory answers where nothing is left.
+/// What an object in memory answers if nothing is left.
 #[derive(Clone, Copy, Debug, PartialEq, Eq)]
 pub enum AtEnd {
     End,

@@ -31,7 +31,7 @@ impl<R: time::Clock + Drop> Clock for RealClock<R> {
     }
 }
 
-/// The stamp so long after 1970-01-01T00:00:00Z, or the last stamp where that lies behind it.
+/// The stamp that is this long after 1970-01-01T00:00:00Z, or the last stamp if that lies behind it.
 fn stamp_of(since: Duration) -> Stamp
     ensures { result ≡ nearest_stamp (as_nanos since) }
 {

@@ -15,17 +15,17 @@ use std::time::{self, Duration};
 /// ended meanwhile is joined after a call.
 const ACCEPT_WAIT: u64 = 5_000;
 
-/// How many milliseconds a door rests where no file or room is left for a link.
+/// How many milliseconds a door rests if no file or room is left for a link.
 const REST: u64 = 100;
 
 /// How many milliseconds the first read of a link waits for bytes.
 const READ_WAIT: u64 = 500;
 
-/// What accept(2) of Linux answers where the socket was shut down (EINVAL).
+/// What accept(2) of Linux answers if the socket was shut down (EINVAL).
 const SHUT: i32 = 22;
 
-/// What accept(2) of Linux answers where the system or this process has no file or no room left (ENOMEM, ENFILE, EMFILE, ENOBUFS), where a
-/// firewall refuses the link (EPERM), or where the link's network failed before it was handed on.
+/// What accept(2) of Linux answers if the system or this process has no file or no room left (ENOMEM, ENFILE, EMFILE, ENOBUFS), if a
+/// firewall refuses the link (EPERM), or if the link's network failed before it was handed on.
 const PASSING: [i32; 13] = [1, 12, 23, 24, 64, 71, 92, 95, 100, 101, 105, 112, 113];
 
 /// Whether the next link may come all the same.
@@ -61,7 +61,7 @@ fn link_of<R: time::Clock + Copy>(
 
 /// A TCP listener as a door. It counts its faults and quiets, and tells no links.
 ///
-/// Where no link waits for five seconds it is quiet; so it is where a link breaks off before it is handed on, and where no file or room is
+/// If no link waits for five seconds it is quiet; so it is if a link breaks off before it is handed on, and if no file or room is
 /// left for it: the door stays open for those that come later. Its closer closes it.
 #[derive(Drop)]
 pub struct RealDoor<R> {

@@ -65,7 +65,7 @@ impl RealSink {
         }
     }
 
-    /// Writes, and once more where a signal came before a byte was written.
+    /// Writes, and once more if a signal came before a byte was written.
     fn write_out(&mut self, piece: &[u8]) -> io::Result<usize>
         ensures faults { self.new ≡ self.old }
         ensures most { IfOk result (λ n. n ≤ length piece.now) }

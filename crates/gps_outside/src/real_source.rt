@@ -93,7 +93,7 @@ impl<R> RealSource<R> {
         RealSource::new(machine, Inlet::Stream(stream))
     }
 
-    /// Reads the link of a client, a TCP stream that has this time-out. It ends where the client is idle for too long: no whole
+    /// Reads the link of a client, a TCP stream that has this time-out. It ends if the client is idle for too long: no whole
     /// request came within 60 s, or it watches nothing and asked nothing for 15 minutes.
     pub(crate) fn of_link(
         machine: R,

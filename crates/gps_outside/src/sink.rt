@@ -18,7 +18,7 @@ pub trait Sink: Drop {
     /// How often a write failed.
     ghost faults: { Self → ℕ };
 
-    /// The bytes written so far, where the sink tells them.
+    /// The bytes written so far, if the sink tells them.
     ghost written: { Self → Option (List ℕ) };
 
     /// Writes a part of the piece from its head, as much as goes at once.

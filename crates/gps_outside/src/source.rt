@@ -25,7 +25,7 @@ pub trait Source: Drop {
     /// How often nothing came.
     ghost quiets: { Self → ℕ };
 
-    /// The bytes taken so far and those left, where the source tells them.
+    /// The bytes taken so far and those left, if the source tells them.
     ghost content: { Self → Option Stream };
 
     /// That a read which fails now loses nothing of what is left.

@@ -15,7 +15,7 @@ use Rattle.gps_replay.specs.Closings.{closing_rules, closings}
 use Rattle.gps_replay.specs.Generated.{Generated, GeneratedCause, default_queue, made}
 use Rattle.gps_replay.proofs.Playable.{playable}
 
--- where all was done, the whole script was read
+-- if all was done, the whole script was read
 all_read : (script : List ℕ) (after : Option Stream) (most : ℕ) (sink sink' : Option (List ℕ))
     → HasPlayed Done (closing_rules default_queue) most (Some (record { taken = []; left = script })) after sink sink'
     → Goes (Appends (closings default_queue script)) sink sink'

@@ -16,7 +16,7 @@ default_queue = 4_096
 abbrev pub made : ℕ → ℕ → Stream
 made seed size = record { taken = []; left = workload_of seed size }
 
--- The made script was played as if it were read from a source; where that was done, the closing lines of its run were written.
+-- The made script was played as if it were read from a source; if that was done, the closing lines of its run were written.
 pub record Generated (outcome : PlayOutcome) (seed size : ℕ) (sink sink' : Option (List ℕ)) : Type 0 where
   pub after : Option Stream
   pub played : HasPlayed outcome (closing_rules default_queue) (length (workload_of seed size)) (Some (made seed size)) after sink sink'

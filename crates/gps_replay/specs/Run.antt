@@ -15,11 +15,11 @@ most_in_line = 4_096
 abbrev pub of_line : EventEffect → LineEffect State
 of_line e = record { state = e.state; written = e.written }
 
--- what a line does that is not too long; none where it is refused
+-- what a line does that is not too long; none if it is refused
 abbrev pub effect_of : ℕ → State → List ℕ → Option (LineEffect State)
 effect_of queue state text = option_map of_line (option_and_then (effect queue state) (event_in text))
 
--- a script's lines, without their line ends, where an outlet keeps `queue` items if no line says another number
+-- a script's lines, without their line ends, if an outlet keeps `queue` items if no line says another number
 abbrev pub rules_of : ℕ → Rules State
 rules_of queue = record { limit = Text most_in_line; start = new_state; effect = effect_of queue; end_writes = written_at_end }
 

@@ -17,7 +17,7 @@ pub(crate) const MOST_IN_LINE: usize = 4_096;
 const MOST_BYTES: u32 = 1_073_741_824;
 
 /// Reads a script and writes the output of its run. A generation of its book holds at most `limit` entries, which changes
-/// nothing of the output; an outlet keeps `queue` items where no line says another number.
+/// nothing of the output; an outlet keeps `queue` items if no line says another number.
 ///
 /// A line is played as soon as its end was read, or so much of it that it is too long. At [`PlayOutcome::BadLine`] the line N
 /// was refused, and `bad line N` stands behind what those before it write.

@@ -5,7 +5,7 @@ use Rattle.gps_report.specs.declared.note.Note.{Note}
 use Rattle.gps_report.specs.Systems.{gps, galileo, beidou, glonass}
 use Rattle.gps_report.specs.declared.satellite.Satellite.{Satellite}
 
--- a test of a quantity, where it is given
+-- a test of a quantity, if it is given
 abbrev pub where_given : {X : Type 0} → (X → Bool) → Option X → Bool
 where_given test None = true
 where_given test (Some x) = test x
@@ -30,7 +30,7 @@ is_named_system g = nat_eq g gps || nat_eq g galileo || nat_eq g beidou || nat_e
 abbrev pub is_id : ℕ → Bool
 is_id n = nat_le 1 n && nat_le n 999
 
--- a satellite of a GSV: its system, where the talker names one, has the shown number as its id
+-- a satellite of a GSV: its system, if the talker names one, has the shown number as its id
 abbrev pub is_sentence_satellite : Satellite → Bool
 is_sentence_satellite s = is_id s.prn && where_given (λ g. is_named_system g.0 && nat_eq g.1 s.prn) s.gnss && where_given (λ n. nat_le n 15) s.signal
 

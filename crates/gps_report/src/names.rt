@@ -39,7 +39,7 @@ fn differ(names: &[Name]) -> bool
 }
 
 impl Names {
-    /// The names of this list, or `None` exactly where there are more than eight or two are equal.
+    /// The names of this list, or `None` exactly if there are more than eight or two are equal.
     pub fn of(list: Vec<Name>) -> Option<Names>
         ensures some { IfSome result (λ names. names ≡ list.items) }
         ensures exact { IsTrue (are_names list.items) ↔ IsSome result }

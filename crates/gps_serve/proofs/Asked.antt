@@ -30,7 +30,7 @@ few_of asked inputs edges devices none is are eight =
     let h = few edges in
     omega arith
 
--- where the world is the same
+-- if the world is the same
 pub still_asked : {W : Type 0} (asked : W → Asking) (w w' : W) (places : List Place) (listen : List ℕ) → w' ≡ w → AsksSome (asked w) places listen
     → AsksSome (asked w') places listen
 still_asked {W} asked w w' places listen is so = subst (λ (x : W). AsksSome (asked x) places listen) (sym is) so

@@ -40,12 +40,12 @@ door_first {G} faults gate given failed status is sound first some = by failed r
     by true e = first e
     by false e = let none = sound e in absurd (omega (arith, rose, none))
 
--- where no door is handed back, none failed
+-- if no door is handed back, none failed
 pub no_gate : {G : Type 0} (faults : G → ℕ) (given : Option G) (status : ℕ) → given ≡ None → SourceFailed faults given → (status ≡ 3) ⊎ (status ≡ 8)
 no_gate faults None status none some = absurd some
 no_gate faults (Some gate) status none some = absurd (cc)
 
--- where nothing was served, something could not be opened, or it was out of memory
+-- if nothing was served, something could not be opened, or it was out of memory
 pub none_of : (X : Type 0) {W : Type 0} (input listen : W → ℕ) (world world' world'' : W) (stop : Stop) (status : ℕ)
     → OpeningHasCause {X = X} (Err stop) (world_faults (input world) (listen world)) (world_faults (input world') (listen world'))
     → ((status ≡ 3) × (stop ≡ Input)) ⊎ ((status ≡ 8) × (stop ≡ Listen)) ⊎ (status ≡ 7) → world'' ≡ world'

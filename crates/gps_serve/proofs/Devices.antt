@@ -145,7 +145,7 @@ pub ends_begin : {S R : Type 0} (devices : List (DeviceDone S R)) (ends all : Li
     → map (λ (d : DeviceDone S R). d.end) devices ++ ends ≡ all
 ends_begin {S} {R} devices ends all none same = ap (λ l. map (λ (d : DeviceDone S R). d.end) l ++ ends) none ∙ same
 
--- one more is left where a run is
+-- one more is left if a run is
 zip_some : {A B : Type 0} (P : A → B → Type 0) (xs : List A) (ys : List B) → AllZip P xs ys → 0 < length ys → 0 < length xs
 zip_some P [] [] zip some = some
 zip_some P [] (y ∷ ys) zip some = absurd zip

@@ -1,4 +1,4 @@
--- The stamps that a clock may give, where the world tells them.
+-- The stamps that a clock may give, if the world tells them.
 use Rattle.std.proofs.Common.{◌≡◌, ◌<◌, ◌⊎◌, inl, inr, ℕ, Bool, true, List, [], ◌∷◌, length, Option, Some, None, IfSome, refl, ap, subst, sym, ◌∙◌}
 use Rattle.std.specs.List.{AllZip}
 use Rattle.gps_fixed.specs.Moment.{Moment}

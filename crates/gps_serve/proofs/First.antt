@@ -1,4 +1,4 @@
--- Where a device was lost by the fault of a source, a reader of it says so, and the status is 3.
+-- If a device was lost by the fault of a source, a reader of it says so, and the status is 3.
 use Rattle.std.proofs.Common.{◌≡◌, ◌↔◌, ◌⊎◌, inl, inr, ℕ, Bool, true, false, ◌||◌, zero, suc, List, [], ◌∷◌, ◌++◌, Option, Some, None, option_map, refl, sym, ◌∙◌, ap, subst, arith}
 use Rattle.std.specs.List.{All}
 use Rattle.gps_fixed.specs.Moment.{Moment}
@@ -121,7 +121,7 @@ pub first_of : {S R : Type 0} (may : Option (List Moment)) (facts : SourceFacts 
 first_of may facts devices true status three untold whole lost = three refl
 first_of may facts devices false status three untold whole lost = absurd (none_lost may facts devices (untold refl) whole lost)
 
--- where no device is there, none was lost
+-- if no device is there, none was lost
 pub no_devices : {S R : Type 0} (devices : List (DeviceDone S R)) (status : ℕ) → devices ≡ [] → SomeFailed WasLostByFault devices → status ≡ 3
 no_devices [] status none lost = absurd lost
 no_devices (device ∷ devices) status none lost = absurd (cc)
@@ -138,7 +138,7 @@ pub three_or_untold : {S R : Type 0} (devices : List (DeviceDone S R)) (failed :
 three_or_untold devices true status three untold = inl (three refl)
 three_or_untold devices false status three untold = inr (all_of_each TellsNoFault devices (untold refl))
 
--- where no device is there, none tells of one
+-- if no device is there, none tells of one
 pub none_tell : {S R : Type 0} (devices : List (DeviceDone S R)) (status : ℕ) → devices ≡ [] → (status ≡ 3) ⊎ All TellsNoFault devices
 none_tell [] status none = inr (λ k d there. absurd (omega (arith, there)))
 none_tell (device ∷ devices) status none = absurd (cc)

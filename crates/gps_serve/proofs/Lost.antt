@@ -8,7 +8,7 @@ use Rattle.book_sessions.specs.MemberView.{MemberView}
 use Rattle.hub_promise.specs.declared.ends.DeviceEnd.{DeviceEnd}
 use Rattle.gps_serve.specs.Lost.{IsNotCut, IsNotLost, is_cut, is_lost}
 
--- where neither of two holds, each does not
+-- if neither of two holds, each does not
 pub neither : (a b : Bool) → (a || b) ≡ false → (a ≡ false) × (b ≡ false)
 neither true b e = absurd (cc)
 neither false b e = (refl, e)
@@ -17,7 +17,7 @@ is_true : (b : Bool) → not b ≡ false → b ≡ true
 is_true true e = refl
 is_true false e = absurd (cc)
 
--- where nothing of these was met, none of them was, and all was whole
+-- if nothing of these was met, none of them was, and all was whole
 module _ (before lost cut threads whole by_book met since all : Bool) where
   pub none_met : by_book ≡ (lost || cut) → met ≡ (by_book || threads) → since ≡ (met || not whole) → all ≡ (before || since) → all ≡ false
       → (before ≡ false) × (lost ≡ false) × (cut ≡ false) × (whole ≡ true) × (threads ≡ false)

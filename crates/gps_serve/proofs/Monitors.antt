@@ -181,7 +181,7 @@ few_monitors tries no_memory units watched ready =
     let few = some_units (tries == 0) units in
     omega (arith, same, few)
 
--- one more is left where one more unit is
+-- one more is left if one more unit is
 pub some_left : (tries : ℕ) (no_memory : Bool) (units : List UnitView) (watched : List ReadingsDone) (unit : ℕ) (done : List MonitorDone)
     → MonitorsSoFar tries no_memory units watched unit done → unit < length units → 0 < length watched
 some_left tries no_memory units watched unit done so there =

@@ -61,7 +61,7 @@ neither : (a b : Bool) → (a || b) ≡ false → (a ≡ false) × (b ≡ false)
 neither true b e = absurd cc
 neither false b e = (refl, e)
 
--- the next unit is at rest too, where no store was made
+-- the next unit is at rest too, if no store was made
 pub rest_next : (before some after : Bool) (units units' : List UnitView) (u : ℕ) → (before ≡ false → AreAtRest u units)
     → (some ≡ false → (units' ≡ units) × IsAtRestIn u units') → after ≡ (before || some) → after ≡ false → AreAtRest (u + 1) units'
 rest_next before some after units units' u so next is e =

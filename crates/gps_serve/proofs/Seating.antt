@@ -54,7 +54,7 @@ fails_more failed failed' first before after so stay more none = record {
   still = λ (e : failed' ≡ false). (none e).1 ∙ so.still (none e).0;
 }
 
--- where the door and what is said of it are the same
+-- if the door and what is said of it are the same
 pub still_fails : {G : Type 0} (faults : G → ℕ) (failed failed' : Bool) (first : ℕ) (gate gate' : G) → FailsBy failed first (faults gate) → failed' ≡ failed → gate' ≡ gate
     → FailsBy failed' first (faults gate')
 still_fails {G} faults failed failed' first gate gate' so same is =

@@ -160,7 +160,7 @@ module _ {S K R : Type 0} (sources : SourceFacts S) (sinks : SinkFacts K) where
       let same = same_lengths sessions inputs runs ready.1 in
       (ap suc same.0, ap suc same.1)
 
-  -- one more of each is left where one more session is
+  -- one more of each is left if one more session is
   pub some_left : (sessions : List MemberView) (inputs left : List (Taking Piece)) (runs : List (LinkDone S K R)) (number : ℕ) (done : List (SessionDone S K R))
       → SessionsSoFar sources sinks sessions inputs left runs number done → number < length sessions → (0 < length left) × (0 < length runs)
   some_left sessions inputs left runs number done so there =

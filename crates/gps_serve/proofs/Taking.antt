@@ -1,4 +1,4 @@
--- What was taken from the sources is the first of what they held, and all of it where the device has ended.
+-- What was taken from the sources is the first of what they held, and all of it if the device has ended.
 use Rattle.std.proofs.Common.{◌≡◌, ◌<◌, ℕ, Bool, List, [], ◌∷◌, ◌++◌, map, length, zero, suc, Option, Some, None, is_some, option_map, refl, sym, ◌∙◌, ap, subst, append_assoc, arith}
 use Rattle.std.proofs.lemmas.List.{append-nil}
 use Rattle.std.specs.List.{All, AllZip, flat_map}
@@ -193,7 +193,7 @@ module _ {S R : Type 0} (facts : SourceFacts S) where
         by (place ∷ places) (start ∷ starts) (d ∷ devices) held reads =
             (edge_held place (edge_source_of start.edges) d held.0 reads.0.edges, by places starts devices held.1 reads.1)
 
-  -- a device has a source of edges where it began with one
+  -- a device has a source of edges if it began with one
   pub edges_there : (starts : List (DeviceStart S R)) (devices : List (DeviceDone S R)) → AllZip (DeviceReads facts) starts devices
       → map (λ (d : DeviceDone S R). is_some d.edges) devices ≡ map is_some (edges_at starts)
   edges_there [] [] reads = refl

@@ -15,7 +15,7 @@ no_more (link ∷ links) after is = absurd cc
 none_after : {L : Type 0} (more : List L) (x y : List L) → x ≡ [] → PassLinks more x y → y ≡ []
 none_after more x y none passed = no_more more y (sym none ∙ passed)
 
--- where no link is left, no more came
+-- if no link is left, no more came
 none_still : {L : Type 0} (told left left' : Option (List L)) (more : List L) → NoneLeft told left → Goes (PassLinks more) left left' → NoneLeft told left'
 none_still None left left' more none passed = tt
 none_still (Some links) None left' more none passed = absurd none
@@ -175,7 +175,7 @@ module _ {S K : Type 0} (told : Option (List (Way S K))) where
     closed = λ (e : done ≡ true). absurd (cc (e, open_still));
   }
 
--- where the door, its counts and the sessions are the same
+-- if the door, its counts and the sessions are the same
 pub still_tends : {G S K : Type 0} (links : G → Option (List (Way S K))) (faults quiets : G → ℕ) (told : Option (List (Way S K))) (gate gate' : G) (full full' : ℕ)
     (memory memory' : Bool) (ways ways' : List (Way S K)) (done done' to_ask : Bool)
     → Tends told (door_now (links gate) (faults gate) (quiets gate) full memory) ways done to_ask → gate' ≡ gate → full' ≡ full → memory' ≡ memory → ways' ≡ ways → done' ≡ done

@@ -34,7 +34,7 @@ settings_of terms queue tries = record { names = terms.names; limit = terms.limi
 abbrev pub settings_in : Plan → DaemonSettings
 settings_in plan = record { names = plan.names; limit = plan.limit; wait = plan.wait; queue = plan.queue; tries = plan.tries }
 
--- what a daemon begins with: what it was told, the stamps that its clock may give, and the links of its door; the last two where they are told
+-- what a daemon begins with: what it was told, the stamps that its clock may give, and the links of its door; the last two if they are told
 pub record DaemonStart (S K : Type 0) : Type 0 where
   pub told : DaemonSettings
   pub may : Option (List Moment)

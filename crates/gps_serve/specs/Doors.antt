@@ -45,7 +45,7 @@ pub record HaveLanes {S K R : Type 0} (links : List (SessionLink S K R)) (seat :
   pub lanes : map (lanes_of queue) links ≡ seat.links
   pub unused : EachLink IsUnused links
 
--- The door's faults do not fall, and it says that the door failed exactly where they rose.
+-- The door's faults do not fall, and it says that the door failed exactly if they rose.
 pub record FailsBy (failed : Bool) (faults faults' : ℕ) : Type 0 where
   pub faults_stay : faults ≤ faults'
   pub cause : failed ≡ true → Rose faults faults'
@@ -58,7 +58,7 @@ Way S K = S × K
 abbrev pub way_of : {S K R : Type 0} → SessionLink S K R → Way S K
 way_of link = (link.source, link.sink)
 
--- the door as it stands: the links that are left, where it tells them, and its counts; and how many links were dropped because too many sessions
+-- the door as it stands: the links that are left, if it tells them, and its counts; and how many links were dropped because too many sessions
 -- were there, live or not yet released, and whether it was out of memory
 pub record DoorNow (S K : Type 0) : Type 0 where
   pub left : Option (List (Way S K))
@@ -70,7 +70,7 @@ pub record DoorNow (S K : Type 0) : Type 0 where
 abbrev pub door_now : {S K : Type 0} → Option (List (Way S K)) → ℕ → ℕ → ℕ → Bool → DoorNow S K
 door_now left faults quiets full no_memory = record { left = left; faults = faults; quiets = quiets; full = full; no_memory = no_memory }
 
--- no link is left, where the door told its links
+-- no link is left, if the door told its links
 abbrev pub NoneLeft : {L : Type 0} → Option (List L) → Option (List L) → Type 0
 NoneLeft told left = Goes (λ before after. after ≡ []) told left
 
@@ -79,7 +79,7 @@ abbrev pub WasAsked : {S K : Type 0} → Option (List (Way S K)) → List (Way S
 WasAsked told taken now = (0 < length taken) ⊎ (0 < now.quiets) ⊎ (0 < now.faults) ⊎ NoneLeft told now.left
 
 -- The links that were taken are the next of those that the door had, in order. Each is that of a session, or was dropped: out of memory, or
--- because too many sessions were there, and then at least 64 were admitted. Where none was dropped, the k-th is that of session k.
+-- because too many sessions were there, and then at least 64 were admitted. If none was dropped, the k-th is that of session k.
 pub record Taken {S K : Type 0} (told : Option (List (Way S K))) (now : DoorNow S K) (sessions : List (Way S K)) (taken : List (Way S K)) : Type 0 where
   pub passed : Goes (PassLinks taken) told now.left
   pub few : length sessions ≤ length taken
@@ -87,7 +87,7 @@ pub record Taken {S K : Type 0} (told : Option (List (Way S K))) (now : DoorNow 
   pub full : length sessions < 64 → now.full ≡ 0
   pub each : length taken ≡ length sessions → sessions ≡ taken
 
--- So far the door was tended: it was asked, unless it is still to be asked, and says that it has closed or failed only where no link is left or its
+-- So far the door was tended: it was asked, unless it is still to be asked, and says that it has closed or failed only if no link is left or its
 -- faults rose.
 pub record Tends {S K : Type 0} (told : Option (List (Way S K))) (now : DoorNow S K) (sessions : List (Way S K)) (done to_ask : Bool) : Type 0 where
   pub taken : List (Way S K)

@@ -56,7 +56,7 @@ is_short (Some reading.End) = false
 is_short (Some reading.Failed) = false
 is_short (Some reading.NoMemory) = true
 
--- so was the reader of a device's edges, where there is one
+-- so was the reader of a device's edges, if there is one
 abbrev pub lines_lack : {S R : Type 0} → Option (ReaderDone S R) → Bool
 lines_lack None = false
 lines_lack (Some reader) = is_short reader.ending

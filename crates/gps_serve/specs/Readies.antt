@@ -41,7 +41,7 @@ AreReady sources sinks (a ∷ sessions) [] runs = ⊥
 AreReady sources sinks (a ∷ sessions) (x ∷ inputs) [] = ⊥
 AreReady sources sinks (a ∷ sessions) (x ∷ inputs) (run ∷ runs) = SessionReady sources sinks a x run × AreReady sources sinks sessions inputs runs
 
--- what is left of a session's input, whose lane the hub left so; where it had not told how its source ended, one more piece may be got since
+-- what is left of a session's input, whose lane the hub left so; if it had not told how its source ended, one more piece may be got since
 pub record InputLeft {S K R : Type 0} (sources : SourceFacts S) (x : Taking Piece) (done : SessionDone S K R) : Type 0 where
   pub served : InputServed sources done
   pub settled : OneMoreAtMost x done.input_rx

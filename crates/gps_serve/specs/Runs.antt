@@ -20,7 +20,7 @@ use Rattle.gps_serve.specs.Whole.{TakesWhole}
 abbrev pub RanOn : {S R : Type 0} → Option (List Moment) → SourceFacts S → DeviceStart S R → DeviceRun S R → Type 0
 RanOn may facts start run = Ran may facts (starts_of start) run
 
--- The bytes taken from a device's source are the first of those that it held. Where the device has ended, they are all of them, and nothing is left.
+-- The bytes taken from a device's source are the first of those that it held. If the device has ended, they are all of them, and nothing is left.
 pub record TakesBy (end : Option DeviceEnd) (before after : Stream) : Type 0 where
   pub first : TakesFirst before after
   pub all : end ≡ Some Ended → TakesWhole before after

@@ -1,4 +1,4 @@
--- What came of the threads, where those of the door and the publisher could be started.
+-- What came of the threads, if those of the door and the publisher could be started.
 use Rattle.std.specs.Prelude.{◌≡◌, ℕ, List, Option, Some, None}
 use Rattle.std.specs.List.{AllZip}
 use Rattle.std.specs.Vec.{vec_len}
@@ -18,7 +18,7 @@ use Rattle.gps_serve.specs.Doors.{FailsBy, IsNewLink, Tended, door_now}
 use Rattle.gps_serve.specs.Runs.{RanOn}
 use Rattle.gps_serve.specs.Works.{WatchedBy}
 
--- the door failed only where its faults rose
+-- the door failed only if its faults rose
 abbrev pub FailsIf : {S K G J R : Type 0} {s : SourceGhosts S} {k : SinkGhosts K} {g : DoorGhosts G S K} {j : HubGhosts J} {d : DoorNamingGhosts J} → (G → ℕ) → G → Option (Ended S K G J R s k g j d) → Type 0
 FailsIf faults gate None = Unit {0}
 FailsIf faults gate (Some ended) = FailsBy ended.door.failed (faults gate) (faults ended.door.gate)

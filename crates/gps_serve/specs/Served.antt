@@ -34,7 +34,7 @@ use Rattle.gps_serve.specs.Doors.{NoneLeft, Way}
 use Rattle.gps_serve.specs.Starts.{IsUnreadBy}
 use Rattle.gps_serve.specs.Facts.{SinkFacts, WorldFacts}
 
--- Both ends are of one lane, and what was got of it begins what was put. `x` is the lane as the hub left it; where that had not told how its source
+-- Both ends are of one lane, and what was got of it begins what was put. `x` is the lane as the hub left it; if that had not told how its source
 -- ended, one more piece may be got since.
 pub record LaneServed (x : Taking Piece) (tx : Putting Piece) (rx : Taking Piece) : Type 0 where
   pub one : rx.lane ≡ tx.lane
@@ -42,7 +42,7 @@ pub record LaneServed (x : Taking Piece) (tx : Putting Piece) (rx : Taking Piece
   pub settled : OneMoreAtMost x rx
 
 -- The bytes that a device's reader put, in pieces with stamps that the clock may give, are those that it took from its source, which was
--- unread before. It says that the source failed only where its faults are above 0.
+-- unread before. It says that the source failed only if its faults are above 0.
 pub record BytesServed {S : Type 0} (may : Option (List Moment)) (facts : SourceFacts S) (x : Taking Piece) (tx : Putting Piece) (rx : Taking Piece) (source : S) : Type 0 where
   pub first : S
   pub unread : IsUnreadBy facts first
@@ -91,7 +91,7 @@ pub record InputServed {S K R : Type 0} (facts : SourceFacts S) (done : SessionD
   pub begins : BeginsWith done.input_rx.got done.input_tx.put
 
 -- What is left of a session's outlet: its receiving end, which has the name that the book knows. The items that were got of it begin those that the
--- book gave it, and are all of them where the session was drained. Their bytes were written to its sink, to which nothing was written before; all
+-- book gave it, and are all of them if the session was drained. Their bytes were written to its sink, to which nothing was written before; all
 -- of them, unless the sink failed.
 pub record OutletServed {S K R : Type 0} (facts : SinkFacts K) (a : MemberView) (done : SessionDone S K R) : Type 0 where
   pub first : K
@@ -106,7 +106,7 @@ pub record OutletServed {S K R : Type 0} (facts : SinkFacts K) (a : MemberView) 
 abbrev pub watched_units : ℕ → List UnitView → List UnitView
 watched_units tries units = if tries == 0 then [] else units
 
--- What is left of a unit's monitor: the pairs that it kept, each the unit's published sample of its number, with rising numbers. Where memory
+-- What is left of a unit's monitor: the pairs that it kept, each the unit's published sample of its number, with rising numbers. If memory
 -- was not wanting, these are all that it took, each number once, and it made all its readings.
 pub record MonitorServed (tries : ℕ) (no_memory : Bool) (u : UnitView) (done : MonitorDone) : Type 0 where
   pub segment : done.monitor.segment ≡ segment_of u
@@ -128,8 +128,8 @@ pub record ServesLink {S K R : Type 0} (sources : SourceFacts S) (sinks : SinkFa
 
 -- What is left of the door. The links that were taken are the next of those that it told, and no fewer than the sessions; unless it was out of memory
 -- and the count of dropped ones did not reach its greatest value, they are as many as the sessions and those that were dropped; and none was dropped
--- because too many were there before 64 were admitted. Where none was dropped, session k has the k-th. It was asked; and it is said to have closed or
--- failed only where no link is left or its faults rose.
+-- because too many were there before 64 were admitted. If none was dropped, session k has the k-th. It was asked; and it is said to have closed or
+-- failed only if no link is left or its faults rose.
 pub record GateServed {G S K R : Type 0} (facts : WorldFacts G S K) (told : Option (List (Way S K))) (full : ℕ) (no_memory done : Bool)
     (sessions : List (SessionDone S K R)) (gate : G) : Type 0 where
   pub taken : List (Way S K)
@@ -141,19 +141,19 @@ pub record GateServed {G S K R : Type 0} (facts : WorldFacts G S K) (told : Opti
   pub asked : (0 < length taken) ⊎ (0 < facts.gates.quiets gate) ⊎ (0 < facts.gates.faults gate) ⊎ NoneLeft told (facts.gates.links gate)
   pub closed : done ≡ true → NoneLeft told (facts.gates.links gate) ⊎ (0 < facts.gates.faults gate)
 
--- The bytes taken from a device's source are the first of those that it held. Where the device has ended, they are all of them, and nothing is left.
+-- The bytes taken from a device's source are the first of those that it held. If the device has ended, they are all of them, and nothing is left.
 pub record IsTakenOf (end : Option DeviceEnd) (held : List ℕ) (stream : Stream) : Type 0 where
   pub first : IsPrefix stream.taken held
   pub all : end ≡ Some Ended → stream.taken ≡ held
   pub none_left : end ≡ Some Ended → stream.left ≡ []
 
--- the same, where the world told what the source held
+-- the same, if the world told what the source held
 abbrev pub IsFirstOf : Option DeviceEnd → Option (List ℕ) → Option Stream → Type 0
 IsFirstOf end None content = Unit {0}
 IsFirstOf end (Some held) None = ⊥
 IsFirstOf end (Some held) (Some stream) = IsTakenOf end held stream
 
--- of the source of a device or of its edges, where it has one
+-- of the source of a device or of its edges, if it has one
 abbrev pub SourceHeld : {S : Type 0} → SourceFacts S → Option DeviceEnd → Option (List ℕ) → Option S → Type 0
 SourceHeld facts end held None = Unit {0}
 SourceHeld facts end held (Some source) = IsFirstOf end held (facts.content source)

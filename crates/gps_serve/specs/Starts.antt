@@ -8,7 +8,7 @@ use Rattle.serve_end_settling.specs.Runs.{ReaderStart, ReaderStarts, SourceFacts
 use Rattle.gps_serve.specs.declared.starts.DeviceStart.{DeviceStart}
 use Rattle.gps_serve.specs.declared.starts.EdgeStart.{EdgeStart}
 
--- nothing was taken from the source, where it tells that, and it counted nothing
+-- nothing was taken from the source, if it tells that, and it counted nothing
 abbrev pub IsUnreadBy : {S : Type 0} → SourceFacts S → S → Type 0
 IsUnreadBy facts source = IsUnread (facts.content source) (facts.faults source) (facts.quiets source)
 

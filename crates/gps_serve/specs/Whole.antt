@@ -29,7 +29,7 @@ abbrev pub TakesWhole : Stream → Stream → Type 0
 TakesWhole before after = (after.taken ≡ before.taken ++ before.left) × (after.left ≡ [])
 
 -- All that was put into a device's lane was got. It is what was taken from its source, which was unread before, and then the piece that tells how this
--- source ended. Where it came to its end, nothing is left in it.
+-- source ended. If it came to its end, nothing is left in it.
 pub record BytesWhole {S : Type 0} (may : Option (List Moment)) (facts : SourceFacts S) (ending : Ending) (tx : Putting Piece) (rx : Taking Piece) (source : S) : Type 0 where
   pub got : rx.got ≡ tx.put
   pub first : S

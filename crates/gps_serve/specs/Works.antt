@@ -51,7 +51,7 @@ JoinsDevice {S} {R} may facts work run = (start : DeviceStart S R) → ReadersAr
 abbrev pub JoinsWatcher : MonitorPromise → ReadingsDone → Type 0
 JoinsWatcher work done = (tries : ℕ) (watcher : MonitorStart) → WatchesFor tries watcher work → WatchedBy tries watcher done
 
--- the segments that are monitored: all of them, or none where no reading is asked for
+-- the segments that are monitored: all of them, or none if no reading is asked for
 abbrev pub monitored : ℕ → List SegmentId → List SegmentId
 monitored tries segments = if tries == 0 then [] else segments
 

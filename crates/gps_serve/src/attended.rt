@@ -58,7 +58,7 @@ impl<S: Source, K: Sink, R: Wait + Copy> Attended<S, K, R> {
         }
     }
 
-    /// Gets what the lanes of the session hold, where it is closed and its threads were waited for.
+    /// Gets what the lanes of the session hold, if it is closed and its threads were waited for.
     #[tactic(auto, using(crate::proofs::Released::ends_of))]
     fn let_go<J: HubNaming>(
         &mut self,
@@ -77,8 +77,8 @@ impl<S: Source, K: Sink, R: Wait + Copy> Attended<S, K, R> {
         }
     }
 
-    /// Waits for the threads of the session, which has this number. Where it is closed, what its two lanes hold is got, so that they need no
-    /// memory from then on; false where it is not closed yet.
+    /// Waits for the threads of the session, which has this number. If it is closed, what its two lanes hold is got, so that they need no
+    /// memory from then on; false if it is not closed yet.
     pub(crate) fn release<J: HubNaming>(
         &mut self,
         rt: &R,

@@ -222,7 +222,7 @@ impl<S: Source, K: Sink, G: Door<In = S, Out = K>, J: HubNaming, R: Wait + Copy>
         pump.ring();
     }
 
-    /// Asks the door once. False where it has closed or failed.
+    /// Asks the door once. False if it has closed or failed.
     #[tactic(auto, using(crate::proofs::Seating::same_links))]
     fn ask<'s, E>(
         &mut self,
@@ -271,7 +271,7 @@ impl<S: Source, K: Sink, G: Door<In = S, Out = K>, J: HubNaming, R: Wait + Copy>
         }
     }
 
-    /// Asks the door, unless it has closed or failed; then waits, unless this is the last step. False where the door has closed or failed.
+    /// Asks the door, unless it has closed or failed; then waits, unless this is the last step. False if the door has closed or failed.
     #[tactic(auto, using(crate::proofs::Seating::fails_more))]
     fn ask_if<'s, E>(
         &mut self,

@@ -31,7 +31,7 @@ impl<S: Source, K: Sink, G: Door<In = S, Out = K>, J: HubNaming, R: Wait + Copy>
         × FailsBy r.failed (G.faults p.gate.value) (G.faults r.gate) };
 }
 
-/// Starts the door worker, where there is a thread for it.
+/// Starts the door worker, if there is a thread for it.
 pub(crate) fn start_door<
     's,
     E,

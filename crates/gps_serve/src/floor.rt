@@ -84,7 +84,7 @@ impl<J: HubNaming, R: Wait + Copy> Floor<J, R> {
         fed > 0
     }
 
-    /// Takes a piece of a session's input, and rings its threads where there is something for them.
+    /// Takes a piece of a session's input, and rings its threads if there is something for them.
     fn attend(&mut self, look: Look) -> bool
         requires { look.session < length self.old.hub.inputs }
     {
@@ -128,7 +128,7 @@ impl<J: HubNaming, R: Wait + Copy> Floor<J, R> {
         }
     }
 
-    /// Takes what waits in the lanes of devices and sessions. Where all devices have stopped, the book is shut, and the sessions are told.
+    /// Takes what waits in the lanes of devices and sessions. If all devices have stopped, the book is shut, and the sessions are told.
     pub(crate) fn burst(&mut self) -> Burst
         ensures closed { result ≡ Over → All IsClosed self.new.hub.book.sessions }
         ensures stopped { result ≡ Over → All HasStopped self.new.hub.ends }
@@ -145,7 +145,7 @@ impl<J: HubNaming, R: Wait + Copy> Floor<J, R> {
         }
     }
 
-    /// One store of a unit. False where there is none to make.
+    /// One store of a unit. False if there is none to make.
     #[tactic(auto, using(crate::proofs::Resting::empty_rests, crate::proofs::Resting::spent_rests))]
     fn store(&mut self, unit: u8) -> bool
         requires { unit < length J.terms.segments }

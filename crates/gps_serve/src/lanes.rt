@@ -24,7 +24,7 @@ struct Laid<S: Source, R> {
     inlets: Inlets<R>,
 }
 
-/// The same of its edges, where it has a source of them.
+/// The same of its edges, if it has a source of them.
 #[derive(Drop)]
 struct LaidEdges<S: Source, R> {
     start: Option<EdgeStart<S, R>>,
@@ -89,7 +89,7 @@ fn lay_device<S: Source, R: Wait + Copy>(
     })
 }
 
-/// The next device's source of edges, where the device has one.
+/// The next device's source of edges, if the device has one.
 #[tactic(auto, using(crate::proofs::Starting::next_unread, crate::proofs::Starting::rest_unread))]
 fn next_edge<S: Source>(edges: &mut IntoIter<Option<S>>) -> Option<S>
     requires unread { AreUnread S.content S.faults S.quiets (sources_in (into_iter_items edges.old)) }
@@ -104,7 +104,7 @@ fn next_edge<S: Source>(edges: &mut IntoIter<Option<S>>) -> Option<S>
     }
 }
 
-/// A lane for each device, and one for its edges where it has a source of them.
+/// A lane for each device, and one for its edges if it has a source of them.
 #[tactic(auto, using(crate::proofs::Zips::zip_more))]
 pub(crate) fn lay<S: Source, R: Wait + Copy>(
     rt: R,

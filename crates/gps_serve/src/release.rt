@@ -19,7 +19,7 @@ use std::sync::{Mutex, Wait};
 /// How many items are dropped under one lock at most.
 const BATCH: u32 = 256;
 
-/// Gets the next item of a closed session's outlet, and drops it. False where there is none.
+/// Gets the next item of a closed session's outlet, and drops it. False if there is none.
 #[tactic(auto, using(crate::proofs::Released::got_item))]
 fn drop_item<J: HubNaming, R: Wait + Copy>(
     hub: &mut Hub<J, R>,
@@ -56,7 +56,7 @@ fn drop_items<J: HubNaming, R: Wait + Copy>(
     true
 }
 
-/// Gets the next items of a closed session whose sink has failed, under one lock. False where none is left.
+/// Gets the next items of a closed session whose sink has failed, under one lock. False if none is left.
 #[tactic(auto, using(crate::proofs::Released::skipped_on))]
 fn skip_items<K: Sink, J: HubNaming, R: Wait + Copy>(
     rt: &R,
@@ -74,7 +74,7 @@ fn skip_items<K: Sink, J: HubNaming, R: Wait + Copy>(
     drop_items(&mut floor.lock(rt).hub, seat, number, &mut writer.items)
 }
 
-/// Gets the next item of a closed session's outlet, where there is one.
+/// Gets the next item of a closed session's outlet, if there is one.
 fn next_item<J: HubNaming, R: Wait + Copy>(
     rt: &R,
     floor: &Mutex<Floor<J, R>>,
@@ -105,7 +105,7 @@ fn write_item<K: Sink>(end: WriterEnd, sink: &mut K, item: Item) -> WriterEnd
     WriterEnd::WriteFault
 }
 
-/// Gets the next item of a closed session's outlet, and writes it unless the sink had failed. False where there is none.
+/// Gets the next item of a closed session's outlet, and writes it unless the sink had failed. False if there is none.
 #[tactic(auto, using(crate::proofs::Released::none_on))]
 fn write_next<K: Sink, J: HubNaming, R: Wait + Copy>(
     rt: &R,
@@ -126,7 +126,7 @@ fn write_next<K: Sink, J: HubNaming, R: Wait + Copy>(
     true
 }
 
-/// Gets the next item of a closed session's outlet, and writes it; or the next ones, where its sink has failed. False where none is left.
+/// Gets the next item of a closed session's outlet, and writes it; or the next ones, if its sink has failed. False if none is left.
 fn get_next<K: Sink, J: HubNaming, R: Wait + Copy>(
     rt: &R,
     floor: &Mutex<Floor<J, R>>,
@@ -167,7 +167,7 @@ fn empty_outlet<K: Sink, J: HubNaming, R: Wait + Copy>(
     unreachable!()
 }
 
-/// Gets what the two lanes of a closed session hold, so that they need no memory from then on. Items are written, where the writer wrote all that
+/// Gets what the two lanes of a closed session hold, so that they need no memory from then on. Items are written, if the writer wrote all that
 /// it got.
 #[tactic(auto, using(crate::proofs::Released::input_still))]
 pub(crate) fn release_lanes<S: Source, K: Sink, J: HubNaming, R: Wait + Copy>(

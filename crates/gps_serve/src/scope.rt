@@ -213,7 +213,7 @@ fn join_watchers<T: Threads>(
     watched
 }
 
-/// Starts all threads, pumps until all devices have stopped, and joins them. None where there is no thread for the door or the publisher;
+/// Starts all threads, pumps until all devices have stopped, and joins them. None if there is no thread for the door or the publisher;
 /// then no other was started.
 #[tactic(auto, using(crate::proofs::Zips::devices_ran, crate::proofs::Zips::watchers_ran))]
 fn work<
@@ -280,7 +280,7 @@ fn work<
     })
 }
 
-/// Runs all threads in a scope. None where there is no thread for the door or the publisher.
+/// Runs all threads in a scope. None if there is no thread for the door or the publisher.
 pub(crate) fn in_scope<
     'e,
     S: Source + Send + 'e,

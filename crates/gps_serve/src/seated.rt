@@ -36,7 +36,7 @@ pub(crate) struct Sessions<S: Source, K: Sink, R: Wait + Copy> {
 /// The most sessions that are not released yet: the 64 that may be live, and sixteen whose clients have still to take what is left.
 const MOST: usize = 80;
 
-/// Joins the threads of a session, and gets what its lanes hold once it is closed. False where it is not closed yet.
+/// Joins the threads of a session, and gets what its lanes hold once it is closed. False if it is not closed yet.
 fn release_at<S: Source, K: Sink, J: HubNaming, R: Threads + Wait + Copy>(
     seated: &mut Vec<Seated<S, K, R>>,
     rt: &R,
@@ -116,8 +116,8 @@ impl<S: Source, K: Sink, R: Wait + Copy> Sessions<S, K, R> {
         }
     }
 
-    /// Joins the threads of the session at a place of the list of those that live, where they have ended. Once it is closed, it leaves the list.
-    /// False where it stays.
+    /// Joins the threads of the session at a place of the list of those that live, if they have ended. Once it is closed, it leaves the list.
+    /// False if it stays.
     fn let_go<J: HubNaming>(
         &mut self,
         rt: &R,

@@ -53,7 +53,7 @@ struct Numbers {
     tries: u32,
 }
 
-/// What is handed back where nothing was served.
+/// What is handed back if nothing was served.
 #[tactic(auto, using(crate::proofs::First::no_devices, crate::proofs::First::none_tell, crate::proofs::HadMemory::none_read, crate::proofs::Causes::no_gate))]
 fn nothing<W: World, R: Wait + Copy>(alloc: Global, world: W, stop: Stop) -> Served<W, R>
     ensures book { result.book ≡ None }

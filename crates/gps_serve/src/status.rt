@@ -75,7 +75,7 @@ fn is_short(ending: Option<Ending>) -> bool
     }
 }
 
-/// Whether the reader of a device's edges did so, where there is one.
+/// Whether the reader of a device's edges did so, if there is one.
 fn lines_lack<S: Source, R: Wait + Copy>(reader: &Option<ReaderDone<S, R>>) -> bool
     ensures { result ≡ lines_lack reader.now }
 {

@@ -1,4 +1,4 @@
--- What is told of a head and of what stands behind it, where the source tells its bytes.
+-- What is told of a head and of what stands behind it, if the source tells its bytes.
 use Rattle.std.proofs.Common.{◌≡◌, ℕ, Bool, true, false, ◌&&◌, ◌==◌, if◌then◌else◌, ◌⊎◌, inl, inr, List, [], ◌++◌, take, Option, Some, None, refl, sym, ap, ◌∙◌, subst}
 use Rattle.std.proofs.lemmas.Bool.{and_from, and_parts, eq-eqb, eqb-true}
 use Rattle.std.proofs.lemmas.List.{append-nil}
@@ -90,7 +90,7 @@ left_from s bytes Inside e = refl
 left_from s bytes Behind e = refl
 left_from s bytes Nowhere e = sym (none_nowhere s bytes e)
 
--- where the head is bad, nothing stands behind it
+-- if the head is bad, nothing stands behind it
 pub left_is : (at : Head) (s : Stand) (bytes : List ℕ) → at ≡ head_at s.stage → left_by at (behind s bytes) ≡ behind s bytes
 left_is at s bytes e = subst (λ (h : Head). left_by h (behind s bytes) ≡ behind s bytes) (sym e) (left_from s bytes s.stage refl)
 

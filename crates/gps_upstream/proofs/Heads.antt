@@ -23,7 +23,7 @@ pub taken_nowhere : (s : Stand) (bytes : List ℕ) → s.stage ≡ Nowhere → t
 taken_nowhere s [] e = refl
 taken_nowhere s (byte ∷ bytes) e = ap (λ t. taken t bytes) (step_nowhere s byte e) ∙ taken_nowhere s bytes e
 
--- behind the head all is handed on; where there is no head, nothing is
+-- behind the head all is handed on; if there is no head, nothing is
 pub all_behind : (s : Stand) (bytes : List ℕ) → s.stage ≡ Behind → behind s bytes ≡ bytes
 all_behind s [] e = refl
 all_behind s (byte ∷ bytes) e = ap (λ t. handed_by t (byte ∷ bytes) (behind (step s byte) bytes)) e

@@ -32,7 +32,7 @@ StandsAt End stage = stage ≢ Nowhere
 StandsAt Quiet stage = stage ≢ Nowhere
 StandsAt Failed stage = stage ≢ Nowhere
 
--- what happens to the source's content, where these bytes are taken from it
+-- what happens to the source's content, if these bytes are taken from it
 abbrev pub Moves : HeadStep → List ℕ → Stream → Stream → Type 0
 Moves (Got n) raw before after = Passes raw before after
 Moves Bad raw before after = Passes raw before after

@@ -56,7 +56,7 @@ same_stage stages.Nowhere stages.Nowhere = true
 unfoldable pub same_stand : Stand → Stand → Bool
 same_stand a b = same_stage a.stage b.stage && bytes_eq a.begin b.begin && (a.count == b.count)
 
--- nothing is left where the request could not be written; where the head is bad, nothing stands behind it
+-- nothing is left if the request could not be written; if the head is bad, nothing stands behind it
 abbrev pub left_by : Head → List ℕ → List ℕ
 left_by heads.Start bytes = bytes
 left_by heads.Reading bytes = bytes
@@ -68,7 +68,7 @@ left_by heads.Unsent bytes = []
 abbrev pub handed : Head → Stand → Stream → Stream
 handed at stand s = record { taken = behind fresh s.taken; left = left_by at (behind stand s.left) }
 
--- It is told where the source tells its bytes, and the head was taken of all that were taken from it: the source was new.
+-- It is told if the source tells its bytes, and the head was taken of all that were taken from it: the source was new.
 abbrev pub content_by : Head → Stand → Option Stream → Option Stream
 content_by at stand None = None
 content_by at stand (Some s) = if same_stand stand (taken fresh s.taken) then Some (handed at stand s) else None

@@ -129,7 +129,7 @@ impl<S: Source, K: Sink> Source for Upstream<S, K> {
 
     /// The first read writes the request, and no other writes. Then the head is taken off; what stands behind it is handed on.
     ///
-    /// Failed: the sink failed (the head is Unsent), the source failed, or the head was found bad. After a bad head, and where
+    /// Failed: the sink failed (the head is Unsent), the source failed, or the head was found bad. After a bad head, and if
     /// the request could not be written, nothing is left.
     fn read(&mut self, buf: &mut [u8]) -> ReadStep
         requires { 0 < length buf.old }

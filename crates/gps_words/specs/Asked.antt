@@ -1,5 +1,5 @@
 -- What the words ask for, without the program's name: the first chooses the command, which reads them all.
--- No answer where the first is no command or is missing, where clap finds a fault, or where a number is none.
+-- No answer if the first is no command or is missing, if clap finds a fault, or if a number is none.
 use Rattle.std.specs.Prelude.{List, [], ◌∷◌, Option, Some, None, codes, if◌then◌else◌}
 use Rattle.std.specs.Str.{bytes_eq}
 use Rattle.clap.specs.Walk.{Text}

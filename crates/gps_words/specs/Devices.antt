@@ -68,7 +68,7 @@ word_of name target = if is_name name then option_map (λ t. record { name = nam
 unfoldable pub word_in : List ℕ → Option DeviceWord
 word_in text = option_and_then (λ p. word_of p.0 (target_in p.1)) (halves 61 text)
 
--- the words of such texts, where each of them is one
+-- the words of such texts, if each of them is one
 unfoldable pub words_in : List (List ℕ) → Option (List DeviceWord)
 words_in [] = Some []
 words_in (text ∷ texts) = option_and_then (λ word. option_map (λ words. word ∷ words) (words_in texts)) (word_in text)

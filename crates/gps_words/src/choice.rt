@@ -57,7 +57,7 @@ fn read(alloc: Global, words: &[String]) -> Result<CommandLine, WordsFault>
     }
 }
 
-/// The command that the words ask for. `Refused` comes exactly where there is none.
+/// The command that the words ask for. `Refused` comes exactly if there is none.
 #[tactic(auto, using(crate::proofs::CommandRanges::in_range))]
 pub fn asked(alloc: Global, words: &[String]) -> Result<CommandLine, WordsFault>
     ensures ok { IfOk result (λ command. asked_of (map string_bytes words.now) ≡ Some command) }

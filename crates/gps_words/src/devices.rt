@@ -16,7 +16,7 @@ pub(crate) struct Devices {
     pub(crate) edges: Vec<Option<Bytes>>,
 }
 
-/// The device words of these texts, or none where one of them is no such word.
+/// The device words of these texts, or none if one of them is no such word.
 #[tactic(auto, using(crate::proofs::DeviceWords::none_read))]
 fn device_words(alloc: Global, texts: &[&str]) -> Result<Option<Vec<DeviceWord>>, NoMemory>
     ensures { IfOk result (λ words. option_map (λ w. w.items) words ≡ words_in (map (λ t. t.now) texts.now)) }
@@ -140,7 +140,7 @@ impl Input {
 }
 
 impl Gathered {
-    /// Adds the device that a word names, where it says where its bytes come from.
+    /// Adds the device that a word names, if it says where its bytes come from.
     fn add(&mut self, words: &[DeviceWord], word: &DeviceWord) -> Result<(), NoMemory>
         ensures names { OnOk result (self.new.names.items ≡ self.old.names.items ++ name_of word.now word.now.target) }
         ensures inputs { OnOk result (self.new.inputs.items ≡ self.old.inputs.items ++ input_of word.now.target) }
@@ -178,7 +178,7 @@ fn gather(alloc: Global, words: &[DeviceWord]) -> Result<Gathered, NoMemory>
     Ok(lists)
 }
 
-/// The devices that the words name, or none where they name no devices.
+/// The devices that the words name, or none if they name no devices.
 #[tactic(auto, unfolding(crate::specs::Devices::devices_of))]
 fn devices_of(alloc: Global, words: &[DeviceWord]) -> Result<Option<Devices>, NoMemory>
     ensures { IfOk result (λ devices. option_map shown_devices devices ≡ devices_of words.now) }

@@ -27,7 +27,7 @@ fn number(text: &str) -> Option<u64>
     }
 }
 
-/// The number that 1 to 10 decimal digits write, where it is from `least` to `most`.
+/// The number that 1 to 10 decimal digits write, if it is from `least` to `most`.
 pub fn number_within(text: &str, least: u32, most: u32) -> Option<u32>
     ensures { result ≡ number_in least most text.now }
 {

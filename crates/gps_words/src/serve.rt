@@ -105,7 +105,7 @@ fn command<'a>(alloc: Global) -> Result<clap::Command<'a>, AllocError>
     Ok(command)
 }
 
-/// The options, where the text of `--listen` is an address.
+/// The options, if the text of `--listen` is an address.
 fn listening(
     alloc: Global,
     listen: &str,
@@ -186,9 +186,9 @@ fn asked_for(alloc: Global, words: &[String]) -> Result<ServeOptions, WordsFault
     }
 }
 
-/// The options of `serve` that the words ask for. `Refused` comes exactly where the first word is another or is missing, where
-/// `clap` finds a fault in the words or a number's text is none in its range, where the text of `--listen` is no
-/// `HOST:PORT`, or where there are not 1 to 16 device words, which name at most 8 devices: each name has one word that says
+/// The options of `serve` that the words ask for. `Refused` comes exactly if the first word is another or is missing, if
+/// `clap` finds a fault in the words or a number's text is none in its range, if the text of `--listen` is no
+/// `HOST:PORT`, or if there are not 1 to 16 device words, which name at most 8 devices: each name has one word that says
 /// where its bytes come from, and at most one with its edges, behind that.
 pub fn serve_asked(alloc: Global, words: &[String]) -> Result<ServeOptions, WordsFault>
     ensures ok { IfOk result (λ options. serve_asked_of (map string_bytes words.now) ≡ Some (shown options)) }

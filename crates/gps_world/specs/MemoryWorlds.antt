@@ -56,7 +56,7 @@ after_input place stock =
       input_faults = faults_after (source_at place stock.places) stock.input_faults;
     }
 
--- the bytes that are left in the first source of a place, where it tells them
+-- the bytes that are left in the first source of a place, if it tells them
 abbrev pub bytes_at : {I : Type 0} → (I → Option Stream) → List (Place × I) → Place → Option (List ℕ)
 bytes_at content places place = option_and_then (λ source. option_map (λ (stream : Stream). stream.left) (content source)) (source_at place places)
 

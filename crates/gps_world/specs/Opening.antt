@@ -9,12 +9,12 @@ abbrev pub IfReady : {T : Type 0} → Opened T → (T → Type 0) → Type 0
 IfReady (Ready object) P = P object
 IfReady Failed P = Unit {0}
 
--- where something was told, the object tells the same
+-- if something was told, the object tells the same
 abbrev pub Tells : {X : Type 0} → Option X → Option X → Type 0
 Tells None shown = Unit {0}
 Tells (Some x) shown = shown ≡ Some x
 
--- where the bytes behind a place were told, they are all left in the source
+-- if the bytes behind a place were told, they are all left in the source
 abbrev pub IsAllLeft : Option (List ℕ) → Option Stream → Type 0
 IsAllLeft None content = Unit {0}
 IsAllLeft (Some bytes) content = content ≡ Some (record { taken = []; left = bytes })

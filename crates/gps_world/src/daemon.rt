@@ -152,7 +152,7 @@ impl<R: Files<File = File> + Net<Stream = TcpStream> + Clock + Copy> Daemon<R> {
         }
     }
 
-    /// Connects, where that was not done yet.
+    /// Connects, if that was not done yet.
     fn open(&mut self) -> Result<(), DaemonFault> {
         if let State::Waiting(address) = &self.state {
             match connection_to(self.machine, address) {

@@ -74,7 +74,7 @@ fn take_first<I: Drop>(places: &mut Vec<(Place, I)>, place: &Place) -> Option<I>
 impl<I: Source, K: Sink> MemoryWorld<I, K> {
     ghost use Rattle.gps_world.specs.MemoryWorlds.{IsUnusedGate};
 
-    /// Nothing was taken from the sources, where they tell that, and the counts of the sources and the door are 0. Takes
+    /// Nothing was taken from the sources, if they tell that, and the counts of the sources and the door are 0. Takes
     /// no memory.
     pub fn new(
         alloc: Global,

@@ -30,7 +30,7 @@ impl Place {
     }
 }
 
-/// The place of no name, which stands where there is none yet.
+/// The place of no name, which stands if there is none yet.
 impl MadeWith<Global> for Place {
     fn made_with(alloc: Global) -> Place {
         Place::File(Bytes::new(alloc))

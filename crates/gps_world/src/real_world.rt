@@ -16,7 +16,7 @@ use std::{str, time};
 /// The real world: files, TCP connections, a TCP listener and the machine's clock. It tells no content.
 ///
 /// A file that cannot be opened is a fault, for whatever reason; so is no memory for its buffer. What may wait long to be
-/// opened, a pipe with a name and a host, is opened by the first read of its source; where that fails, it is a fault of the
+/// opened, a pipe with a name and a host, is opened by the first read of its source; if that fails, it is a fault of the
 /// source.
 #[derive(Drop)]
 pub struct RealWorld<R> {
@@ -62,7 +62,7 @@ impl<R> RealWorld<R> {
     }
 }
 
-/// The bytes once more, where there is memory for them.
+/// The bytes once more, if there is memory for them.
 fn copy_of(bytes: &Bytes) -> io::Result<Bytes> {
     match bytes.copy() {
         Ok(copy) => Ok(copy),

@@ -38,13 +38,13 @@ pub trait World: Drop {
     /// The places of the inputs that were asked for, in order, and the address that was listened to.
     ghost asked: { Self → Asking };
 
-    /// The bytes behind each place, where it tells them.
+    /// The bytes behind each place, if it tells them.
     ghost behind: { Self → Place → Option (List ℕ) };
 
-    /// The links of its door, where it tells them.
+    /// The links of its door, if it tells them.
     ghost links: { Self → Option (List (Self.In × Self.Out)) };
 
-    /// The stamps of its clock, where it tells them.
+    /// The stamps of its clock, if it tells them.
     ghost stamps: { Self → Option Dial };
 
     /// Opens what is behind a place. Nothing was taken from the source that it gives.

@@ -157,7 +157,7 @@ module _ (says : Texts) where
     wrote = u.wrote;
   }
 
-  -- where a fault ends the writing: the lines that were due have the written part at their beginning
+  -- if a fault ends the writing: the lines that were due have the written part at their beginning
   broken_texts : (fault : Fault) (s more : List Symbol) (kept : DeviceKept) (waits waits' : List ℕ) (sink sink' sink'' : Option (List ℕ))
       → Waits (texts_so_far says s) waits sink sink' → HandsOn {X = Unit {0}} says (Err fault) s more kept waits waits' sink' sink''
       → Goes (AppendsPart (texts_so_far says (s ++ more))) sink sink''

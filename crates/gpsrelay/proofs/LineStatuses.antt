@@ -40,7 +40,7 @@ not_refused Full e = omega (arith, e)
 not_refused BadLine e = omega (arith, e)
 not_refused NoMemory e = omega (arith, e)
 
--- where nothing outside failed
+-- if nothing outside failed
 pub ends_by_itself : (outcome : CountOutcome) (source : SourceCall) (sink : SinkCall)
     → CountsSatisfy (CountHasCause outcome) source sink
     → NothingFails source sink

@@ -49,7 +49,7 @@ no_more history bytes (Some stream) (Some after) within full passed =
     let some : 0 < length passed.0 = passed.1.0 in
     omega (arith, within, full)
 
--- where nothing outside failed
+-- if nothing outside failed
 pub ends_by_itself : (outcome : CommandOutcome) (source : SourceCall) (sink : SinkCall)
     → CountsSatisfy (CommandHasCause outcome) source sink
     → NothingFails source sink

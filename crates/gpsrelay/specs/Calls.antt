@@ -7,7 +7,7 @@ use Rattle.gps_outside.specs.declared.source.Source.{Ghosts as SourceGhosts}
 use Rattle.gps_outside.specs.declared.sink.Sink.{Ghosts as SinkGhosts}
 use Rattle.gps_outside.specs.declared.clock.Clock.{Ghosts as ClockGhosts}
 
--- the content of a source, where it is modelled, and what the source counts
+-- the content of a source, if it is modelled, and what the source counts
 pub record SourceState : Type 0 where
   pub content : Option Stream
   pub faults : ℕ
@@ -23,7 +23,7 @@ source_state ghosts source = record { content = ghosts.content source; faults = 
 abbrev pub source_call : {S : Type 0} → SourceGhosts S → S → S → SourceCall
 source_call ghosts before after = record { before = source_state ghosts before; after = source_state ghosts after }
 
--- the bytes that a sink was given, where they are modelled, and what the sink counts
+-- the bytes that a sink was given, if they are modelled, and what the sink counts
 pub record SinkState : Type 0 where
   pub written : Option (List ℕ)
   pub faults : ℕ
@@ -38,7 +38,7 @@ sink_state ghosts sink = record { written = ghosts.written sink; faults = ghosts
 abbrev pub sink_call : {K : Type 0} → SinkGhosts K → K → K → SinkCall
 sink_call ghosts before after = record { before = sink_state ghosts before; after = sink_state ghosts after }
 
--- the stamps of a clock, where they are modelled
+-- the stamps of a clock, if they are modelled
 pub record ClockCall : Type 0 where
   pub before : Option Dial
   pub after : Option Dial

@@ -52,7 +52,7 @@ Does Lines status source sink clock = DoesLines status source sink clock
 abbrev pub NothingFails : SourceCall → SinkCall → Type 0
 NothingFails source sink = (ReadFailed source → ⊥) × (WasQuiet 1000 source → ⊥) × (WriteFailed sink → ⊥)
 
--- the statuses of a command where nothing fails
+-- the statuses of a command if nothing fails
 abbrev pub EndsAt : CommandLine → ℕ → Type 0
 EndsAt (Decode history) status = (status ≡ 0) ⊎ ((status ≡ 5) ⊎ (status ≡ 7))
 EndsAt (Pseudo history) status = (status ≡ 0) ⊎ ((status ≡ 5) ⊎ (status ≡ 7))

@@ -17,7 +17,7 @@ use Rattle.gpsrelay.specs.declared.outcome.Fault.TheVariants.{Sink, NoMemory as 
 use Rattle.gpsrelay.specs.Readings.{ArePieces, PassHistory, Reading, bytes_of, stamps_of, stream_of}
 use Rattle.gpsrelay.specs.Texts.{Texts, texts_of, texts_so_far, texts_to_end}
 
--- Where a command breaks off in mid-source, all bytes that it took were read: none more than the history allows, or as many as it allows where
+-- If a command breaks off in mid-source, all bytes that it took were read: none more than the history allows, or as many as it allows if
 -- more came.
 abbrev pub HasReadSoFar : ℕ → List ℕ → Option Stream → Option Stream → Type 0
 HasReadSoFar history bytes before after =
@@ -45,7 +45,7 @@ Ends says Full history readings source source' sink sink' =
     (length (bytes_of readings) ≡ history) × Goes (PassesMore (bytes_of readings)) source source' × Goes (Appends (texts_so_far says (stream_of readings))) sink sink'
 Ends says NoMemory history readings source source' sink sink' = BrokeOff says history readings source source' sink sink'
 
--- which bytes one reading has: those of one read, and where the history was passed the last has what lay within it
+-- which bytes one reading has: those of one read, and if the history was passed the last has what lay within it
 abbrev pub AreReads : CommandOutcome → List Reading → Type 0
 AreReads Done readings = ArePieces readings
 AreReads ReadFault readings = ArePieces readings

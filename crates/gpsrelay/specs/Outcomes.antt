@@ -1,4 +1,4 @@
--- How a command ends, its exit status, and what must have happened outside where it ends so.
+-- How a command ends, its exit status, and what must have happened outside if it ends so.
 use Rattle.std.specs.Prelude.{ℕ, ◌⊎◌}
 use Rattle.gpsrelay.specs.Calls.{ReadFailed, SourceCall, WasQuiet}
 use Rattle.gps_outside.specs.Counts.{Rose, RoseBy}

@@ -40,11 +40,11 @@ AsksFor (Some s) asked = AsksSome asked (places_of s) s.listen
 abbrev pub AsksWhole : Asking → Serve → Type 0
 AsksWhole asked s = AsksAll asked (places_of s) s.listen
 
--- Each device has a source of edges exactly where the words have a place for them.
+-- Each device has a source of edges exactly if the words have a place for them.
 abbrev pub HaveEdges : {S R : Type 0} → List (DeviceDone S R) → Serve → Type 0
 HaveEdges {S} {R} devices s = map (λ (d : DeviceDone S R). is_some d.edges) devices ≡ map is_some s.devices.edges
 
--- Where no place is given twice, the bytes taken from the sources are the first of those that the world held behind the places of the words, and all of
+-- If no place is given twice, the bytes taken from the sources are the first of those that the world held behind the places of the words, and all of
 -- them of a device that has ended.
 abbrev pub HeldBehind : {S R : Type 0} → (Place → Option (List ℕ)) → SourceFacts S → List (DeviceDone S R) → Serve → Type 0
 HeldBehind behind facts devices s =

@@ -24,7 +24,7 @@ impl fmt::Display for PlaceText<'_> {
     }
 }
 
-/// A place once more, where there is memory for it; else nothing is said of it.
+/// A place once more, if there is memory for it; else nothing is said of it.
 pub fn copy_of(place: &Place) -> Option<Place> {
     match place {
         Place::File(path) => match path.copy() {

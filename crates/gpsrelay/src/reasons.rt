@@ -1,4 +1,4 @@
-//! What stands on standard error where a command ends with another status than 0. What is said there changes no status: a standard error that
+//! What stands on standard error if a command ends with another status than 0. What is said there changes no status: a standard error that
 //! is closed or full is passed over.
 
 use crate::streams::{CountedInput, CountedOutput};
@@ -10,7 +10,7 @@ use std::io::Eprint;
 /// How many bytes `replay` and `lines` read at most.
 const MOST: u64 = 1_073_741_824;
 
-/// Says why the words are refused: the usage line first, then the reason, and the help where no command was asked for or help was.
+/// Says why the words are refused: the usage line first, then the reason, and the help if no command was asked for or help was.
 pub fn tell_refused<R: Eprint>(rt: &R, alloc: Global, words: &[String]) {
     let _ = eprintln!(rt; "{USAGE}");
     match refused(alloc, words) {
@@ -110,7 +110,7 @@ fn tell_nothing_found<R: Eprint>(
     }
 }
 
-/// Says how a command ended, where there is something to say.
+/// Says how a command ended, if there is something to say.
 pub fn tell_end<R: Eprint>(
     rt: &R,
     command: &CommandLine,

@@ -101,7 +101,7 @@ fn plan_of(alloc: Global, options: ServeOptions) -> Result<Plan, NoMemory>
     })
 }
 
-/// What is handed back where nothing was served.
+/// What is handed back if nothing was served.
 #[tactic(auto, using(gps_serve::proofs::First::no_devices, gps_serve::proofs::First::none_tell, gps_serve::proofs::HadMemory::none_read, gps_serve::proofs::Causes::no_gate))]
 fn nothing<W: World, R: Wait + Copy>(alloc: Global, world: W, status: u8) -> Served<W, R>
     ensures status { result.status ≡ status }

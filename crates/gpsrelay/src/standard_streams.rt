@@ -11,8 +11,8 @@ const INPUT: i32 = 0;
 /// The number of standard error, the last of the three.
 const ERROR: i32 = 2;
 
-/// What stands where a standard stream was closed before the program began. A read and a write of such a stream fail, as they do
-/// where it is closed.
+/// What stands in place of a standard stream that was closed before the program began. A read and a write of such a stream fail, as they do
+/// if it is closed.
 #[derive(Drop)]
 pub struct StandardStreams {
     input: Option<File>,
@@ -24,7 +24,7 @@ fn open_null<R: Files<File = File>>(files: &R, how: &OpenOptions) -> io::Result<
     how.open(files, "/dev/null")
 }
 
-/// A file that cannot be read, where the number of standard input is free.
+/// A file that cannot be read, if the number of standard input is free.
 fn take_input<R: Files<File = File>>(files: &R) -> Option<File> {
     match open_null(files, OpenOptions::new().write(true)) {
         Ok(file) if file.as_raw_fd() == INPUT => Some(file),
@@ -32,7 +32,7 @@ fn take_input<R: Files<File = File>>(files: &R) -> Option<File> {
     }
 }
 
-/// A file that cannot be written, where the number of a standard stream is free.
+/// A file that cannot be written, if the number of a standard stream is free.
 fn take_next<R: Files<File = File>>(files: &R) -> Option<File> {
     match open_null(files, OpenOptions::new().read(true)) {
         Ok(file) if file.as_raw_fd() <= ERROR => Some(file),

@@ -9,7 +9,7 @@ use std::io::{self, ErrorKind, IsTerminal};
 use std::os::unix::fs::FileTypeExt;
 use std::rt::Files;
 
-/// A reason of the system behind a message, or nothing where none is known.
+/// A reason of the system behind a message, or nothing if none is known.
 #[derive(Clone, Copy)]
 pub struct Reason(pub Option<ErrorKind>);
 

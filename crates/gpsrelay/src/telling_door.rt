@@ -29,7 +29,7 @@ const PAUSE: u64 = 60;
 pub struct TellingDoor<R> {
     rt: R,
     door: RealGate<R>,
-    /// Whether a link was dropped that was not read; missing where there was no memory for it.
+    /// Whether a link was dropped that was not read; missing if there was no memory for it.
     dropped: Option<Arc<AtomicBool>>,
     /// Whether a link was given since the last call.
     gave: bool,

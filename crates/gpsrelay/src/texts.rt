@@ -23,7 +23,7 @@ pub enum Output {
     Sentences,
 }
 
-/// Adds the line of a report, where it has one.
+/// Adds the line of a report, if it has one.
 fn push_report(out: &mut Bytes, body: &Body) -> Result<(), NoMemory>
     ensures { OnOk result (out.new ≡ out.old ++ line_of body.now) }
 {
@@ -33,7 +33,7 @@ fn push_report(out: &mut Bytes, body: &Body) -> Result<(), NoMemory>
     }
 }
 
-/// Adds the sentences of a report, where it is a fix.
+/// Adds the sentences of a report, if it is a fix.
 fn push_fix(out: &mut Bytes, body: &Body) -> Result<(), NoMemory>
     ensures { OnOk result (out.new ≡ out.old ++ sentences_of body.now) }
 {

@@ -8,7 +8,7 @@ use Rattle.hub_door.specs.declared.view.DoorView.{DoorView}
 use Rattle.hub_door.specs.declared.view.Entry.{Entry}
 use Rattle.hub_door.specs.Views.{BeginsWith}
 
--- what holds of one seat's view, where the hub's seat has this number
+-- what holds of one seat's view, if the hub's seat has this number
 pub record Fits (hub : ℕ) (all : List Entry) (seat : ℕ) (v : DoorView) : Type 0 where
   pub keeps : v.keeps ≡ true → (seat ≡ hub) × (v.list ≡ all)
   pub begins : BeginsWith v.list all

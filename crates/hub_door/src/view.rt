@@ -17,7 +17,7 @@ pub enum Entry {
 pub struct DoorView {
     /// Whether it is the hub's seat.
     pub keeps: bool,
-    /// All entries, where it is the hub's seat; of a note the first of them.
+    /// All entries, if it is the hub's seat; of a note the first of them.
     pub list: LinkedList<Entry>,
     /// Those of a note that is being met.
     pub told: LinkedList<Entry>,

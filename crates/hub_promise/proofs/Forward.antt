@@ -124,7 +124,7 @@ turned_limit : (turns : Bool) (old : BookView) → (turned_if turns old).log.lim
 turned_limit false old = refl
 turned_limit true old = refl
 
--- entries came, behind a turn where one was due
+-- entries came, behind a turn if one was due
 pub moves_onward : (exact turns : Bool) (old new : BookView) (entries : List Entry) → BookHolds old → Moves exact turns old new entries → Earns (turned_if turns old) new entries → Onward old new entries
 moves_onward exact turns old new entries held moves earns =
     record {

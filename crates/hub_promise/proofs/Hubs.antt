@@ -36,7 +36,7 @@ pub map_length : {A B : Type 0} (f : A → B) (xs : List A) → length (map f xs
 map_length f [] = refl
 map_length f (x ∷ xs) = ap suc (map_length f xs)
 
--- the devices go on where they went on before
+-- the devices go on if they went on before
 go_on : (wait wait' : ℕ) (watched watched' : ℕ) (done : Bool) → watched ≤ watched' → (wait ≤ watched) ⊎ (done ≡ true) → (wait ≤ watched') ⊎ (done ≡ true)
 go_on wait wait' watched watched' done more = ⊎_elim (λ (e : wait ≤ watched). inl (omega arith)) (λ (e : done ≡ true). inr e)
 

@@ -109,7 +109,7 @@ session_onward old new before onward entries a b x running carries abides f =
           a.session b.session running abides.requests abides.cap abides.closes f.cause;
     }
 
--- where only another session changed
+-- if only another session changed
 pub session_beside : (old new : BookView) (before : List Entry) (a : MemberView) (x : Taking Piece) → new.names ≡ old.names → new.log ≡ old.log
     → SessionFits old.names before old.log.log a x → SessionFits new.names before new.log.log a x
 session_beside old new before a x names log f =
@@ -149,7 +149,7 @@ or_first : (a b c : Bool) → c ≡ (a || b) → a ≡ true → c ≡ true
 or_first true b c e is = e
 or_first false b c e is = absurd (cc)
 
--- where a piece holds more requests than were answered
+-- if a piece holds more requests than were answered
 heard_more : (exact : Bool) (names : List (List ℕ)) (log : List Entry) (place : ℕ) (piece : List ℕ) (x : Taking Piece) (a b : MemberView)
     → (inputs : Inputs exact (known_in (length names) log) names place piece a b) → input.StandsFor a.cutter (input_bytes x.got)
     → a.session.requests ≡ length (requests (input_bytes x.got)) → 0 < length inputs.requests - inputs.count
@@ -191,7 +191,7 @@ heard_step exact old new s piece x held lt is_open hears =
           };
     }
 
--- it was closed at the last piece of its lane, or where the book refused a piece
+-- it was closed at the last piece of its lane, or if the book refused a piece
 pub hung_step : (old new : BookView) (s : ℕ) (why : Close) (piece : Piece) (x : Taking Piece) → BookHolds old → IsOpenAt s old.sessions
     → ((count place : ℕ) (log : List Entry) (shown : SessionView) → shown.requests ≡ length (requests (input_bytes x.got)) → MayClose count log (with_got piece x) shown place why)
     → HangsUp s why old new → SessionStep s old new x (with_got piece x)

@@ -1,4 +1,4 @@
--- The shut: where each line of the book says that its device has stopped, each session is closed.
+-- The shut: if each line of the book says that its device has stopped, each session is closed.
 use Rattle.std.proofs.Common.{◌≡◌, ◌<◌, ◌≤◌, ℕ, suc, ◌+◌, true, ◌||◌, ◌&&◌, List, [], ◌∷◌, ◌++◌, length, get_or, Option, Some, None, refl, sym, ap, ◌∙◌, subst, inl, inr, ◌⊎◌, ⊎_elim, arith}
 use Rattle.std.specs.Prelude.{is_some}
 use Rattle.std.specs.List.{All, AllZip, list_all}
@@ -32,7 +32,7 @@ use Rattle.hub_promise.proofs.Going.{line_stopped, no_table, some_line, stopped_
 abbrev AllEnded : BookView → Type 0
 AllEnded book = list_all (λ (line : DeviceStateView). has_stopped line.stage) book.log.present.lines ≡ true
 
--- each device has stopped in the log where each line says so
+-- each device has stopped in the log if each line says so
 pub stop_there : (book : BookView) (before : List Entry) → BookHolds book → StandsFor book.log.opening before → AllEnded book → AllStop (length book.names) (before ++ book.log.log)
 stop_there book before held stands all d lt =
     let lines = book.log.present.lines in
@@ -137,7 +137,7 @@ hub_shut terms h lasts book k held all shuts =
     all_closed : (count : ℕ) (log : List Entry) (xs ys : List MemberView) → AllZip (ShutKeeps count log) xs ys → All IsClosed ys
     all_closed count log xs ys zip s d lt = let n = zip_length (ShutKeeps count log) xs ys zip in (zip_at (ShutKeeps count log) xs ys s d d zip (omega arith)).closed
 
--- each device has stopped where each line of the book says so
+-- each device has stopped if each line of the book says so
 pub all_stopped : (terms : Terms) (h : HubView) (lasts : List Lasts) → HubKeeps terms h lasts → list_all (λ (line : DeviceStateView). has_stopped line.stage) h.book.log.present.lines ≡ true
     → All (λ (end : Option DeviceEnd). is_some end ≡ true) h.ends
 all_stopped terms h lasts k all d end lt =

@@ -29,7 +29,7 @@ use Rattle.hub_promise.specs.Parts.{InletsView, Parts}
 
 -- The bytes of a device in the log, each with the stamp of its piece, are those got of its lane, joined, and its edges are the readable lines
 -- of its edge lane. Only a piece that the book refused is excepted: it is the last one got of its lane, and the device is lost. The device has
--- ended in the log exactly where both lanes have told that their source ended and no piece was refused; it was lost exactly where it has
+-- ended in the log exactly if both lanes have told that their source ended and no piece was refused; it was lost exactly if it has
 -- stopped otherwise.
 pub record DeviceFits (log : List Entry) (d : ℕ) (x : InletsView) (end : Option DeviceEnd) : Type 0 where
   pub taken : List Piece

@@ -41,7 +41,7 @@ stamped_of pieces = flat_map stamped_in pieces
 abbrev pub edges_of : List Piece → List Edge
 edges_of pieces = flat_map edges_by pieces
 
--- how the source of a lane ended, where the lane has told that
+-- how the source of a lane ended, if the lane has told that
 abbrev pub ending_of : List Piece → Option Ending
 ending_of pieces = last_of ending_in pieces
 
@@ -49,7 +49,7 @@ ending_of pieces = last_of ending_in pieces
 abbrev pub TellsOnce : List Piece → Type 0
 TellsOnce put = (first rest : List Piece) → put ≡ first ++ rest → is_some (ending_of first) ≡ true → rest ≡ []
 
--- what was got of an edge lane, where there is one
+-- what was got of an edge lane, if there is one
 abbrev pub got_of : Option (Taking Piece) → List Piece
 got_of None = []
 got_of (Some x) = x.got
@@ -69,7 +69,7 @@ end_of Failed End = ReadFault
 end_of Failed Failed = ReadFault
 end_of Failed NoMemory = LostNoMemory
 
--- a device stops where both of its lanes have told how their source ended, and before that where the book refuses a piece of it
+-- a device stops if both of its lanes have told how their source ended, and before that if the book refuses a piece of it
 abbrev pub end_by : List Piece → Option Ending → Option Ending → Option DeviceEnd
 end_by (piece ∷ refused) bytes edges = Some LostNoMemory
 end_by [] None edges = None

@@ -13,7 +13,7 @@ use Rattle.hub_promise.specs.DaemonHub.{AllStop, DeviceFits, MayGoOn, SessionFit
 use Rattle.hub_promise.specs.Given.{edge_ending, ending_of, got_of}
 use Rattle.hub_promise.specs.Parts.{AreAdmitted, HubView, InletsView, Terms, parts_of, terms_of}
 
--- how the sources of a device's two lanes ended, where the lanes have told
+-- how the sources of a device's two lanes ended, if the lanes have told
 pub record Lasts : Type 0 where
   pub bytes : Option Ending
   pub edges : Option Ending

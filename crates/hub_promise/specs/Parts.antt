@@ -11,7 +11,7 @@ use Rattle.session_core.specs.Naming.{OutletName, of_table}
 use Rattle.shm_segment.specs.Seats.{SegmentId}
 use Rattle.hub_promise.specs.declared.ends.DeviceEnd.{DeviceEnd}
 
--- the receiving ends of a device's lane and of its edge lane, where it has one
+-- the receiving ends of a device's lane and of its edge lane, if it has one
 pub record InletsView : Type 0 where
   pub bytes : Taking Piece
   pub edges : Option (Taking Piece)

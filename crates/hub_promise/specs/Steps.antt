@@ -36,7 +36,7 @@ with_bytes piece x = record x { bytes = with_got piece x.bytes }
 abbrev pub with_edge : Piece → InletsView → InletsView
 with_edge piece x = record x { edges = option_map (with_got piece) x.edges }
 
--- more pieces are got of a lane, or none; none where it had told how its source ended
+-- more pieces are got of a lane, or none; none if it had told how its source ended
 pub record GetsMore (x y : Taking Piece) : Type 0 where
   pub more : List Piece
   pub gets : y ≡ record x { got = x.got ++ more }
@@ -90,7 +90,7 @@ pub record SessionStep (s : ℕ) (old new : BookView) (x y : Taking Piece) : Typ
   pub fits : (before : List Entry) → StandsFor old.log.opening before → (free : MemberView)
       → SessionFits old.names before old.log.log (slice_index_or old.sessions s free) x → SessionFits old.names before old.log.log next y
 
--- what is added where a device ends so, or goes on
+-- what is added if a device ends so, or goes on
 abbrev pub stop_entries : ℕ → Option DeviceEnd → List Entry
 stop_entries d None = []
 stop_entries d (Some Ended) = ended d

@@ -7,7 +7,7 @@ use Rattle.gps_fixed.specs.Text.{iso_of, scaled_text}
 use Rattle.json_line.specs.declared.names.Key.{Key}
 use Rattle.json_line.specs.Names.{label_of}
 
--- a member, and one that is absent where there is no value
+-- a member, and one that is absent if there is no value
 unfoldable pub member : Key → List ℕ → List ℕ
 member key value = label_of key ++ value
 

@@ -66,7 +66,7 @@ fn push_list(out: &mut Bytes, names: &[Name], active: &[Option<Stamp>]) -> Resul
     out.push(b']')
 }
 
-/// The DEVICES line: all devices in order, each with the stamp of its first byte where it is active.
+/// The DEVICES line: all devices in order, each with the stamp of its first byte if it is active.
 #[tactic(auto, unfolding(crate::specs::Lines::devices))]
 pub fn devices_line(
     alloc: Global,

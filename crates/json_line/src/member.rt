@@ -28,7 +28,7 @@ pub fn push_text(out: &mut Bytes, key: Key, text: &[u8]) -> Result<(), NoMemory>
     out.push(b'"')
 }
 
-/// A text in quotes, where there is one.
+/// A text in quotes, if there is one.
 #[tactic(auto, unfolding(crate::specs::Json::member_if, crate::specs::Json::quoted))]
 pub fn push_name_if(out: &mut Bytes, key: Key, name: &Option<Name>) -> Result<(), NoMemory>
     ensures { OnOk result (out.new ≡ out.old ++ member_if key quoted name.now) }
@@ -113,7 +113,7 @@ pub fn push_fixed(out: &mut Bytes, key: Key, value: i64, decimals: u8) -> Result
     out.extend_from_slice(&room[..end])
 }
 
-/// A number with decimals, where there is one.
+/// A number with decimals, if there is one.
 #[inline(always)]
 #[tactic(auto, unfolding(crate::specs::Json::member_if, crate::specs::Json::member))]
 pub fn push_fixed_if(
@@ -132,7 +132,7 @@ pub fn push_fixed_if(
     }
 }
 
-/// Hundredths with two decimals, where there are some.
+/// Hundredths with two decimals, if there are some.
 #[tactic(auto, unfolding(crate::specs::Json::member_if, crate::specs::Json::member, crate::specs::Json::fixed, crate::specs::Json::hundredths))]
 pub fn push_hundredths_if(out: &mut Bytes, key: Key, value: Option<u32>) -> Result<(), NoMemory>
     ensures { OnOk result (out.new ≡ out.old ++ member_if key hundredths value) }
@@ -143,7 +143,7 @@ pub fn push_hundredths_if(out: &mut Bytes, key: Key, value: Option<u32>) -> Resu
     }
 }
 
-/// A time, where there is one.
+/// A time, if there is one.
 #[tactic(auto, unfolding(crate::specs::Json::member_if, crate::specs::Json::time))]
 pub fn push_time_if(out: &mut Bytes, key: Key, value: &Option<Stamp>) -> Result<(), NoMemory>
     ensures { OnOk result (out.new ≡ out.old ++ member_if key time value.now) }

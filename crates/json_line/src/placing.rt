@@ -209,7 +209,7 @@ pub fn place_label(room: &mut [u8], at: usize, key: Key) -> usize
     place_text(room, at, label(key))
 }
 
-/// A number, where there is one.
+/// A number, if there is one.
 #[inline(always)]
 #[tactic(auto, unfolding(crate::specs::Json::member_if))]
 pub fn place_number_if(room: &mut [u8], at: usize, key: Key, value: Option<u32>) -> usize
@@ -228,7 +228,7 @@ pub fn place_number_if(room: &mut [u8], at: usize, key: Key, value: Option<u32>)
     }
 }
 
-/// A number with a sign, where there is one.
+/// A number with a sign, if there is one.
 #[inline(always)]
 #[tactic(auto, unfolding(crate::specs::Json::member_if, crate::specs::Json::signed))]
 pub fn place_signed_if(room: &mut [u8], at: usize, key: Key, value: Option<i32>) -> usize

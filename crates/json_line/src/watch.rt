@@ -8,7 +8,7 @@ use gps_fixed::{Bytes, NoMemory};
 use gps_report::Policy;
 use std::alloc::Global;
 
-/// The WATCH line: what a session watches, and the one device where it watches one.
+/// The WATCH line: what a session watches, and the one device if it watches one.
 #[tactic(auto, unfolding(crate::specs::Lines::watch))]
 pub fn watch_line(alloc: Global, policy: &Policy) -> Result<Bytes, NoMemory>
     ensures { IfOk result (λ line. line ≡ watch policy.now ++ line_end) }

@@ -12,8 +12,8 @@ use std::thread::yield_now;
 /// How often is waited, at most, for what another thread does.
 const TURNS: u64 = 1_000_000;
 
-/// A sink in memory, which counts the lines that it was given. Where there is another sink to wait for, its first write waits until that one
-/// was given a line, and fails where none comes.
+/// A sink in memory, which counts the lines that it was given. If there is another sink to wait for, its first write waits until that one
+/// was given a line, and fails if none comes.
 #[derive(Drop)]
 pub(crate) struct CountingSink {
     pub(crate) sink: MemorySink,
@@ -91,7 +91,7 @@ pub(crate) enum Cue {
     End(u64),
 }
 
-/// A source that does one thing after another, each at its cue, and is quiet where there is none. It ends where it was quiet too often.
+/// A source that does one thing after another, each at its cue, and is quiet if there is none. It ends if it was quiet too often.
 #[derive(Drop)]
 pub(crate) struct CuedSource {
     cues: &'static [Cue],

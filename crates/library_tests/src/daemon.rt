@@ -198,7 +198,7 @@ fn place_x(alloc: Global, reads: &[ReadPlan]) -> Result<Vec<(Place, MemorySource
     Ok(places)
 }
 
-/// How the device's source is read, whether the door fails, and how the client's sink is written; and what comes of it. Where no device has an
+/// How the device's source is read, whether the door fails, and how the client's sink is written; and what comes of it. If no device has an
 /// end, nothing was served.
 struct Row<'a> {
     path: &'a [u8],

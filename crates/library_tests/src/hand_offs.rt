@@ -22,7 +22,7 @@ fn stores(hand: &HandOff, giver: &mut Giver, most: u32) -> u32
     made
 }
 
-/// Makes this many steps, and gives the last one where it ended a reading.
+/// Makes this many steps, and gives the last one if it ended a reading.
 fn steps(hand: &HandOff, taker: &mut Taker, most: u32) -> Option<TakeStep>
     requires { taker.old.segment ≡ hand.now }
     ensures { taker.new.segment ≡ taker.old.segment }

@@ -55,7 +55,7 @@ passed old bytes part stands = go (is_too_long old.limit (open_line bytes)) refl
         ap (λ b. b || is_too_long old.limit (old.held ++ part)) (stood_skipping old bytes stands ∙ short)
         ∙ ap (λ t. is_too_long old.limit (t ++ part)) (stood_held old bytes stands short)
 
--- what is held, where the line is not too long
+-- what is held, if the line is not too long
 held_is : (old : LineCutterView) (bytes part : List ℕ) → StandsFor old bytes →
     (old.skipping || is_too_long old.limit (old.held ++ part)) ≡ false → old.held ≡ open_line bytes
 held_is old bytes part stands short = stood_held old bytes stands (go old.skipping refl short)
@@ -135,7 +135,7 @@ stands_ended limit bytes part is =
     ap (λ t. holding limit false t) (sym opens)
     ∙ kept_short limit (bytes ++ part) (ap (is_too_long limit) opens ∙ none_fits limit)
 
--- a line's end, where the line is too long
+-- a line's end, if the line is too long
 pub end_long : (old new : LineCutterView) (piece part : List ℕ) (n : ℕ) → EndsAt piece n → part ≡ take n piece →
     (old.skipping || is_too_long old.limit (old.held ++ part)) ≡ true → new ≡ holding old.limit false [] →
     Steps old new piece (next.TooLong n)
@@ -149,7 +149,7 @@ end_long old new piece part n ends front long is bytes stands =
       fitting = fitting_ended old.limit bytes (take n piece) ends.is true whole;
     }
 
--- a line's end, where the line fits
+-- a line's end, if the line fits
 pub end_line : (old new : LineCutterView) (piece part : List ℕ) (n : ℕ) (line : WholeLine) → EndsAt piece n → part ≡ take n piece →
     (old.skipping || is_too_long old.limit (old.held ++ part)) ≡ false → spelling line ≡ old.held ++ part →
     new ≡ holding old.limit false [] →
@@ -198,7 +198,7 @@ fitting_opened limit bytes piece plain =
 all_of : (piece : List ℕ) → take (length piece) piece ≡ piece
 all_of piece = take_all (length piece) piece (omega arith)
 
--- no line's end, where the line is too long
+-- no line's end, if the line is too long
 pub goes_long : (old new : LineCutterView) (piece : List ℕ) → has_feed piece ≡ false → 0 < length piece →
     (old.skipping || is_too_long old.limit (old.held ++ piece)) ≡ true → new ≡ holding old.limit true [] →
     Steps old new piece (next.TooLong (length piece))
@@ -211,7 +211,7 @@ goes_long old new piece plain some long is bytes stands =
       fitting = rw (all_of piece) (fitting_opened old.limit bytes piece plain);
     }
 
--- no line's end, where the line fits
+-- no line's end, if the line fits
 pub goes_on : (old new : LineCutterView) (piece : List ℕ) → has_feed piece ≡ false →
     (old.skipping || is_too_long old.limit (old.held ++ piece)) ≡ false → new ≡ holding old.limit false (old.held ++ piece) →
     Steps old new piece next.Used

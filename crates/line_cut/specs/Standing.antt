@@ -89,7 +89,7 @@ pub record IsStep (old new : LineCutterView) (bytes piece : List ℕ) (next : Ne
 abbrev pub Steps : LineCutterView → LineCutterView → List ℕ → Next → Type 0
 Steps old new piece next = (bytes : List ℕ) → StandsFor old bytes → IsStep old new bytes piece next
 
--- what the end of these bytes ends, where a last line may lack its end
+-- what the end of these bytes ends, if a last line may lack its end
 abbrev pub IsLast : Limit → List ℕ → Last → Type 0
 IsLast limit bytes last.None = open_line bytes ≡ []
 IsLast limit bytes (last.Line line) = (line.now ≡ open_line bytes) × (0 < length line.now) × (length line.now ≤ most limit)

@@ -112,7 +112,7 @@ impl LineCutter {
         self.skipping || self.limit.is_passed(self.held.as_slice(), part)
     }
 
-    /// What the end of the bytes ends, where a last line may lack its end.
+    /// What the end of the bytes ends, if a last line may lack its end.
     pub fn last(&self) -> Last<'_>
         ensures { (bytes : List ℕ) → StandsFor self.now bytes → IsLast self.now.limit bytes result }
     {

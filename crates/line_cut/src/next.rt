@@ -35,7 +35,7 @@ pub enum Next<'p> {
     Used,
 }
 
-/// What the end of all bytes ends, where a last line may lack its end.
+/// What the end of all bytes ends, if a last line may lack its end.
 #[derive(Drop)]
 pub enum Last<'k> {
     /// The bytes end with a line feed, or there are none.

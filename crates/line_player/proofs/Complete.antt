@@ -1,4 +1,4 @@
--- Where nothing outside fails, and no line is refused, a play ends by itself.
+-- If nothing outside fails, and no line is refused, a play ends by itself.
 use Rattle.std.proofs.Common.{◌≡◌, ℕ, ◌+◌, ◌≤◌, ◌<◌, ◌⊎◌, ◌||◌, inl, inr, Bool, true, false, List, [], ◌∷◌, ◌++◌, length, map, fold, cond, nat_lt, ltb-true, Option, Some, None, if◌then◌else◌, refl, sym, ◌∙◌, ap, append_assoc, length-append, arith}
 use Rattle.std.proofs.lemmas.List.{map-append}
 use Rattle.std.proofs.lemmas.List.Folds.{list_any-append}

@@ -15,7 +15,7 @@ use Rattle.line_player.proofs.Courses.{course_on, more_than, next_line, not_more
 refused_is : (refused : Option ℕ) (number : ℕ) → refused ≡ Some number → refused ≢ None
 refused_is refused number is none = absurd (cc)
 
--- where no line is refused, what was written is what the ended lines write
+-- if no line is refused, what was written is what the ended lines write
 pub written_is : {X : Type 0} (rules : Rules X) (bytes : List ℕ) (cutter : LineCutterView) (count : ℕ) (stands : X → Type 0) → IsAt rules bytes cutter count stands
     → written_so_far rules bytes ≡ (ended_course rules bytes).written
 written_is rules bytes cutter count stands at =
@@ -64,7 +64,7 @@ whole_on rules bytes some =
     ap (λ l. course_of rules (ended_texts rules bytes ++ l)) (last_some (open_line bytes) some)
     ∙ course_on rules (ended_texts rules bytes) (open_line bytes ∷ [])
 
--- a text is run where it is not too long
+-- a text is run if it is not too long
 effect_is : {X : Type 0} (rules : Rules X) (state : X) (text : List ℕ) → length text ≤ most rules.limit → effect_within rules state text ≡ rules.effect state text
 unfolding effect_within
 effect_is rules state text within = ap (λ b. cond b None (rules.effect state text)) (not_more (most rules.limit) (length text) within)

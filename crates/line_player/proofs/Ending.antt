@@ -32,7 +32,7 @@ part_more (Ok Last) left ends ends' due due' due'' so_far step =
     next ∙ ap (λ d. d ++ so_far.1) so_far.4 ∙ append_assoc due so_far.0 so_far.1 ∙ ap (λ l. due ++ l) (sym so_far.2)
 part_more (Err fault) left ends ends' due due' due'' so_far step = tt
 
--- what is due and what is left, where a part of it becomes due
+-- what is due and what is left, if a part of it becomes due
 still_left : (left : List ℕ) (ends : List ℕ → Type 0) (due due' : List ℕ) (part : EndPart (Ok More) left ends due due') → due ++ left ≡ due' ++ part.1
 still_left left ends due due' part =
     ap (λ l. due ++ l) part.2 ∙ sym (append_assoc due part.0 part.1) ∙ ap (λ d. d ++ part.1) (sym part.4)

@@ -147,7 +147,7 @@ output_grows rules bytes cutter count stands at =
     (grows rules (ended_course rules bytes) (last_lines (open_line bytes))))
     (end_grows rules c c.refused))
 
--- a part of what is due, where all before it was written
+-- a part of what is due, if all before it was written
 part_due : (before all : List ℕ) (sink sink' sink'' : Option (List ℕ)) → Goes (Appends before) sink sink' → Written AppendsPart before all sink' sink'' → Goes (AppendsPart all) sink sink''
 part_due before all sink sink' sink'' wrote w = subst (λ d. Goes (AppendsPart d) sink sink'') (sym w.is) (part_on before w.more sink sink' sink'' wrote w.wrote)
 

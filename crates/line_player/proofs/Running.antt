@@ -90,7 +90,7 @@ line_made rules other bytes piece rest text cutter cutter' count stands stands' 
           ∙ append_assoc (ended_course rules bytes).written u.more t.0.written;
     }
 
--- where the next line is refused
+-- if the next line is refused
 refused_there : {X : Type 0} (rules : Rules X) (bytes piece rest : List ℕ) (cutter : LineCutterView) (count : ℕ) (stands stands' : X → Type 0) (out out' out'' : List ℕ) (cutter' : LineCutterView)
     → (u : UnderWay rules bytes piece rest cutter count stands out out')
     → course_so_far rules (bytes ++ piece) ≡ gone_on (ended_course rules (bytes ++ u.used)) None
@@ -167,7 +167,7 @@ too_long rules bytes piece rest cutter cutter' count stands out out' n u steps =
     (ap (course_so_far rules) (whole_is rules bytes piece rest cutter count stands out out' n u) ∙ long_refused rules b rest n u.at.none g)
     refl
 
--- the open line is not too long where the rest brought nothing, or too little
+-- the open line is not too long if the rest brought nothing, or too little
 still_short : (limit : Limit) (bytes rest : List ℕ) → is_too_long limit (open_line bytes) ≡ false → GivesNone limit bytes rest
     → is_too_long limit (open_line (bytes ++ rest)) ≡ false
 still_short limit bytes [] short g = ap (λ b. is_too_long limit (open_line b)) (append-nil bytes) ∙ short

@@ -62,13 +62,13 @@ RunsLast (Ok Refused) rules bytes count stands out out' =
     ((whole_course rules bytes).refused ≡ Some (count + 1)) × (out' ≡ out) × ((whole_course rules bytes).written ≡ (ended_course rules bytes).written)
 RunsLast (Err _) rules bytes count stands out out' = Unit {0}
 
--- the buffer holds what is due behind this, where a line is refused or none
+-- the buffer holds what is due behind this, if a line is refused or none
 abbrev pub IsDue : Result LineStep NoMemory → Option ℕ → List ℕ → List ℕ → List ℕ → Type 0
 IsDue (Ok Made) refused before due out = (refused ≡ None) × (due ≡ before ++ out)
 IsDue (Ok Refused) refused before due out = (refused ≢ None) × (due ≡ before ++ out)
 IsDue (Err _) refused before due out = Unit {0}
 
--- the same at the text's end, where what the end writes is still left if no line is refused
+-- the same at the text's end; if no line is refused, what the end writes is still left
 abbrev pub IsDueAtEnd : Result LineStep NoMemory → Option ℕ → List ℕ → List ℕ → (List ℕ → Type 0) → List ℕ → Type 0
 IsDueAtEnd (Ok Made) refused before due ends out = (refused ≡ None) × ((left : List ℕ) × ends left × (due ≡ before ++ (out ++ left)))
 IsDueAtEnd (Ok Refused) refused before due ends out = (refused ≢ None) × (due ≡ before ++ out)

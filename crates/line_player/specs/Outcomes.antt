@@ -1,4 +1,4 @@
--- How a play ends, its exit status, and what must have happened outside where it ends so.
+-- How a play ends, its exit status, and what must have happened outside if it ends so.
 use Rattle.std.specs.Prelude.{ℕ}
 use Rattle.gps_outside.specs.Counts.{Rose, RoseBy}
 use Rattle.line_player.specs.declared.outcome.PlayOutcome.{PlayOutcome}

@@ -7,7 +7,7 @@ use Rattle.line_player.specs.declared.outcome.PlayOutcome.TheVariants.{Done, Rea
 use Rattle.line_player.specs.Rules.{Rules}
 use Rattle.line_player.specs.Courses.{course_so_far, output_of, whole_course, written_so_far}
 
--- Where a play breaks off in mid-source, all bytes that it took were read: no more than it may take, or as many where more came.
+-- If a play breaks off in mid-source, all bytes that it took were read: no more than it may take, or as many if more came.
 abbrev pub HasReadSoFar : ℕ → List ℕ → Option Stream → Option Stream → Type 0
 HasReadSoFar most bytes before after =
     ((length bytes ≤ most) × Goes (Passes bytes) before after) ⊎ ((length bytes ≡ most) × Goes (PassesMore bytes) before after)
@@ -32,7 +32,7 @@ Refuses rules most bytes source source' sink sink' =
     ⊎ (HasReadAll most bytes source source' × ((whole_course rules bytes).refused ≢ None) × Goes (Appends (output_of rules bytes)) sink sink')
 
 -- Which bytes were read, and what was written: all that was left, and the whole output; those before a fault, after which the rest may be lost,
--- those before a thousand quiets, or as many as may be taken where more came, and what their lines write; those up to a refused line; or
+-- those before a thousand quiets, or as many as may be taken if more came, and what their lines write; those up to a refused line; or
 -- those before the play broke off, and a part of what was due.
 abbrev pub Ends : {X : Type 0} → PlayOutcome → Rules X → ℕ → List ℕ → Option Stream → Option Stream → Option (List ℕ) → Option (List ℕ) → Type 0
 Ends Done rules most bytes source source' sink sink' =

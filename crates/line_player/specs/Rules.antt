@@ -17,7 +17,7 @@ pub record Rules (X : Type 0) : Type 0 where
   pub effect : X → List ℕ → Option (Effect X)
   pub end_writes : X → List ℕ
 
--- what of a line is run: it has no line end where the limit does not count that
+-- what of a line is run: it has no line end if the limit does not count that
 abbrev pub text_in : Limit → List ℕ → List ℕ
 text_in (Text n) line = text_of line
 text_in (Whole n) line = line

@@ -199,7 +199,7 @@ fn read_through<S: Source, K: Sink, P: PlaysLines>(
 /// refused line N is written as `bad line N`, behind what those before it write. What the end writes is written part by
 /// part, so no more than one part of it stands in memory.
 ///
-/// Where neither the source nor the sink fails, fewer than a thousand reads bring nothing, and the source tells that no
+/// If neither the source nor the sink fails, fewer than a thousand reads bring nothing, and the source tells that no
 /// more than `most` bytes are left and that none of their lines is refused, all is read and written, unless memory is
 /// wanted.
 pub fn play<S: Source, K: Sink, P: PlaysLines>(

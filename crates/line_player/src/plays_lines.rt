@@ -34,7 +34,7 @@ pub trait PlaysLines: Drop {
     /// That the lines so far have made this state.
     ghost stands: { Self → State → Type 0 };
 
-    /// Runs a line, without its line end where the limit does not count that, and adds what it writes to `out`. After
+    /// Runs a line, without its line end if the limit does not count that, and adds what it writes to `out`. After
     /// `NoMemory` the player is of no use, and whatever was added is no part of the output.
     fn line(&mut self, text: &[u8], out: &mut Bytes) -> Result<LineStep, NoMemory>
         requires known { (state : State) × stands self.old state }

@@ -137,7 +137,7 @@ joined_begins : (fields : List (List ℕ)) → Begins (joined fields)
 joined_begins [] = tt
 joined_begins (text ∷ fields) = refl
 
--- of a field and others, none of them has a comma where none has
+-- of a field and others, none of them has a comma if none has
 record ArePlain (text : List ℕ) (fields : List (List ℕ)) : Type 0 where
   head : has_comma text ≡ false
   tail : list_any has_comma fields ≡ false

@@ -82,7 +82,7 @@ ids_all n rest ids all behind_all done so = (
   skipped_all n rest behind_all done so.skips,
 )
 
--- where a field that is still to be read is readable, all ids are one at least
+-- if a field that is still to be read is readable, all ids are one at least
 some_length : (n : ℕ) (rest ids all : List ℕ) → 0 < n → 0 < length (option_to_list (id_of (field rest))) → ids ++ ids_in n rest ≡ all → 0 < length all
 unfolding ids_in
 some_length zero rest ids all some readable is = absurd (omega (arith, some))

@@ -30,7 +30,7 @@ abbrev pub signal_in : List ℕ → Option ℕ
 signal_in (c ∷ []) = hex_value c
 signal_in _ = None
 
--- it is there where exactly one field is left behind the whole groups
+-- it is there if exactly one field is left behind the whole groups
 unfoldable pub signal_of : List ℕ → Option ℕ
 signal_of text = if field_count text % 4 == 1 then signal_in (field (skipped (field_count text / 4 * 4) text)) else None
 

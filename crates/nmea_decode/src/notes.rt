@@ -277,7 +277,7 @@ fn body(sentence: &[u8]) -> &[u8]
 /// read in the same way. The tables of fields are those of NMEA 0183. Every note keeps the ranges that the grouping into epochs asks for.
 ///
 /// Takes memory only for a GSA with at least one readable id and for a GSV with at least one whole group of four fields: `NoMemory` comes
-/// where there is none for these, and for no other sentence.
+/// if there is none for these, and for no other sentence.
 #[inline(always)]
 #[tactic(auto, unfolding(crate::specs::Notes::sentence_note))]
 pub fn note_of(alloc: Global, sentence: &[u8]) -> Result<Note, NoMemory>

@@ -69,7 +69,7 @@ fn longitude(text: &[u8], letter: &[u8]) -> Option<i64>
     signed(side(letter, b"E", b"W"), angle)
 }
 
-/// A position, where both of its halves are readable.
+/// A position, if both of its halves are readable.
 #[tactic(auto, unfolding(crate::specs::Places::position_of))]
 pub(crate) fn position(lat: &[u8], north: &[u8], lon: &[u8], east: &[u8]) -> Option<Position>
     ensures { result ≡ position_of lat.now north.now lon.now east.now }

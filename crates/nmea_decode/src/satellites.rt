@@ -13,7 +13,7 @@ use std::alloc::Global;
 /// How many ids a GSA has room for.
 const MOST_IDS: usize = 12;
 
-/// The satellite of a group of four fields, where its id is readable, and the text behind the group.
+/// The satellite of a group of four fields, if its id is readable, and the text behind the group.
 #[tactic(auto, unfolding(crate::specs::Satellites::satellite_of))]
 fn satellite(text: &[u8], system: Option<u8>, signal: Option<u8>) -> (Option<Satellite>, &[u8])
     ensures satellite { result.0 ≡ satellite_of system signal text.now }

@@ -128,7 +128,7 @@ starts_whole p more are right =
     ∙ tail_whole p.body p.high p.low p.has_return more right fits
     ∙ ap Whole (sym (length-spelling p)))
 
--- `Whole n` comes only where the first n bytes are a sentence
+-- `Whole n` comes only if the first n bytes are a sentence
 pub whole_forth : (bytes : List ℕ) (n : ℕ) → shape_of bytes ≡ Whole n → (n ≤ length bytes) × IsSentence (take n bytes)
 whole_forth bytes n e =
     let s : Starts bytes n = whole_starts bytes n e in

@@ -20,8 +20,8 @@ const LONGEST_BODY: usize = 123;
 
 /// The sentence that a list of bytes begins with.
 ///
-/// `Whole(n)` comes exactly where the first n bytes are a sentence with a right checksum, `Pending`
-/// exactly where the whole list is a proper prefix of some sentence, whatever its checksum, and `No`
+/// `Whole(n)` comes exactly if the first n bytes are a sentence with a right checksum, `Pending`
+/// exactly if the whole list is a proper prefix of some sentence, whatever its checksum, and `No`
 /// in all other cases. Source: NMEA 0183.
 pub fn sentence_at(bytes: &[u8]) -> Shape
     ensures shape { result ≡ shape_of bytes.now }

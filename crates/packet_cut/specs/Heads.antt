@@ -1,4 +1,4 @@
--- What a list of bytes begins with, where sentences of NMEA 0183 and frames of the u-blox protocol come mixed
+-- What a list of bytes begins with, if sentences of NMEA 0183 and frames of the u-blox protocol come mixed
 -- (this project's own rule, after gpsd's). The shapes are those of the crates nmea_frame and ubx_frame.
 use Rattle.std.specs.Prelude.{ℕ, List}
 use Rattle.nmea_frame.specs.declared.sentence.Shape.{Shape as SentenceShape}

@@ -32,7 +32,7 @@ pub record IsCut (kept : List Stamped) (at : Moment) (piece : List ℕ) (packets
   pub rest_is : applied shift kept ≡ rest_of (kept ++ stamped at piece)
   pub fits : Fits shift kept
 
--- the stamp of the byte at a place, where the kept bytes have their own and all further ones that of their piece
+-- the stamp of the byte at a place, if the kept bytes have their own and all further ones that of their piece
 abbrev pub stamp_in : List Stamped → Moment → ℕ → Moment
 stamp_in kept at place = stamp_or (slice_get kept place) at
 

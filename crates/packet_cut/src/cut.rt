@@ -103,7 +103,7 @@ pub(crate) fn place_behind(
     }
 }
 
-/// The cut where nothing was kept.
+/// The cut if nothing was kept.
 fn place_piece(alloc: Global, at: Stamp, piece: &[u8]) -> Result<PlacedCut, NoMemory>
     ensures { IfOk result (λ cut. IsCut [] at piece.now (map (placed_packet cut.bytes.items) cut.placed.items) cut.change) }
 {
@@ -117,7 +117,7 @@ fn place_piece(alloc: Global, at: Stamp, piece: &[u8]) -> Result<PlacedCut, NoMe
     })
 }
 
-/// The cut where a frame still waits for more than the piece.
+/// The cut if a frame still waits for more than the piece.
 fn place_nothing(
     alloc: Global,
     kept: &[(Stamp, u8)],

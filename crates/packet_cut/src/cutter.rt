@@ -25,7 +25,7 @@ impl Model for Cutter {
 
     ghost view = { λ c. c.kept.items };
 
-    // Where bytes are kept there is room for all that may ever be pending.
+    // If bytes are kept, there is room for all that may ever be pending.
     ghost invariant = { λ c. (length c.kept.items ≤ 2055) × (0 < length c.kept.items → 2055 ≤ vec_capacity c.kept) };
 }
 

@@ -23,7 +23,7 @@ number_in text = cond (nat_lt 0 (length text) && nat_le (length text) 10 && list
 unfoldable pub nine_in : List ℕ → Option ℕ
 nine_in text = cond (nat_eq (length text) 9 && list_all is_digit text) (Some (digits_value 10 text)) None
 
--- the seconds, the nanoseconds and the sequence number, where all three are read
+-- the seconds, the nanoseconds and the sequence number, if all three are read
 abbrev pub captured : EdgeKind → Option ℕ → Option ℕ → Option ℕ → Option Edge
 captured kind (Some sec) (Some nsec) (Some seq) =
     cond (nat_le seq 4_294_967_295) (Some (record { kind = kind; seq = seq; at = record { sec = pos sec; nsec = nsec } })) None

@@ -106,7 +106,7 @@ impl Pulses {
     /// Takes the next edge of a device, with the device's last serial time before it, and gives the pulse: the whole second that
     /// the edge marks, beside the host's stamp of the edge.
     ///
-    /// There is a pulse exactly where the edge is an assert edge, the last assert edge before it has the sequence number before its
+    /// There is a pulse exactly if the edge is an assert edge, the last assert edge before it has the sequence number before its
     /// own (modulo 2^32) and came 990,000,000 to 1,010,000,000 ns earlier, and the serial time came less than 1,000,000,000 ns and
     /// not 0 ns before it. The second is that of the serial time, plus one.
     #[tactic(auto, using(crate::proofs::Pasts::takes_assert, crate::proofs::Pasts::passes_clear), unfolding(crate::specs::Pulse::pps_of))]

@@ -46,7 +46,7 @@ says note first = record {
   speed = or_none note.speed;
 }
 
--- a quantity of a fix, where the mode is one or another
+-- a quantity of a fix, if the mode is one or another
 in_range : {X : Type 0} → (test : X → Bool) (mode : ℕ) (o : Option X) → where_given test o ≡ true → where_given test (in_fix mode o) ≡ true
 in_range {X} test mode o h = by_mode (mode == 1)
   where

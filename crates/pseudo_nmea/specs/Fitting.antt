@@ -19,7 +19,7 @@ use Rattle.pseudo_nmea.specs.Sentences.{sentence, rmc_body, gga_body}
 abbrev pub alone : Note → Moment → List Dated
 alone note first = dated (record { note = note; first = first } ∷ [])
 
--- what is asked of the note of a NAV-PVT: a day not after 2079, at most a million knots, and a position where it says that there is a fix
+-- what is asked of the note of a NAV-PVT: a day not after 2079, at most a million knots, and a position if it says that there is a fix
 pub record IsSayable (note : Note) : Type 0 where
   pub day : where_given (λ day. nat_le (civil_of (unsigned_abs day)).year 2079) note.day ≡ true
   pub speed : where_given (λ v. int_le v (pos 514_444_444)) note.speed ≡ true

@@ -71,7 +71,7 @@ pub(crate) fn push_date(out: &mut Bytes, time: Option<Stamp>) -> Result<(), NoMe
     }
 }
 
-/// The position, where it lies on the earth.
+/// The position, if it lies on the earth.
 pub(crate) fn placed(position: Option<Position>) -> Option<Position>
     ensures { result ≡ placed position }
 {

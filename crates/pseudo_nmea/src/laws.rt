@@ -16,7 +16,7 @@ ghost use Rattle.nmea_frame.specs.Sentence.{IsSentence};
 ghost use Rattle.pseudo_nmea.specs.Sentences.{gga_body, rmc_body, sentence};
 ghost use Rattle.pseudo_nmea.specs.Fitting.{alone, is_coarse, is_dated, GivesBack, HasStamp, IsSayable, IsFitting};
 
-/// The fix of an epoch whose only note is that of a NAV-PVT fits the two sentences, where its day is not after 2079, its
+/// The fix of an epoch whose only note is that of a NAV-PVT fits the two sentences, if its day is not after 2079, its
 /// speed is at most a million knots, and it has a position wherever it says that there is a fix.
 pub fn fixes_of_frames_fit()
     ensures { (payload : List ℕ) (first : Moment) → list_all is_byte payload ≡ true → IsSayable (pvt_note payload)

@@ -1,4 +1,4 @@
--- No stamp of a report lies before 1970, where none of the device's stream does. So each sample of a unit is read back from its words.
+-- No stamp of a report lies before 1970, if none of the device's stream does. So each sample of a unit is read back from its words.
 use Rattle.std.proofs.Common.{◌≡◌, ℕ, zero, suc, ◌+◌, ◌-◌, ◌*◌, ◌/◌, Bool, true, false, cond, ◌&&◌, List, [], ◌∷◌, ◌++◌, length, map, take, drop, refl, sym, ap, subst, arith, Option, Some, None, IfSome, option_map, option_to_list}
 use Rattle.std.specs.Prelude.{ℤ, pos, ◌≤ℤ◌, negsuc, reverse, unsigned_abs, unwrap_or}
 use Rattle.std.specs.Int.{w64, cast_signed, cast_unsigned}

@@ -27,7 +27,7 @@ abbrev pub ended_by : MonStep → List Reading
 ended_by (Loaded word value) = []
 ended_by (Done reading) = reading ∷ []
 
--- the readings that a number of loads of these words ends, where the running reading has got these values
+-- the readings that a number of loads of these words ends, if the running reading has got these values
 unfoldable pub readings_in : ℕ → List ℕ → List ℕ → List Reading
 readings_in zero words reading = []
 readings_in (suc loads) words reading = ended_by (step_of words reading) ++ readings_in loads words (reading_after words reading)
@@ -78,7 +78,7 @@ taken_in (Taken pair) = pair ∷ []
 taken_in (NotReady count valid) = []
 taken_in (Clash before after) = []
 
--- what a reading takes, where it is one of this monitor
+-- what a reading takes, if it is one of this monitor
 abbrev pub taken_at : ℕ → EndedReading → List Numbered
 taken_at monitor r = cond (nat_eq r.monitor monitor) (taken_in r.reading) []
 

@@ -49,7 +49,7 @@ new_book names limit firsts b low new u within = λ free.
     subst (λ (first : ℕ). IsNew first (get_or b.units u free)) at (new_at given b.units new.units u free within) in
     stored.is_new (slice_index firsts u) (get_or b.units u free) (low u 0 some) is_new
 
--- a turn, where one is due
+-- a turn, if one is due
 turned_at : (turns : Bool) (units : List UnitView) (u first stores : ℕ) (samples : List Sample) → u < length units → ((free : UnitView) → IsStored first samples stores (get_or units u free))
     → (free : UnitView) → IsStored first samples stores (get_or (units_turned_if turns units) u free)
 turned_at true units u first stores samples within is free =

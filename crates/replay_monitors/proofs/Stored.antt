@@ -140,7 +140,7 @@ storing (ToBody place) stores busy begun turn = omega arith
 storing ToEven stores busy begun turn = omega arith
 storing ToValid stores busy begun turn = omega arith
 
--- a test of several, where one decides
+-- a test of several, if one decides
 spoiled : (b : Bool) → (b && false) ≡ false
 spoiled true = refl
 spoiled false = refl
@@ -267,7 +267,7 @@ module _ (first stores : ℕ) (samples : List Sample) (u : UnitView) (is : IsSto
       length-drop (published_after u.publisher.stores) (all_of u) ∙ (λ i. length (is.samples_are i) - published_after (is.stores_are i)) in
       λ i. record { published = published_after (is.stores_are i); count = count_after (is.first_is i) (is.stores_are i); left = left i }
 
-  -- no store is made between two samples where none is to come, or count is at its greatest
+  -- no store is made between two samples if none is to come, or count is at its greatest
   none_made : (whole more full : Bool) → (stores % 13 == 0) ≡ whole → nat_lt (published_after stores) (length samples) ≡ more → (count_after first stores == 2_147_483_646) ≡ full
       → makes_store first samples stores ≡ false → (stores % 13 ≡ 0) × ((length samples ≤ published_after stores) ⊎ (count_after first stores ≡ 2_147_483_646))
   none_made false more full a b c made = absurd (let some = by_tests first stores samples false more full a b c in cc)

@@ -14,7 +14,7 @@ next_word reading = slice_index reading_words (length reading)
 abbrev pub next_value : List ℕ → List ℕ → ℕ
 next_value words reading = slice_index words (next_word reading)
 
--- the values of the reading with one more, where the words are these
+-- the values of the reading with one more, if the words are these
 abbrev pub with_next : List ℕ → List ℕ → List ℕ
 with_next words reading = reading ++ next_value words reading ∷ []
 
@@ -22,7 +22,7 @@ with_next words reading = reading ++ next_value words reading ∷ []
 abbrev pub is_whole : List ℕ → Bool
 is_whole values = (length values == 2 && slice_index values 1 == 0) || length values == 12
 
--- a sample is taken where the count is as before: its number is half of the count, and it is made of the nine words between
+-- a sample is taken if the count is as before: its number is half of the count, and it is made of the nine words between
 abbrev pub compared : List ℕ → ℕ → ℕ → Reading
 compared body before after =
     if before == after then Taken (record { number = before / 2; sample = sample_of body }) else Clash before after
@@ -33,11 +33,11 @@ end_of values =
     if length values == 2 then NotReady (slice_index values 0) (slice_index values 1)
     else compared (take 9 (drop 2 values)) (slice_index values 0) (slice_index values 11)
 
--- what the next load of this reading answers, where the words are these
+-- what the next load of this reading answers, if the words are these
 unfoldable pub step_of : List ℕ → List ℕ → MonStep
 step_of words reading =
     if is_whole (with_next words reading) then Done (end_of (with_next words reading)) else Loaded (next_word reading) (next_value words reading)
 
--- what the reading has got then; the next load begins a new one where it has ended
+-- what the reading has got then; the next load begins a new one if it has ended
 unfoldable pub reading_after : List ℕ → List ℕ → List ℕ
 reading_after words reading = if is_whole (with_next words reading) then [] else with_next words reading

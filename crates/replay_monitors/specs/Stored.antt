@@ -39,6 +39,6 @@ abbrev pub shown_state : ℕ → List Sample → ℕ → UnitState
 shown_state first samples stores =
     record { published = published_after stores; count = count_after first stores; left = length samples - published_after stores }
 
--- the number of stores where steps make no more: each sample has its thirteen, or the numbers have come to their end
+-- the number of stores if steps make no more: each sample has its thirteen, or the numbers have come to their end
 abbrev pub stores_at_end : ℕ → List Sample → ℕ
 stores_at_end first samples = 13 * min (length samples) (1_073_741_823 - first)

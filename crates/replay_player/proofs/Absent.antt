@@ -1,4 +1,4 @@
--- Where there is no such session, unit or monitor, the line is refused.
+-- If there is no such session, unit or monitor, the line is refused.
 use Rattle.std.proofs.Common.{◌≡◌, ◌≢◌, ℕ, false, ◌&&◌, ◌||◌, not, nat_lt, nat_eq, List, [], ◌∷◌, ◌++◌, length, slice_get, None, Ok, option_and_then, option_map, refl, sym, ap, ◌∙◌, subst, inl, inr, arith}
 use Rattle.std.proofs.lemmas.Bool.{ltb-false, ne_eqb}
 use Rattle.session_core.specs.declared.mark.Close.TheVariants.{HungUp}

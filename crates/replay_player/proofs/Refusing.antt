@@ -1,4 +1,4 @@
--- Where a call of the book is refused, the line is refused.
+-- If a call of the book is refused, the line is refused.
 use Rattle.std.proofs.Common.{◌≡◌, ◌<◌, ℕ, zero, suc, Bool, true, false, ◌||◌, ◌&&◌, not, nat_lt, List, [], ◌∷◌, ◌++◌, length, map, get_or, Option, Some, None, Result, Ok, Err, IsErr, OnOk, refl, sym, ap, ◌∙◌, subst, arith}
 use Rattle.std.proofs.lemmas.Bool.{ltb-true}
 use Rattle.gps_fixed.specs.declared.no_memory.NoMemory.{NoMemory}

@@ -83,7 +83,7 @@ long_same R [] (y ∷ ys) zip = absurd zip
 long_same R (x ∷ xs) [] zip = absurd zip
 long_same R (x ∷ xs) (y ∷ ys) zip = ap suc (long_same R xs ys zip.1)
 
--- it is closed where its run is
+-- it is closed if its run is
 pub closed_same : (names : List (List ℕ)) (before log : List Entry) (s : SessionView) (r : SessionRun) → IsRunOf names before log s r → is_some s.closing ≡ is_some r.closing
 closed_same names before log s r (inl here) = by s.closing ∙ ap is_some (sym here.closing)
   where

@@ -23,7 +23,7 @@ use Rattle.replay_player.specs.Clients.{Client, kept_of, items_of, lines_due, ov
 use Rattle.replay_player.specs.Playing.{Attends}
 use Rattle.replay_player.proofs.Dues.{closed_behind, takes_as_due}
 
--- a session is open exactly where its run is
+-- a session is open exactly if its run is
 
 open_from : (base : ℕ) (closing : Option (ℕ × Close)) → closed_from base closing ≡ None → closing ≡ None
 open_from base None is_open = refl

@@ -50,7 +50,7 @@ asked_by c = length c.run.stretches - 1
 abbrev pub opened : ℕ → List Entry → Client
 opened cap log = record { cap = cap; run = opened_run log; heard = []; taken = 0 }
 
--- where it is open it is closed, after this log
+-- if it is open it is closed, after this log
 abbrev pub closed : List Entry → Close → Client → Client
 closed log why c = record c { run = shut_run log why c.run.closing c.run }
 

@@ -25,7 +25,7 @@ pub record EventEffect : Type 0 where
 abbrev pub quietly : State → EventEffect
 quietly state = record { state = state; written = [] }
 
--- where it is not refused
+-- if it is not refused
 abbrev pub allowed : {X : Type 0} → Bool → X → Option X
 allowed ok x = cond ok (Some x) None
 
@@ -54,7 +54,7 @@ brings d entries state = allowed (nat_lt d (length state.names) && not (stops_in
 
 -- Sessions.
 
--- the next session, but where 64 live or 100,000 were opened
+-- the next session, but if 64 live or 100,000 were opened
 unfoldable pub opens : ℕ → ℕ → State → Option EventEffect
 opens s cap state =
     allowed (nat_eq s (length state.clients) && not (nat_eq (live_in state) most_live || nat_eq (length state.clients) most_opened))
@@ -141,7 +141,7 @@ loads m steps state =
     })
     (slice_get state.watches m)
 
--- What a line does; none where it is refused. An outlet keeps `queue` items where the line says no other number.
+-- What a line does; none if it is refused. An outlet keeps `queue` items if the line says no other number.
 abbrev pub effect : ℕ → State → ScriptEvent → Option EventEffect
 effect queue state Nothing = Some (quietly state)
 effect queue state (Device name) = declares name state

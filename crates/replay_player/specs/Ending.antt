@@ -99,7 +99,7 @@ IsUnitPublished u s state =
     (free : UnitView) → state_of (get_or s.book.units u free)
     ≡ shown_state (slice_index state.firsts u) (samples_at u state) (stores_at_end (slice_index state.firsts u) (samples_at u state))
 
--- a step of a unit; where it makes no store, the unit has come to its end
+-- a step of a unit; if it makes no store, the unit has come to its end
 pub record PublishesOne (u : ℕ) (more : Bool) (new : ReplayBookView) (state : State) : Type 0 where
   pub stands : StandsAlike new state
   pub last : more ≡ false → IsUnitPublished u new state

@@ -41,7 +41,7 @@ unfoldable pub all_drained : List (List ℕ) → List Entry → ℕ → List Cli
 all_drained names log s [] = []
 all_drained names log s (c ∷ more) = drained names log s c ++ all_drained names log (s + 1) more
 
--- what a unit shows where its publisher makes no more stores
+-- what a unit shows if its publisher makes no more stores
 abbrev pub published_text : ℕ → ℕ → List Sample → List ℕ
 published_text u first samples = unit_text u (shown_state first samples (stores_at_end first samples))
 

@@ -49,7 +49,7 @@ impl ReplayBook {
         Ok(())
     }
 
-    /// Where each device has stopped, the open sessions are closed.
+    /// If each device has stopped, the open sessions are closed.
     pub(crate) fn close_sessions(&mut self)
         ensures shut { (state : State) → BookStandsFor self.old state → HaveStopped state → BookStandsFor self.new (shut state) }
     {
@@ -82,7 +82,7 @@ impl ReplayBook {
         self.write_closing(s, out)
     }
 
-    /// A unit's publisher makes a store; false where it makes none.
+    /// A unit's publisher makes a store; false if it makes none.
     fn publish_one(&mut self, u: u8) -> bool
         requires { u < 2 * length self.old.book.names }
         ensures publishes { (state : State) → BookStandsFor self.old state → PublishesOne u result self.new state }

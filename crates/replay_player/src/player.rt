@@ -84,7 +84,7 @@ impl Player {
         Player::Declaring(Declarations::new(alloc, limit))
     }
 
-    /// Does what an event does, and adds what it writes; none where it may not come now. An outlet keeps `queue` items where the event
+    /// Does what an event does, and adds what it writes; none if it may not come now. An outlet keeps `queue` items if the event
     /// says no other number.
     pub fn play(
         self,
@@ -136,7 +136,7 @@ fn close_on(mut stage: ReplayBook, out: &mut Bytes) -> Result<(), NoMemory>
     stage.end_quietly(out)
 }
 
-/// Where no event came, on the stage of the declarations.
+/// The same if no event came, on the stage of the declarations.
 fn close_first(declarations: Declarations, out: &mut Bytes) -> Result<(), NoMemory>
     ensures { OnOk result (out.new ≡ out.old ++ closings_at_end (declared_state declarations.names declarations.firsts)) }
 {
@@ -144,7 +144,7 @@ fn close_first(declarations: Declarations, out: &mut Bytes) -> Result<(), NoMemo
     close_on(stage, out)
 }
 
-/// Where no event came, on the stage of the declarations.
+/// The same if no event came, on the stage of the declarations.
 fn end_first(declarations: Declarations) -> Result<ScriptEnd, NoMemory>
     ensures { IfOk result (λ end. Leaves end (written_at_end (declared_state declarations.names declarations.firsts))) }
 {

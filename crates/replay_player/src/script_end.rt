@@ -35,7 +35,7 @@ impl ScriptEnd {
     }
 
     /// Adds the items of the next session that are left, and its closing line; behind the last session the lines of all units, and then
-    /// nothing is left. False where nothing is left.
+    /// nothing is left. False if nothing is left.
     pub fn step(&mut self, out: &mut Bytes) -> Result<bool, NoMemory>
         requires known { (left : List ℕ) × Leaves self.old left }
         ensures adds { (left : List ℕ) → Leaves self.old left → EndAdds result left self.new out.old out.new }

@@ -36,7 +36,7 @@ impl ReplayBook {
         event_step_of_admission(self.book.admit(outlet))
     }
 
-    /// The same over an outlet that keeps `queue` items where no number is given.
+    /// The same over an outlet that keeps `queue` items if no number is given.
     pub(crate) fn open_with(
         &mut self,
         s: u64,
@@ -77,7 +77,7 @@ impl ReplayBook {
         event_step_of(self.book.hang_up(s as u32, Close::HungUp))
     }
 
-    /// Takes the first of the items that a session's outlet keeps, and writes its line; false where it keeps none.
+    /// Takes the first of the items that a session's outlet keeps, and writes its line; false if it keeps none.
     fn take_one(&mut self, s: u32, out: &mut Bytes) -> Result<bool, NoMemory>
         requires { s < length self.old.book.sessions }
         ensures takes { (state : State) (c : Client) → BookStandsFor self.old state → slice_get state.clients s ≡ Some c

@@ -78,7 +78,7 @@ event_in (c ∷ line) =
 abbrev pub IsPiece : List ℕ → Type 0
 IsPiece bytes = (1 ≤ length bytes) × (length bytes ≤ 512)
 
--- 1 to 65,536 items, where a number is given
+-- 1 to 65,536 items, if a number is given
 abbrev pub IsCap : Option ℕ → Type 0
 IsCap None = Unit {0}
 IsCap (Some cap) = (1 ≤ cap) × (cap ≤ 65_536)

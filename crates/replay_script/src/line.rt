@@ -87,7 +87,7 @@ fn monitor(text: &[u8]) -> Option<ScriptEvent>
     Some(ScriptEvent::Monitor { monitor, unit })
 }
 
-/// The event of a word that brings a name or bytes; none where it is another word.
+/// The event of a word that brings a name or bytes; none if it is another word.
 #[tactic(auto, unfolding(crate::specs::Events::bytes_event))]
 fn bytes_event(
     alloc: Global,
@@ -160,7 +160,7 @@ fn word_event(alloc: Global, word: &[u8], rest: &[u8]) -> Result<Option<ScriptEv
     }
 }
 
-/// The event of a line, without its line end. None exactly where the line is none that a script may have: an empty line or
+/// The event of a line, without its line end. None exactly if the line is none that a script may have: an empty line or
 /// one that begins with `#`, or a word, one space and what the word brings, by the table of [`ScriptEvent`]. Memory is taken for
 /// a name and for bytes alone.
 #[tactic(auto, unfolding(crate::specs::Events::event_in))]

@@ -45,7 +45,7 @@ use Rattle.report_book.proofs.Turning.{book_turned_if}
 use Rattle.report_book.specs.Knowing.{known_in, shown_in}
 use Rattle.book_sessions.proofs.Answered.{heard, heard_on}
 
--- entries came, behind a turn where one was due
+-- entries came, behind a turn if one was due
 pub record Moved (exact turns : Bool) (old new : BookView) (entries : List Entry) (reports : List Report) : Type 0 where
   pub holds : BookHolds new
   pub adds : BookAdds exact (turned_if turns old) new entries reports

@@ -50,7 +50,7 @@ read_stamps n log known firsts last fixes skies =
     by_last ∙ ap (λ (f : List Report). record { firsts = stamps; last = last_stamp log; fixes = f; skies = known.skies }) fixes in
     by_fixes ∙ ap (λ (s : List Report). record { firsts = stamps; last = last_stamp log; fixes = []; skies = s }) skies
 
--- where no request polls, the answers are those by all that is known
+-- if no request polls, the answers are those by all that is known
 pub shown_answers : (polls : Bool) (count : ℕ) (log : List Entry) (names : List (List ℕ)) (policy : Policy) (requests : List RawCommand) → (polls ≡ false → list_any is_poll requests ≡ false)
     → answered (shown_in polls count log) names policy requests ≡ answered (known_in count log) names policy requests
 shown_answers true count log names policy requests none = refl

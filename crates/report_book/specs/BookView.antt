@@ -17,7 +17,7 @@ renewed_if turns sessions = cond turns (map renewed sessions) sessions
 abbrev pub units_turned_if : Bool → List UnitView → List UnitView
 units_turned_if turns units = cond turns (map turned_unit units) units
 
--- where a new generation begins, the old log is forgotten, each session goes on from place 0, and each unit carries what it has not published
+-- if a new generation begins, the old log is forgotten, each session goes on from place 0, and each unit carries what it has not published
 abbrev pub turned_if : Bool → BookView → BookView
 turned_if turns b = record {
   names = b.names;

@@ -14,7 +14,7 @@ use Rattle.book_log.specs.Readings.{last_fix, last_sky, last_stamp}
 use Rattle.book_replies.specs.Polling.{without_reports}
 use Rattle.book_replies.specs.ReplyDataView.{ReplyDataView}
 
--- the last fix of device d, where it is active
+-- the last fix of device d, if it is active
 abbrev pub fix_reports : ℕ → Bool → Option Fix → List Report
 fix_reports d is_active fix = cond is_active (option_to_list (option_map (λ f. record { device = d; body = Tpv f }) fix)) []
 

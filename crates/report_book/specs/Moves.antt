@@ -36,7 +36,7 @@ pub record BookAdds (exact : Bool) (old new : BookView) (entries : List Entry) (
   pub sessions : AllZip (Spreads exact (line_for old.names) old.log.length reports) old.sessions new.sessions
   pub units : EachUnit (λ u. UnitGains (samples_of u reports)) old.units new.units
 
--- where a turn is due it comes first
+-- if a turn is due it comes first
 abbrev pub Moves : Bool → Bool → BookView → BookView → List Entry → Type 0
 Moves exact turns old new entries = (reports : List Report) × BookAdds exact (turned_if turns old) new entries reports
 

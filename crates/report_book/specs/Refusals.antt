@@ -6,7 +6,7 @@ use Rattle.report_book.specs.declared.fault.BookFault.{BookFault}
 use Rattle.report_book.specs.declared.fault.BookFault.TheVariants.{NoSuch, Ended, TooManySessions, NoMemory}
 use Rattle.report_book.specs.BookView.{BookView}
 
--- where there is no such thing, and else where it has stopped
+-- if there is no such thing, and else if it has stopped
 abbrev pub fault_of : Bool → Bool → Option BookFault
 fault_of exists stopped = cond exists (cond stopped (Some Ended) None) (Some NoSuch)
 
@@ -32,17 +32,17 @@ crowd_fault b =
     (Some (TooManySessions (live_in b.sessions) (length b.sessions)))
     None
 
--- refused by this fault, where there is one, and else only out of memory
+-- refused by this fault, if there is one, and else only out of memory
 abbrev pub RefusesAs : {X : Type 0} → Option BookFault → Result X BookFault → Type 0
 RefusesAs (Some fault) result = result ≡ Err fault
 RefusesAs None result = IfErr result (λ f. f ≡ NoMemory)
 
--- refused by this fault, where there is one, and else not at all
+-- refused by this fault, if there is one, and else not at all
 abbrev pub RefusesOnly : {X : Type 0} → Option BookFault → Result X BookFault → Type 0
 RefusesOnly (Some fault) result = result ≡ Err fault
 RefusesOnly None result = IsOk result
 
--- the same, where what was handed over comes back beside the fault
+-- the same, if what was handed over comes back beside the fault
 abbrev pub RefusesWith : {X O : Type 0} → Option BookFault → Result X (O × BookFault) → Type 0
 RefusesWith (Some fault) result = (outlet : _) × (result ≡ Err (outlet, fault))
 RefusesWith None result = IfErr result (λ refusal. refusal.1 ≡ NoMemory)

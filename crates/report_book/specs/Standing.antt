@@ -15,7 +15,7 @@ use Rattle.session_core.specs.SessionView.{SessionView}
 use Rattle.session_core.specs.Stretches.{Stretch}
 use Rattle.report_book.specs.BookView.{BookView}
 
--- the history of this generation, where its opening stands for the log before
+-- the history of this generation, if its opening stands for the log before
 abbrev pub history_of : BookView → List Entry → List Report
 history_of b before = history_after before b.log.log
 

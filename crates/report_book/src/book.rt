@@ -63,7 +63,7 @@ impl<O: Outlet> Model for Book<O> {
 }
 
 impl<O: Outlet> Book<O> {
-    /// A book of devices with these names, whose generations hold at most `limit` symbols, or those of one call where that is more. The
+    /// A book of devices with these names, whose generations hold at most `limit` symbols, or those of one call if that is more. The
     /// samples of unit u are numbered from `firsts[u] + 1` on.
     pub fn new(
         alloc: Global,
@@ -135,7 +135,7 @@ impl<O: Outlet> Book<O> {
 
     /// Gives a device its next piece of bytes, which came at this stamp. Its first piece is announced before its packets.
     ///
-    /// A new generation begins first exactly where the log holds a symbol and would come to more than the limit.
+    /// A new generation begins first exactly if the log holds a symbol and would come to more than the limit.
     pub fn feed(&mut self, d: u8, at: Stamp, bytes: &[u8]) -> Result<(), BookFault>
         requires some { 1 ≤ length bytes.now }
         requires piece { length bytes.now ≤ 512 }
@@ -197,7 +197,7 @@ impl<O: Outlet> Book<O> {
         Ok(())
     }
 
-    /// Opens the next session, whose first item is the VERSION line. Where it is refused, the outlet comes back.
+    /// Opens the next session, whose first item is the VERSION line. If it is refused, the outlet comes back.
     pub fn admit(&mut self, outlet: O) -> Result<u32, (O, BookFault)>
         requires empty { O.kept outlet ≡ [] }
         requires cap { 1 ≤ O.cap outlet }
@@ -251,7 +251,7 @@ impl<O: Outlet> Book<O> {
         Ok(())
     }
 
-    /// Begins a unit's first waiting sample where none is being stored, and makes one store, or none. Takes no memory.
+    /// Begins a unit's first waiting sample if none is being stored, and makes one store, or none. Takes no memory.
     pub fn publish_step(&mut self, u: u8) -> Result<UnitStep, BookFault>
         ensures publishes { IfOk result (λ step. PublishesAt u step self.old self.new) }
         ensures refusal { RefusesOnly (missing_unit self.old u) result }
@@ -347,14 +347,14 @@ impl<O: Outlet> Book<O> {
         self.roster.watched()
     }
 
-    /// The number of items put to a session; none exactly where there is no such session.
+    /// The number of items put to a session; none exactly if there is no such session.
     pub fn items(&self, s: u32) -> Option<u64>
         ensures { result ≡ option_map (λ a. a.session.items) (slice_get self.now.sessions s) }
     {
         self.roster.items(s)
     }
 
-    /// The place of this generation's history at which a session was closed, and why; none exactly where it does not exist or is not
+    /// The place of this generation's history at which a session was closed, and why; none exactly if it does not exist or is not
     /// closed.
     pub fn closing(&self, s: u32) -> Option<(u64, Close)>
         ensures { result ≡ option_and_then (λ a. a.session.closing) (slice_get self.now.sessions s) }
@@ -362,7 +362,7 @@ impl<O: Outlet> Book<O> {
         self.roster.closing(s)
     }
 
-    /// How many samples a unit has published in this run, its word count, and how many are left; none exactly where there is no such unit.
+    /// How many samples a unit has published in this run, its word count, and how many are left; none exactly if there is no such unit.
     pub fn unit(&self, u: u8) -> Option<UnitState>
         ensures { result ≡ option_map state_of (slice_get self.now.units u) }
     {
@@ -385,7 +385,7 @@ impl<O: Outlet> Book<O> {
 }
 
 impl Book<PlainOutlet> {
-    /// The item that was put first of those that a session's outlet holds; none exactly where it holds nothing. Takes no memory.
+    /// The item that was put first of those that a session's outlet holds; none exactly if it holds nothing. Takes no memory.
     pub fn take(&mut self, s: u32) -> Result<Option<Item>, BookFault>
         ensures item { IfOk result (λ item. (free : MemberView) → item ≡ slice_get (get_or self.old.sessions s free).session.kept 0) }
         ensures takes { OnOk result (TakesFirst s self.old self.new) }
@@ -401,7 +401,7 @@ impl Book<PlainOutlet> {
 
 impl<O: TwoEnded> Book<O> {
     /// Takes one item at the far end of a session's outlet and hands it on: what the far end has got begins what the outlet keeps, and is
-    /// all of it where there was none. Takes no memory.
+    /// all of it if there was none. Takes no memory.
     pub fn settle(&mut self, s: u32, far: &mut O::Far) -> Result<Option<Item>, BookFault>
         requires { s < length self.old.sessions → (free : MemberView) → O.belongs (O.far_name far.old) (get_or self.old.sessions s free).session.name }
         ensures got { IfOk result (λ item. O.got far.new ≡ O.got far.old ++ option_to_list item) }

@@ -1,7 +1,7 @@
 use book_sessions::AdmitFault;
 use gps_fixed::NoMemory;
 
-/// Why a book refuses a call. Where several hold, the first of these.
+/// Why a book refuses a call. If several hold, the first of these.
 #[derive(Clone, Copy, Debug, PartialEq, Eq)]
 pub enum BookFault {
     /// There is no such device, session or unit.

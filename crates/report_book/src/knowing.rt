@@ -50,7 +50,7 @@ fn push_sky(
     Ok(())
 }
 
-/// Of each device the stamp of its first byte, where it is active.
+/// Of each device the stamp of its first byte, if it is active.
 fn stamps(alloc: Global, log: &DeviceLog, names: &Names) -> Result<Vec<Option<Stamp>>, NoMemory>
     requires { length names.now ≡ length log.now.present.lines }
     ensures { IfOk result (λ firsts. (before : List Entry) → StandsFor log.now.opening before
@@ -98,7 +98,7 @@ fn all_known(alloc: Global, log: &DeviceLog, names: &Names) -> Result<ReplyData,
     Ok(ReplyData::of(firsts, log.last_stamp(), fixes, skies))
 }
 
-/// What replies show of the devices now, their last fixes and skies only where `polls` is true.
+/// What replies show of the devices now, their last fixes and skies only if `polls` is true.
 pub fn known(
     alloc: Global,
     log: &DeviceLog,

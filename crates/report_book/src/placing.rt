@@ -18,7 +18,7 @@ use book_units::Units;
 use gps_report::Names;
 use session_core::Outlet;
 
-/// Begins a new generation of the sessions and the units, where one is due. Takes no memory.
+/// Begins a new generation of the sessions and the units, if one is due. Takes no memory.
 fn turn_if<O: Outlet>(turns: bool, roster: &mut Roster<O>, units: &mut Units)
     ensures sessions { roster.new ≡ renewed_if turns roster.old }
     ensures turned { turns ≡ true → AllZip MemberTurns roster.old (map renewed roster.old) }
@@ -32,7 +32,7 @@ fn turn_if<O: Outlet>(turns: bool, roster: &mut Roster<O>, units: &mut Units)
     }
 }
 
-/// Puts in place what came: a new generation where one began, then the samples, then the lines. Takes no memory.
+/// Puts in place what came: a new generation if one began, then the samples, then the lines. Takes no memory.
 pub(crate) fn put<O: Outlet>(
     roster: &mut Roster<O>,
     units: &mut Units,

@@ -9,7 +9,7 @@ pub struct Plan {
     pub names: Names,
     /// Where the bytes of each device come from.
     pub inputs: Vec<Place>,
-    /// Where the edges of each device come from, where it has a place for them.
+    /// Where the edges of each device come from, if it has a place for them.
     pub edges: Vec<Option<Place>>,
     /// The address to listen to, HOST:PORT.
     pub listen: Bytes,

@@ -21,7 +21,7 @@ const UNITS: u8 = 16;
 #[derive(Drop)]
 pub struct Served<W: World, R: Wait + Copy> {
     pub status: u8,
-    /// None where nothing was served: something could not be opened, it was out of memory before the threads had begun, or there was no
+    /// None if nothing was served: something could not be opened, it was out of memory before the threads had begun, or there was no
     /// thread for the door or the publisher.
     pub book: Option<Book<Tx<Item, R>>>,
     pub devices: Vec<DeviceDone<W::In, R>>,
@@ -125,7 +125,7 @@ fn lines_of<S: Source, K: Sink, R: Wait + Copy>(
 
 impl<W: World, R: Wait + Copy> Served<W, R> {
     /// The lines that close a run: one for each session, one for each unit that had a sample, and for each monitor that took a sample the
-    /// line of its last one. Nothing where there is no book.
+    /// line of its last one. Nothing if there is no book.
     pub fn lines(&self, alloc: Global) -> Result<Bytes, NoMemory>
         ensures text { IfOk result (λ out. out ≡ text_of self.now.book self.now.sessions.items self.now.monitors.items) }
     {

@@ -19,7 +19,7 @@ abbrev pub SourceFailed : {S : Type 0} → (S → ℕ) → Option S → Type 0
 SourceFailed faults None = ⊥
 SourceFailed faults (Some source) = 0 < faults source
 
--- the source of a reader, where there is one
+-- the source of a reader, if there is one
 abbrev pub source_of : {S R : Type 0} → Option (ReaderDone S R) → Option S
 source_of {S} {R} reader = option_map (λ (r : ReaderDone S R). r.source) reader
 

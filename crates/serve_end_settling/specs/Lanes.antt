@@ -1,4 +1,4 @@
--- A lane that is settled once no thread works on it: one more piece is got, where it holds one.
+-- A lane that is settled once no thread works on it: one more piece is got, if it holds one.
 use Rattle.std.specs.Prelude.{◌≡◌, ◌⊎◌, List, [], ◌∷◌, ◌++◌, Option, Some, None, option_map, option_to_list}
 use Rattle.gps_fixed.specs.Moment.{Moment}
 use Rattle.gps_lane.specs.Ends.{Putting, Taking}
@@ -20,7 +20,7 @@ pub record TellsLast (put : List Piece) : Type 0 where
   pub puts : put ≡ pieces ++ last_piece ending
   pub untold : ending_of pieces ≡ None
 
--- nothing more was got, or one more piece, where the lane had not told how its source ended
+-- nothing more was got, or one more piece, if the lane had not told how its source ended
 abbrev pub OneMoreAtMost : Taking Piece → Taking Piece → Type 0
 OneMoreAtMost x y = (y.got ≡ x.got) ⊎ ((piece : Piece) × (y.got ≡ x.got ++ piece ∷ []) × (ending_of x.got ≡ None))
 
@@ -39,7 +39,7 @@ pub record OneMoreOfEach (x y : InletsView) : Type 0 where
 abbrev pub lanes : Taking Piece → Option (Taking Piece) → InletsView
 lanes bytes edges = record { bytes = bytes; edges = edges }
 
--- One more piece was got, or none. What was got begins what was put, and is all of it where there was none to get. Where the lane tells how
+-- One more piece was got, or none. What was got begins what was put, and is all of it if there was none to get. If the lane tells how
 -- its source ended by its last piece alone, none is got behind that.
 pub record Settles (tx : Putting Piece) (rx rx' : Taking Piece) : Type 0 where
   pub lane : rx'.lane ≡ rx.lane
@@ -49,7 +49,7 @@ pub record Settles (tx : Putting Piece) (rx rx' : Taking Piece) : Type 0 where
   pub all : rx'.got ≡ rx.got → rx'.got ≡ tx.put
   pub behind : TellsLast tx.put → OneMoreAtMost rx rx'
 
--- the end that a reader puts into, where there is a reader
+-- the end that a reader puts into, if there is a reader
 abbrev pub tx_of : {S R : Type 0} → Option (ReaderDone S R) → Option (Putting Piece)
 tx_of {S} {R} reader = option_map (λ (r : ReaderDone S R). r.pieces) reader
 
@@ -60,7 +60,7 @@ AreEnds None (Some rx) = ⊥
 AreEnds (Some tx) None = ⊥
 AreEnds (Some tx) (Some rx) = rx.lane ≡ tx.lane
 
--- the lane is settled, where there is one
+-- the lane is settled, if there is one
 abbrev pub SettlesSome : Option (Putting Piece) → Option (Taking Piece) → Option (Taking Piece) → Type 0
 SettlesSome None rx rx' = rx' ≡ rx
 SettlesSome (Some tx) None rx' = ⊥

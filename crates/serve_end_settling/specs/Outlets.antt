@@ -23,7 +23,7 @@ IsOutletOf s items book = (free : MemberView) → of_table items.lane ≡ (get_o
 abbrev pub given_to : ℕ → BookView → MemberView → List (List ℕ)
 given_to s book free = (get_or book.sessions s free).session.kept
 
--- The items that were got begin those that the outlet was given, and are all of them where the writer drained it.
+-- The items that were got begin those that the outlet was given, and are all of them if the writer drained it.
 pub record Empties (end : WriterEnd) (kept : List (List ℕ)) (rx rx' : Taking (List ℕ)) : Type 0 where
   pub lane : rx'.lane ≡ rx.lane
   pub begins : BeginsWith rx'.got kept

@@ -59,7 +59,7 @@ abbrev pub EdgeCause : {S R : Type 0} → (S → ℕ) → Option (ReaderDone S R
 EdgeCause faults None = Unit {0}
 EdgeCause faults (Some run) = run.ending ≡ Some Failed → 0 < faults run.source
 
--- a reader of the device failed only where the faults of its source are above 0
+-- a reader of the device failed only if the faults of its source are above 0
 pub record RunCause {S R : Type 0} (faults : S → ℕ) (run : DeviceRun S R) : Type 0 where
   pub bytes : run.bytes.ending ≡ Some Failed → 0 < faults run.bytes.source
   pub edges : EdgeCause faults run.edges

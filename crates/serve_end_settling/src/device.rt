@@ -52,7 +52,7 @@ pub fn device_failed<S: Source, R: Wait + Copy>(run: &DeviceRun<S, R>) -> bool
     }
 }
 
-/// What is left of a device's edges, where it has a source of them.
+/// What is left of a device's edges, if it has a source of them.
 #[derive(Drop)]
 struct EdgesDone<S: Source, R> {
     source: Option<S>,

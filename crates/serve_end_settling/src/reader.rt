@@ -15,7 +15,7 @@ pub(crate) struct SettledReader<S: Source, R> {
     pub(crate) rx: Rx<Piece, R>,
 }
 
-/// Gets the next piece of a lane on which no thread works, where there is one.
+/// Gets the next piece of a lane on which no thread works, if there is one.
 fn settle_lane<R: Wait + Copy>(tx: &mut Tx<Piece, R>, rx: &mut Rx<Piece, R>)
     requires { rx.old.lane ≡ tx.old.lane }
     ensures tx { tx.new ≡ tx.old }

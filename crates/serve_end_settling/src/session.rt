@@ -30,7 +30,7 @@ fn session_end(end: WriterEnd) -> SessionEnd
     }
 }
 
-/// Gets the next item of a session's outlet, where there is one.
+/// Gets the next item of a session's outlet, if there is one.
 #[tactic(auto, using(hub_promise::proofs::Settling::settles, hub_promise::proofs::Settling::far_end))]
 fn next_item<R: Wait + Copy>(
     book: &mut Book<Tx<Item, R>>,
@@ -50,7 +50,7 @@ fn next_item<R: Wait + Copy>(
     }
 }
 
-/// Writes an item; false where the sink failed.
+/// Writes an item; false if the sink failed.
 fn write_item<K: Sink>(sink: &mut K, item: Item) -> bool
     ensures bytes { WritesAll result item (K.written sink.old) (K.written sink.new) }
     ensures faults_stay { K.faults sink.old ≤ K.faults sink.new }
@@ -86,7 +86,7 @@ fn drain<K: Sink, R: Wait + Copy>(
     unreachable!()
 }
 
-/// Writes what a session's outlet still holds, where its writer wrote all that it got; else at most one more item is got, and not written.
+/// Writes what a session's outlet still holds, if its writer wrote all that it got; else at most one more item is got, and not written.
 fn settle_outlet<K: Sink, R: Wait + Copy>(
     rt: &R,
     book: &mut Book<Tx<Item, R>>,
@@ -117,7 +117,7 @@ fn settle_outlet<K: Sink, R: Wait + Copy>(
 }
 
 /// Puts together what is left of a session, and settles its two lanes. Of its input lane at most one more piece is got. What its outlet still
-/// holds is written, where its writer wrote all that it got.
+/// holds is written, if its writer wrote all that it got.
 pub fn session_done<S: Source, K: Sink, R: Wait + Copy>(
     rt: &R,
     book: &mut Book<Tx<Item, R>>,

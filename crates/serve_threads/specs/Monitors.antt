@@ -5,7 +5,7 @@ use Rattle.shm_segment.specs.Seats.{SegmentId}
 use Rattle.shm_monitor.specs.MonitorView.{MonitorView}
 use Rattle.serve_workers.specs.Watching.{Climbs, IsBeginning, each_once}
 
--- It kept the pairs that it took with a new number, and made all its readings where it says so.
+-- It kept the pairs that it took with a new number, and made all its readings if it says so.
 pub record MonitorRan (segment : SegmentId) (tries : ℕ) (whole : Bool) (monitor : MonitorView) (taken : List Numbered) : Type 0 where
   pub segment_is : monitor.segment ≡ segment
   pub first : IsBeginning taken (each_once monitor.taken)

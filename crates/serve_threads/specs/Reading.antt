@@ -12,7 +12,7 @@ use Rattle.serve_workers.specs.Readings.{HandsOn}
 abbrev pub counts : ℕ → ℕ → Tally
 counts faults quiets = record { faults = faults; quiets = quiets }
 
--- It put what it took into its lane, and failed only where the source's faults rose.
+-- It put what it took into its lane, and failed only if the source's faults rose.
 pub record Reads (part : Piece → List ℕ) (P : Piece → Type 0) (ending : Option Ending) (tx tx' : Putting Piece) (before after : Option Stream) (old new : Tally) : Type 0 where
   pub hands : HandsOn part P ending tx.put tx'.put before after
   pub lane : tx' ≡ record tx { put = tx'.put; is_open = tx'.is_open }

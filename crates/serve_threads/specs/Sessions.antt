@@ -12,7 +12,7 @@ use Rattle.serve_threads.specs.declared.session.SessionLink.{SessionLink}
 use Rattle.serve_threads.specs.declared.session.LinkDone.{LinkDone}
 use Rattle.serve_threads.specs.Reading.{Reads, counts}
 
--- the writer wrote what it got of its lane, and failed only where the sink's faults rose
+-- the writer wrote what it got of its lane, and failed only if the sink's faults rose
 pub record Wrote (end : WriterEnd) (rx rx' : Taking (List ℕ)) (before after : Option (List ℕ)) (faults faults' : ℕ) : Type 0 where
   pub writes : Writes end rx.got rx'.got before after
   pub lane : rx' ≡ record rx { got = rx'.got }

@@ -26,7 +26,7 @@ pub struct Bells {
     pub publisher: Bell,
     pub devices: Vec<DeviceBells>,
     pub monitors: Vec<Bell>,
-    // Where a number has no bell; no thread sleeps on it.
+    // Stands in place of the bells of a device that has none; no thread sleeps on it.
     spare: DeviceBells,
 }
 
@@ -148,7 +148,7 @@ impl SessionBells {
         }
     }
 
-    /// The writer has ended. Where nothing more will come, the reader ends too.
+    /// The writer has ended. If nothing more will come, the reader ends too.
     pub fn end_writing(&self) {
         self.written.store(true, Ordering::SeqCst);
         if self.writer.is_closed() {

@@ -16,7 +16,7 @@ use std::snapshot::Snapshot;
 use std::sync::{Mutex, Wait};
 use std::thread::{Promise, Scope};
 
-/// What a reader hands back: its source, its end of the lane, and how the source ended, where it was not told to end before.
+/// What a reader hands back: its source, its end of the lane, and how the source ended, if it was not told to end before.
 #[derive(Drop)]
 pub struct ReaderDone<S: Source, R> {
     pub source: S,

@@ -4,7 +4,7 @@ use std::marker::Model;
 use std::snapshot::Snapshot;
 use std::thread::{Promise, PromisedHandle, Scope, Threads};
 
-/// A work in a thread of its own, or its result where no thread could be started. Contracts see what its result promises.
+/// A work in a thread of its own, or its result if no thread could be started. Contracts see what its result promises.
 #[derive(Drop)]
 pub struct Work<T: Drop, P: Promise<T> + Drop> {
     running: Option<PromisedHandle<T, P>>,
@@ -24,7 +24,7 @@ impl<T: Drop, P: Promise<T> + Drop> Model for Work<T, P> {
         × (w.running ≡ None → IsSome w.done) };
 }
 
-/// Starts a work in a thread of its own, where one can be started.
+/// Starts a work in a thread of its own, if one can be started.
 pub fn start_if<'s, E, P: Promise<T> + Drop, F: FnOnce() -> T + Send + 's, T: Send + Drop + 's>(
     scope: &Scope<'s, E>,
     promise: P,
@@ -45,7 +45,7 @@ pub fn start_if<'s, E, P: Promise<T> + Drop, F: FnOnce() -> T + Send + 's, T: Se
     }
 }
 
-/// Starts a work in a thread of its own; where none can be started, it is told so, and done here.
+/// Starts a work in a thread of its own; if none can be started, it is told so, and done here.
 pub fn start<
     's,
     E,

@@ -134,7 +134,7 @@ first_put bytes piece rest kept kept' before now cuts = record {
   stands = tt;
 }
 
--- and where the reader was told to end
+-- and if the reader was told to end
 pub first_put_closed : (bytes piece rest : List ℕ) (kept kept' : LineCutterView) (before now : List Piece)
     → Cuts bytes piece rest kept before now → PutsLines put.Closed bytes piece kept' before now
 first_put_closed bytes piece rest kept kept' before now cuts = record {

@@ -166,7 +166,7 @@ ended_lines kept put mid put' before after turns last = record {
   took = turns.took;
 }
 
--- all but the last line, where that could not be put
+-- all but the last line, if that could not be put
 unlasted : (kept : LineCutterView) (put mid : List Piece) (before after : Option Stream) → EdgeLineSteps (Over End) [] kept put mid before after → CutsLines None put mid before after
 unlasted kept put mid before after turns = record {
   bytes = turns.more;

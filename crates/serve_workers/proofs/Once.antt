@@ -115,7 +115,7 @@ newer_is : (new : Bool) (pair : Numbered) → newer (not new) pair ≡ (if new t
 newer_is true pair = refl
 newer_is false pair = refl
 
--- a taken pair is kept where the test says so
+-- a taken pair is kept if the test says so
 pub taken_once : (new first : Bool) (before : ℕ) (old now : List Numbered) (pair : Numbered)
     → now ≡ old ++ pair ∷ []
     → first ≡ (length (each_once old) == 0) → Rises 0 old → before ≡ last_from 0 old → last_from 0 old ≤ pair.number

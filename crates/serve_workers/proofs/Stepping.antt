@@ -312,7 +312,7 @@ pub refused : (part : Piece → List ℕ) (P : Piece → Type 0) (result : Optio
 refused part P result put before after closed same =
     handed_last part P result ending.NoMemory put before after same (goes_as MayLose (TakesMore []) before after (λ x y p. some_more [] x y (lost_some x y p)) closed)
 
--- that it failed was said only where its faults rose
+-- that it failed was said only if its faults rose
 pub said_cause : (result : Option Ending) (last : Ending) (before now : ℕ)
     → IfSome result (λ said. said ≡ last) → StepHasCause (Over last) before now → result ≡ Some ending.Failed → Rose before now
 said_cause None last before now same cause is = absurd (none-some ending.Failed is)

@@ -4,13 +4,13 @@ use Rattle.std.specs.List.{IsAmong}
 use Rattle.gps_fixed.specs.Moment.{Moment}
 use Rattle.gps_outside.specs.Ticks.{Dial}
 
--- these are the stamps that the clock may give, where that is told
+-- these are the stamps that the clock may give, if that is told
 abbrev pub MayGive : Option (List Moment) → Option Dial → Type 0
 MayGive None stamps = Unit {0}
 MayGive (Some may) None = ⊥
 MayGive (Some may) (Some dial) = dial.may ≡ may
 
--- the stamp is one of those, where they are told
+-- the stamp is one of those, if they are told
 abbrev pub IsAllowed : Option (List Moment) → Moment → Type 0
 IsAllowed None at = Unit {0}
 IsAllowed (Some may) at = IsAmong may at

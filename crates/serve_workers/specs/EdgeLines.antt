@@ -24,7 +24,7 @@ edge_limit = Text 64
 abbrev pub edge_lines : List ℕ → List (List ℕ)
 edge_lines bytes = map text_of (fitting_lines edge_limit bytes)
 
--- the last line, where it lacks its end
+-- the last line, if it lacks its end
 abbrev pub last_edge_line : List ℕ → List (List ℕ)
 last_edge_line bytes = if nat_le (length (open_line bytes)) 64 then last_lines (open_line bytes) else []
 
@@ -70,7 +70,7 @@ Lines put.Done got all = all ≡ got
 Lines put.NoMemory got all = AreFirst got all
 Lines put.Closed got all = AreFirst got all
 
--- what is kept stands for the bytes, where the reading goes on
+-- what is kept stands for the bytes, if the reading goes on
 abbrev pub StandsOn : Put → LineCutterView → List ℕ → Type 0
 StandsOn put.Done kept bytes = StandsFor kept bytes
 StandsOn put.NoMemory kept bytes = Unit {0}
@@ -83,7 +83,7 @@ pub record PutsLines (result : Put) (bytes piece : List ℕ) (kept : LineCutterV
   pub are : Lines result (edge_lines bytes ++ lines) (edge_lines (bytes ++ piece))
   pub stands : StandsOn result kept (bytes ++ piece)
 
--- the line that lacks its end was put, where it is not too long
+-- the line that lacks its end was put, if it is not too long
 abbrev pub PutsLast : Put → List ℕ → List Piece → List Piece → Type 0
 PutsLast put.Done bytes before after = after ≡ before ++ line_pieces (last_edge_line bytes)
 PutsLast put.NoMemory bytes before after = after ≡ before

@@ -33,7 +33,7 @@ IsInputPiece (Line line) = ⊥
 IsInputPiece (Input bytes) = IsChunk bytes
 IsInputPiece (Last ending) = ⊥
 
--- the last piece, where one was put
+-- the last piece, if one was put
 abbrev pub last_piece : Option Ending → List Piece
 last_piece None = []
 last_piece (Some ending) = Last ending ∷ []

@@ -44,7 +44,7 @@ pub fn run_monitor<R: Wait>(
     Ok(())
 }
 
-/// Makes a reading, and gives its pair where none was taken before or its number is new.
+/// Makes a reading, and gives its pair if none was taken before or its number is new.
 fn new_pair(segment: &Segment, monitor: &mut Monitor, first: bool) -> Option<Numbered>
     requires part { monitor.old.segment ≡ segment.now }
     requires first { first ≡ (length (each_once monitor.old.taken) == 0) }
@@ -72,7 +72,7 @@ fn new_pair(segment: &Segment, monitor: &mut Monitor, first: bool) -> Option<Num
     }
 }
 
-/// Whether no pair of this number was taken, where the last one has the number `before`.
+/// Whether no pair of this number was taken, if the last one has the number `before`.
 fn is_new(first: bool, before: u32, number: u32) -> bool
     ensures { result ≡ (first || not (number == before)) }
 {

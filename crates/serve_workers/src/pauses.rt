@@ -6,7 +6,7 @@ use std::time::Duration;
 /// ever does not keep it busy.
 const PAUSE: u64 = 1;
 
-/// Sleeps for a moment, or until a ring. False, without any sleep, where the bell is closed.
+/// Sleeps for a moment, or until a ring. False, without any sleep, if the bell is closed.
 pub(crate) fn pause<R: Wait>(rt: &R, own: &Bell) -> bool {
     let open = !own.is_closed();
     if open {

@@ -6,7 +6,7 @@ use gps_lane::{Bell, Pushed, Tx};
 use serve_pieces::{Ending, Piece};
 use std::sync::Wait;
 
-/// Puts a piece, and waits for room where the lane is full. Once it is told to end, the piece is dropped.
+/// Puts a piece, and waits for room if the lane is full. Once it is told to end, the piece is dropped.
 pub(crate) fn put<R: Wait + Copy>(
     rt: &R,
     pieces: &mut Tx<Piece, R>,

@@ -9,7 +9,7 @@ pub trait Dials {
     ghost use Rattle.std.specs.Prelude.{List, Option};
     ghost use Rattle.gps_fixed.specs.Moment.{Moment};
 
-    /// The stamps that the clock may give, where it tells them.
+    /// The stamps that the clock may give, if it tells them.
     ghost may: { Option (List Moment) };
 }
 

@@ -125,7 +125,7 @@ fn write_on<K: Sink, R: Wait + Copy>(
 /// Writes the items of a session until its bell is closed and none waits, or its sink fails, and says then that nothing
 /// follows, so that a reader of the same socket ends.
 ///
-/// It asks for 64 KB once, to join what waits; where they are refused, it writes item by item. Once its bell is closed, the sink is told that it
+/// It asks for 64 KB once, to join what waits; if they are refused, it writes item by item. Once its bell is closed, the sink is told that it
 /// ends soon, so that a client that takes little at a time does not hold it.
 pub fn write_items<K: Sink, R: Wait + Copy>(
     rt: &R,

@@ -22,7 +22,7 @@ pub last_policy_popped : (policy : Policy) (marks front : List Mark) (mark : Mar
 last_policy_popped policy marks front mark popped e some =
     ap (last_policy policy) (e ∙ ap (λ o. front ++ option_to_list o) some) ∙ last_policy_push policy front mark
 
--- where nothing is popped there was no mark
+-- if nothing is popped there was no mark
 pub last_policy_kept : (policy : Policy) (marks front : List Mark) → marks ≡ front ++ option_to_list None → front ≡ [] → last_policy policy marks ≡ policy
 last_policy_kept policy marks front e none = ap (last_policy policy) (e ∙ ap (λ l. l ++ []) none)
 

@@ -28,7 +28,7 @@ abbrev pub last_policy : Policy → List Mark → Policy
 last_policy policy [] = policy
 last_policy policy (mark ∷ more) = last_policy mark.policy more
 
--- the place of the last mark, and this place where there is none
+-- the place of the last mark, and this place if there is none
 abbrev pub last_place : ℕ → List Mark → ℕ
 last_place place [] = place
 last_place place (mark ∷ more) = last_place mark.place more

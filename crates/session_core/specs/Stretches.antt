@@ -1,4 +1,4 @@
--- The items of a session: at each of its marks the reply, where there is one, and then what the mark's policy selects of the reports up to
+-- The items of a session: at each of its marks the reply, if there is one, and then what the mark's policy selects of the reports up to
 -- the next mark.
 use Rattle.std.specs.Prelude.{◌≤◌, ℕ, ◌+◌, ◌-◌, ◌&&◌, nat_le, nat_lt, cond, List, [], ◌∷◌, ◌++◌, length, take, drop, Option, Some, None, option_to_list}
 use Rattle.std.specs.List.{flat_map}

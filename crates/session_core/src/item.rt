@@ -35,7 +35,7 @@ impl Item {
         self.bytes.as_slice()
     }
 
-    /// The same bytes once more, without a copy. Refused where the count of holders is at its greatest value.
+    /// The same bytes once more, without a copy. Refused if the count of holders is at its greatest value.
     pub fn share(&self) -> Result<Item, NoMemory>
         ensures { IfOk result (λ item. item ≡ self.now) }
     {

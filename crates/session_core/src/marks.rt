@@ -5,7 +5,7 @@ ghost use Rattle.session_core.specs.SessionView.{last_policy};
 use crate::Mark;
 use gps_report::Policy;
 
-/// Adds a mark where there is room, and says whether it is the first one.
+/// Adds a mark if there is room, and says whether it is the first one.
 #[tactic(auto, using(crate::proofs::Policies::last_policy_some))]
 pub fn add_mark(marks: &mut Vec<Mark>, place: u64, policy: Policy) -> bool
     requires { vec_len marks.old < vec_capacity marks.old }

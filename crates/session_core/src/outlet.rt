@@ -21,10 +21,10 @@ pub trait Outlet: Drop {
     /// How many items it may hold.
     ghost cap: { Self → ℕ };
 
-    /// What ties it to its far end, where it has one.
+    /// What ties it to its far end, if it has one.
     ghost name: { Self → OutletName };
 
-    /// It holds exactly what it keeps, so that it is full exactly where it keeps as many items as it may hold.
+    /// It holds exactly what it keeps, so that it is full exactly if it keeps as many items as it may hold.
     ghost exact: { Bool };
 
     /// It takes items still.

@@ -37,7 +37,7 @@ impl PlainOutlet {
         Ok(PlainOutlet { items, cap })
     }
 
-    /// The item that was put first; none exactly where nothing is held.
+    /// The item that was put first; none exactly if nothing is held.
     pub fn take(&mut self) -> Option<Item>
         ensures item { result ≡ slice_get self.old.held 0 }
         ensures rest { self.new ≡ record self.old { held = drop 1 self.old.held } }

@@ -22,7 +22,7 @@ pub struct Session<O: Outlet> {
     marks: Vec<Mark>,
     answered: bool,
     closing: Option<(u64, Close)>,
-    /// The policy where there is no mark.
+    /// The policy if there is no mark.
     unmarked: Policy,
     requests: u32,
     items: u64,
@@ -65,7 +65,7 @@ fn counted(requests: u32, opening: bool) -> u32
 }
 
 impl<O: Outlet> Session<O> {
-    /// A session without marks that watches nothing, with room for its opening. Where memory is refused, the outlet
+    /// A session without marks that watches nothing, with room for its opening. If memory is refused, the outlet
     /// comes back.
     pub fn new(alloc: Global, outlet: O) -> Result<Session<O>, O>
         requires { O.takes outlet }
@@ -146,7 +146,7 @@ impl<O: Outlet> Session<O> {
         self.closing = Some((place, Close::Overrun));
     }
 
-    /// Puts the reply to the opening or to a request, and marks where from the policy after it holds. Where the outlet is
+    /// Puts the reply to the opening or to a request, and marks where from the policy after it holds. If the outlet is
     /// full, there is no mark, and the session is closed.
     #[tactic(auto, using(crate::proofs::Gaining::reply_gains, crate::proofs::Policies::last_place_push))]
     pub fn reply(&mut self, place: u64, policy: Policy, item: Item) -> Push
@@ -174,7 +174,7 @@ impl<O: Outlet> Session<O> {
         }
     }
 
-    /// Puts the line of a selected report that stands at this place. Where the outlet is full, the session is closed.
+    /// Puts the line of a selected report that stands at this place. If the outlet is full, the session is closed.
     pub fn report(&mut self, place: u64, item: Item) -> Push
         requires open { self.old.closing ≡ None }
         requires after { last_place 0 self.old.marks ≤ place }
@@ -209,7 +209,7 @@ impl<O: Outlet> Session<O> {
         self.closing = Some((place, why));
     }
 
-    /// The place from which on nothing is put any more, and why; none exactly where the session is open.
+    /// The place from which on nothing is put any more, and why; none exactly if the session is open.
     pub fn closing(&self) -> Option<(u64, Close)>
         ensures { result ≡ self.now.closing }
     {
@@ -268,7 +268,7 @@ impl<O: Outlet> Session<O> {
 }
 
 impl Session<PlainOutlet> {
-    /// The item that was put first of those that the outlet holds; none exactly where it holds nothing.
+    /// The item that was put first of those that the outlet holds; none exactly if it holds nothing.
     pub fn take(&mut self) -> Option<Item>
         ensures item { result ≡ slice_get self.old.kept 0 }
         ensures now { self.new ≡ record self.old { kept = drop 1 self.old.kept } }

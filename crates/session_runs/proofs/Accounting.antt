@@ -31,7 +31,7 @@ given_on : (names : List (List ℕ)) (before log onward longer : List Entry) (ol
 given_on names before log onward longer old new more taken r next extends given =
     ap (λ l. taken ++ l) extends.kept ∙ sym (append_assoc taken old.kept more) ∙ ap (λ l. l ++ more) given ∙ sym extends.items
 
--- in the same log, where nothing is heard
+-- in the same log, if nothing is heard
 unheard : (names : List (List ℕ)) (log : List Entry) (old new : MemberView) (r : SessionRun) (bytes : List ℕ) → HearsNothing old new
     → HasSent names log old r.stretches bytes → HasSent names log new r.stretches bytes
 unheard names log old new r bytes nothing sent =

@@ -103,7 +103,7 @@ follows_added exact names before log longer entries reports first longer_is firs
     let F : ℕ → Type 0 = λ n. Reports exact (line_for names) n reports old.session new.session in
     subst P (sym longer_is) (reports_extend exact names before log entries reports old.session new.session added (subst F first_is spreads.session))
 
--- the runs of all, where each one follows
+-- the runs of all, if each one follows
 pub runs_on : (old new : BookView) (before onward : List Entry) → new.names ≡ old.names
     → AllZip (λ (a b : MemberView). Follows old.names before old.log.log onward new.log.log a.session b.session) old.sessions new.sessions
     → (runs : List SessionRun) → RunsOf old before runs

@@ -37,7 +37,7 @@ pub order_later : (end : ℕ) (earlier later : List Stretch) → AreInOrder end 
 order_later end [] later order = order
 order_later end (stretch ∷ earlier) later order = order.1
 
--- where there is a mark, a turn leaves one with the last policy
+-- if there is a mark, a turn leaves one with the last policy
 pub left_is : (policy : Policy) (marks : List Mark) (stretches : List Stretch) → 0 < length marks → map mark_of stretches ≡ marks
     → last_watched policy stretches ≡ policy → left_of stretches ≡ plain_stretch 0 policy ∷ []
 left_is policy marks [] some is watched = let none : length marks ≡ 0 = ap length (sym is) in absurd (omega (arith, none, some))

@@ -52,7 +52,7 @@ abbrev pub AdmittedHasAccount : Type 0
 AdmittedHasAccount = (name : OutletName) (cap : ℕ) (old new : BookView) (before : List Entry) → BookHolds old → StandsFor old.log.opening before
     → Admits name cap old new → AccountIn new before (opened name cap old.log.length) (opened_run (before ++ new.log.log)) [] []
 
--- where nothing but sessions changed, each other one has the account that it had
+-- if nothing but sessions changed, each other one has the account that it had
 abbrev pub OthersKeepAccounts : Type 0
 OthersKeepAccounts = (old new : BookView) (before : List Entry) (a : MemberView) (r : SessionRun) (taken : List (List ℕ)) (bytes : List ℕ)
     → SameButSessions old new → AccountIn old before a r taken bytes → AccountIn new before a r taken bytes

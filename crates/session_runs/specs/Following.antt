@@ -14,7 +14,7 @@ use Rattle.book_sessions.specs.MemberView.{MemberView}
 use Rattle.report_book.specs.BookView.{BookView}
 use Rattle.session_runs.specs.Runs.{SessionRun, IsRunOf, RunsOf, closed_from, items_over}
 
--- a session that was open is closed where this generation says; one that was closed stays so
+-- a session that was open is closed if this generation says; one that was closed stays so
 abbrev pub closing_after : ℕ → Option (ℕ × Close) → Option (ℕ × Close) → Option (ℕ × Close) → Option (ℕ × Close)
 closing_after base None now was = closed_from base now
 closing_after base (Some closing) now was = was
@@ -39,7 +39,7 @@ Follows names before log onward longer old new =
     (r : SessionRun) → IsRunOf names before log old r
     → (more : List (List ℕ)) × Extends names before log onward longer old new more r (run_after (length (history onward)) old new r) × GainsNothing old more
 
--- what is forgotten, where a turn came or none
+-- what is forgotten, if a turn came or none
 abbrev pub forgotten_if : Bool → List Entry → List Entry → List Entry
 forgotten_if turns before log = cond turns (before ++ log) before
 

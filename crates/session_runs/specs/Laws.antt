@@ -35,7 +35,7 @@ abbrev pub AdmittedRunBegins : Type 0
 AdmittedRunBegins = (name : OutletName) (cap : ℕ) (old new : BookView) (before : List Entry) → BookHolds old → StandsFor old.log.opening before
     → Admits name cap old new → RunBegins name cap old new before
 
--- The stretches of a run stand in order within the whole history, up to its closing; and it is closed exactly where the book shows it so.
+-- The stretches of a run stand in order within the whole history, up to its closing; and it is closed exactly if the book shows it so.
 pub record IsInOrder (before log : List Entry) (s : SessionView) (r : SessionRun) : Type 0 where
   pub order : AreInOrder (end_of r.closing (history (before ++ log))) r.stretches
   pub within : end_of r.closing (history (before ++ log)) ≤ length (history (before ++ log))
@@ -50,7 +50,7 @@ ReportsExtendRuns = (exact : Bool) (names : List (List ℕ)) (before log entries
     → history_after (before ++ log) entries ≡ reports → Reports exact (line_for names) (length (history_after before log)) reports old new
     → Follows names before log before (log ++ entries) old new
 
--- Where reports close it, this is by an overrun, at the place of one of them.
+-- If reports close it, this is by an overrun, at the place of one of them.
 abbrev pub ReportsOverrun : Type 0
 ReportsOverrun = (exact : Bool) (names : List (List ℕ)) (first : ℕ) (reports : List Report) (old new : SessionView) (place : ℕ) (why : Close)
     → Reports exact (line_for names) first reports old new → old.closing ≡ None → new.closing ≡ Some (place, why)
@@ -61,7 +61,7 @@ abbrev pub TurnsKeepRuns : Type 0
 TurnsKeepRuns = (names : List (List ℕ)) (before log : List Entry) (s : SessionView) (r : SessionRun) → IsRunOf names before log s r
     → Extends names before log (before ++ log) [] s (turned s) [] r r
 
--- Entries come, behind a turn where one is due.
+-- Entries come, behind a turn if one is due.
 abbrev pub MovesExtendRuns : Type 0
 MovesExtendRuns = (exact turns : Bool) (old new : BookView) (entries before : List Entry) → BookHolds old → StandsFor old.log.opening before
     → Moves exact turns old new entries → GoesOn turns old new entries before

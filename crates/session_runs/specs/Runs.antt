@@ -44,7 +44,7 @@ pub record IsOver (before : List Entry) (s : SessionView) (r : SessionRun) : Typ
   pub now : s.closing ≡ Some (0, why)
   pub marks : s.marks ≡ []
 
--- the run of what a book shows of a session, where this log was forgotten and that one is of this generation
+-- the run of what a book shows of a session, if this log was forgotten and that one is of this generation
 abbrev pub IsRunOf : List (List ℕ) → List Entry → List Entry → SessionView → SessionRun → Type 0
 IsRunOf names before log s r = IsHere names before log s r ⊎ IsOver before s r
 

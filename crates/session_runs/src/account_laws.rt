@@ -17,7 +17,7 @@ pub fn quiet_entries_carry_accounts()
     ensures { QuietEntriesCarryAccounts }
 {}
 
-/// Where one session changes, each other one has the account that it had.
+/// If one session changes, each other one has the account that it had.
 pub fn others_keep_their_accounts()
     ensures { OthersKeepAccounts }
 {}

@@ -47,7 +47,7 @@ pub fn a_closing_ends_a_run()
     ensures { ClosingsEndRuns }
 {}
 
-/// A session that is shut is closed after the whole log, where it was open.
+/// A session that is shut is closed after the whole log, if it was open.
 pub fn shutting_ends_a_run()
     ensures { ShutsEndRuns }
 {}
@@ -64,7 +64,7 @@ pub fn taking_keeps_a_run()
     ensures { TakingKeepsRuns }
 {}
 
-/// Where one session changes, the run of each other one is as it was.
+/// If one session changes, the run of each other one is as it was.
 pub fn one_run_changes()
     ensures { OneRunChanges }
 {}

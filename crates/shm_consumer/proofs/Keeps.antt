@@ -37,7 +37,7 @@ role_on may (x ∷ views) zero (suc one) v w at same is = is
 role_on may (x ∷ views) (suc seat) zero v w at same is = is
 role_on may (x ∷ views) (suc seat) (suc one) v w at same is = role_on may views seat one v w at same is
 
--- the rule, where the giver is this seat and its samples and stores are these
+-- the rule, if the giver is this seat and its samples and stores are these
 pub record HoldsAt (first : ℕ) (words : List ℕ) (views : List View) (gives : ℕ) (samples : List Sample) (stores : ℕ) : Type 0 where
   pub takes : ℕ
   pub last : ℕ
@@ -80,7 +80,7 @@ behind_on first stores number is =
     let most = is.most in
     record { most = omega arith; below = λ turn. omega arith }
 
--- where count stays, the next sample is begun by its first store at most
+-- if count stays, the next sample is begun by its first store at most
 turn_on : (first stores : ℕ) → stores % 13 ≤ 1 → count_after first stores ≡ count_after first (stores + 1) → (stores + 1) % 13 ≤ 1
 turn_on first stores low same = by_turn (stores % 13) refl low
   where

@@ -19,14 +19,14 @@ use Rattle.shm_consumer.specs.declared.view.View.{View}
 abbrev pub words_with : ℕ → List Sample → ℕ → ℕ → List ℕ
 words_with first samples stores valid = slice_set (words_of first samples stores) 9 valid
 
--- valid is 0 or 1. It is 1 only where a sample was stored to its end, no other is begun, and its number is above the taker's last
+-- valid is 0 or 1. It is 1 only if a sample was stored to its end, no other is begun, and its number is above the taker's last
 pub record IsValid (first stores last valid : ℕ) : Type 0 where
   pub either : valid ≤ 1
   pub ended : valid ≡ 1 → stores % 13 ≡ 0
   pub some : valid ≡ 1 → 0 < stores
   pub above : valid ≡ 1 → last < first + published_after stores
 
--- the number is at most that of the last published sample, and below it where that sample's valid 1 is still to come
+-- the number is at most that of the last published sample, and below it if that sample's valid 1 is still to come
 pub record IsBehind (first stores number : ℕ) : Type 0 where
   pub most : number ≤ first + published_after stores
   pub below : stores % 13 ≡ 12 → number < first + published_after stores
@@ -107,7 +107,7 @@ pub record HandOffHolds (first : ℕ) (words : List ℕ) (views : List View) : T
 abbrev pub HoldsOf : ℕ → State (Unit {0}) View → Type 0
 HoldsOf first state = HandOffHolds first state.words state.views
 
--- what the second count of a reading tells: where both counts are equal, the body is that of a sample
+-- what the second count of a reading tells: if both counts are equal, the body is that of a sample
 abbrev pub IsRecounted : View → ℕ → Type 0
 IsRecounted v again =
     (again < 2 ^ 32)

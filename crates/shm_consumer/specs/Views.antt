@@ -90,7 +90,7 @@ pair_after reading again = None
 abbrev pub recounted : View → ℕ → View
 recounted v again = after v (Load 1 again) [] (pair_after v.reading again)
 
--- the pairs with one more, where there is one
+-- the pairs with one more, if there is one
 abbrev pub consumed_with : Option Numbered → List Numbered → List Numbered
 consumed_with None pairs = pairs
 consumed_with (Some pair) pairs = pairs ++ pair ∷ []

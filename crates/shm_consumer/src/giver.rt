@@ -64,9 +64,9 @@ impl Giver {
         }
     }
 
-    /// Begins a sample where none is being stored and the count is not spent. It makes no store.
+    /// Begins a sample if none is being stored and the count is not spent. It makes no store.
     ///
-    /// Busy comes exactly where the phase is not Idle, CountSpent exactly where it is Idle and the count is 2,147,483,646.
+    /// Busy comes exactly if the phase is not Idle, CountSpent exactly if it is Idle and the count is 2,147,483,646.
     pub fn begin(&mut self, sample: Sample) -> Begin
         ensures begins { BeginsAs self.old sample result self.new }
         ensures segment { self.new.segment ≡ self.old.segment }
@@ -86,7 +86,7 @@ impl Giver {
         }
     }
 
-    /// Makes the one next of the sample's thirteen stores; Idle exactly where none is begun.
+    /// Makes the one next of the sample's thirteen stores; Idle exactly if none is begun.
     pub fn step(&mut self, hand: &HandOff) -> PubStep
         requires { self.old.segment ≡ hand.now }
         ensures steps { StepsAs self.old result self.new }

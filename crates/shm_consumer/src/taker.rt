@@ -156,8 +156,8 @@ impl Taker {
         }
     }
 
-    /// Drops an unfinished reading, and makes one by steps of its own: two where valid is 0, twelve at a Clash, and
-    /// thirteen where it consumes a sample.
+    /// Drops an unfinished reading, and makes one by steps of its own: two if valid is 0, twelve at a Clash, and
+    /// thirteen if it consumes a sample.
     ///
     /// The number of a consumed sample is half of the count that was loaded twice. It is above all those consumed before,
     /// so no sample is consumed twice.

@@ -43,7 +43,7 @@ validated v valid = loaded v 9 valid v.taken (if valid == 0 then [] else v.readi
 abbrev pub read : View → ℕ → ℕ → View
 read v word value = loaded v word value v.taken (v.reading ++ value ∷ [])
 
--- the pairs after the second count: with one more where it equals the first
+-- the pairs after the second count: with one more if it equals the first
 abbrev pub taken_after : List Numbered → List ℕ → ℕ → List Numbered
 taken_after taken (count ∷ valid ∷ body) again =
     if again == count then taken ++ record { number = again / 2; sample = sample_of body } ∷ [] else taken
@@ -52,7 +52,7 @@ taken_after taken reading again = taken
 abbrev pub recounted : View → ℕ → View
 recounted v again = loaded v 1 again (taken_after v.taken v.reading again) []
 
--- the valid of the reading was not 0; where both counts are equal its body is that of a sample, and its number is not below the last
+-- the valid of the reading was not 0; if both counts are equal its body is that of a sample, and its number is not below the last
 pub record IsLastCount (last count valid : ℕ) (body : List ℕ) (again : ℕ) : Type 0 where
   pub ready : 0 < valid
   pub fits : again < 2 ^ 32

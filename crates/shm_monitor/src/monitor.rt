@@ -135,7 +135,7 @@ impl Monitor {
         }
     }
 
-    /// Drops an unfinished reading, and makes one by loads of its own: two where valid is 0, else twelve.
+    /// Drops an unfinished reading, and makes one by loads of its own: two if valid is 0, else twelve.
     ///
     /// The number of a taken sample is half of the count that was loaded twice. It is not below the last one, nor below
     /// any that a notice reached which was met before.

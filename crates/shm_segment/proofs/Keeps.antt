@@ -43,7 +43,7 @@ publishes_beside (x ∷ views) zero (suc writer) v w at other is = is
 publishes_beside (x ∷ views) (suc seat) zero v w at other is = is
 publishes_beside (x ∷ views) (suc seat) (suc writer) v w at other is = publishes_beside views seat writer v w at other is
 
--- the rule, where the writer is this seat and its samples and stores are these
+-- the rule, if the writer is this seat and its samples and stores are these
 abbrev pub HoldsAt : ℕ → List ℕ → List View → ℕ → List Sample → ℕ → Type 0
 HoldsAt first words views writer samples stores =
     (words ≡ words_of first samples stores) × IsSound first samples stores × AllFit writer first samples stores views

@@ -1,4 +1,4 @@
--- The rule at a load, at a cut of a seat in two, and where two seats are joined.
+-- The rule at a load, at a cut of a seat in two, and if two seats are joined.
 use Rattle.std.proofs.Common.{◌≡◌, ◌≢◌, ℕ, List, [], ◌∷◌, set, refl, sym, ap, ◌∙◌, subst, ⊎_elim, arith}
 use Rattle.std.specs.Prelude.{slice_index}
 use Rattle.std.proofs.lemmas.List.{set-get_or}

@@ -94,7 +94,7 @@ count_of p = count_after p.segment.first p.stores
 abbrev pub beginning : Publishing → Sample → Publishing
 beginning p sample = record { segment = p.segment; samples = p.samples; stores = p.stores; phase = ToInvalid; begun = sample }
 
--- Busy exactly where the phase is not Idle, CountSpent exactly where it is Idle and count is 2,147,483,646; else the sample is begun, without a store
+-- Busy exactly if the phase is not Idle, CountSpent exactly if it is Idle and count is 2,147,483,646; else the sample is begun, without a store
 abbrev pub BeginsAs : Publishing → Sample → Begin → Publishing → Type 0
 BeginsAs old sample Begun new =
     (old.phase ≡ Idle) × (count_of old ≢ 2_147_483_646) × (new ≡ beginning old sample)
@@ -119,7 +119,7 @@ pub record IsStore (old : Publishing) (word value : ℕ) (new : Publishing) : Ty
   pub leads : slice_set (words_now old) word value ≡ words_now new
   pub becomes : new ≡ stepped old
 
--- Idle exactly where the phase is Idle
+-- Idle exactly if the phase is Idle
 abbrev pub StepsAs : Publishing → PubStep → Publishing → Type 0
 StepsAs old NothingToStore new = (old.phase ≡ Idle) × (new ≡ old)
 StepsAs old (Stored word value) new = (old.phase ≢ Idle) × IsStore old word value new

@@ -19,7 +19,7 @@ count_after first stores = count_at first (stores % 13) ((stores + 1) / 13)
 abbrev pub body_at : List Sample → ℕ → List ℕ
 body_at samples p = slice_index_or ((0 ∷ 0 ∷ 0 ∷ 0 ∷ 0 ∷ 0 ∷ 0 ∷ 0 ∷ 0 ∷ []) ∷ map body_of samples) p []
 
--- the word at this place of the body: of the next sample where it was written already, else of the last published one
+-- the word at this place of the body: of the next sample if it was written already, else of the last published one
 abbrev pub body_word : List Sample → ℕ → ℕ → ℕ → ℕ
 body_word samples turn published place =
     slice_index (body_at samples (if nat_le (3 + place) turn && nat_le turn 11 then published + 1 else published)) place
@@ -41,7 +41,7 @@ body_words samples turn published =
 unfoldable pub body_after : List Sample → ℕ → List ℕ
 body_after samples stores = body_words samples (stores % 13) ((stores + 1) / 13)
 
--- valid is 1 where a sample was stored to its end and no other was begun
+-- valid is 1 if a sample was stored to its end and no other was begun
 abbrev pub valid_at : ℕ → Bool → ℕ
 valid_at turn some = if turn == 0 && some then 1 else 0
 
@@ -70,7 +70,7 @@ words_of first samples stores = words_at first samples (stores % 13) ((stores + 
 abbrev pub body_places : List ℕ
 body_places = 2 ∷ 3 ∷ 4 ∷ 5 ∷ 6 ∷ 7 ∷ 8 ∷ 10 ∷ 11 ∷ []
 
--- the thirteen stores of a sample, word and value, where count was this before: valid 0, the odd count, the body, the even count, valid 1
+-- the thirteen stores of a sample, word and value, if count was this before: valid 0, the odd count, the body, the even count, valid 1
 abbrev pub stores_of : ℕ → Sample → List (ℕ × ℕ)
 stores_of count sample =
     let body = body_of sample in

@@ -116,7 +116,7 @@ impl Publisher {
         }
     }
 
-    /// Begins a sample where none is being stored and the count is not spent. It makes no store.
+    /// Begins a sample if none is being stored and the count is not spent. It makes no store.
     pub fn begin(&mut self, sample: Sample) -> Begin
         ensures begins { BeginsAs self.old sample result self.new }
         ensures segment { self.new.segment ≡ self.old.segment }

@@ -5,7 +5,7 @@ use Rattle.gps_report.specs.declared.note.Position.{Position}
 use Rattle.gps_fixed.specs.Ratio.{nearest}
 use Rattle.ubx_decode.specs.Fields.{is_set}
 
--- 2 for two and 3 for three dimensions, the second with or without dead reckoning, where the fix is said to be good; else 1
+-- 2 for two and 3 for three dimensions, the second with or without dead reckoning, if the fix is said to be good; else 1
 unfoldable pub mode_of : ℕ → ℕ → ℕ
 mode_of fix_type flags =
     if is_set flags 0

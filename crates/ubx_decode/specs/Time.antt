@@ -32,7 +32,7 @@ joined (Some date) (Some clock) None = None
 joined (Some date) None nano = None
 joined None clock nano = None
 
--- where the date and the time are said to be valid
+-- if the date and the time are said to be valid
 unfoldable pub time_of : List ℕ → Option DayTime
 time_of payload =
     let valid = slice_index payload 11 in

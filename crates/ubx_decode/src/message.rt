@@ -15,7 +15,7 @@ const SHORTEST_FRAME: usize = 8;
 ///
 /// A frame of a class, id or payload length that is not read gives a note of kind Other with nothing in it. A field that is not
 /// readable is an absent quantity. The sync characters, the length and the checksum are the framer's to look at: of bytes that are no
-/// frame, the same fields are read. Takes memory only for a NAV-SAT of at least one satellite: `NoMemory` comes where there is none for it,
+/// frame, the same fields are read. Takes memory only for a NAV-SAT of at least one satellite: `NoMemory` comes if there is none for it,
 /// and for no other frame.
 #[tactic(auto, using(crate::proofs::Short::short_note))]
 pub fn note_of_frame(alloc: Global, frame: &[u8]) -> Result<Note, NoMemory>

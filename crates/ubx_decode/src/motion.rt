@@ -38,7 +38,7 @@ fn position_of(lat: i32, lon: i32) -> Option<Position>
     }
 }
 
-/// A speed over ground, where it is not below zero.
+/// A speed over ground, if it is not below zero.
 #[tactic(auto, unfolding(crate::specs::Motion::speed_of))]
 fn speed_of(speed: i32) -> Option<i64>
     ensures { result ≡ speed_of speed }

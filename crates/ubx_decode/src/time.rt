@@ -34,7 +34,7 @@ fn clock(hour: u8, minute: u8, second: u8) -> Option<u64>
     }
 }
 
-/// Nanoseconds to be added, where they are no more than a second.
+/// Nanoseconds to be added, if they are no more than a second.
 #[tactic(auto, unfolding(crate::specs::Time::fraction))]
 fn fraction(nano: i32) -> Option<i32>
     ensures { result ≡ fraction nano }
@@ -46,7 +46,7 @@ fn fraction(nano: i32) -> Option<i32>
     }
 }
 
-/// The date and a time counted from the midnight before its own, carried; `None` where the day leaves 1980..=2099.
+/// The date and a time counted from the midnight before its own, carried; `None` if the day leaves 1980..=2099.
 #[tactic(auto, unfolding(crate::specs::Time::carried))]
 fn carried(date: u32, since: u64) -> Option<DayTime>
     ensures { result ≡ carried date since }
@@ -62,7 +62,7 @@ fn carried(date: u32, since: u64) -> Option<DayTime>
     }
 }
 
-/// The three together, where all are there.
+/// The three together, if all are there.
 fn joined(date: Option<i32>, clock: Option<u64>, nano: Option<i32>) -> Option<DayTime>
     requires { IfSome clock (λ n. n ≤ day_length) }
     ensures { result ≡ joined date clock nano }
@@ -76,7 +76,7 @@ fn joined(date: Option<i32>, clock: Option<u64>, nano: Option<i32>) -> Option<Da
     }
 }
 
-/// The time of a NAV-PVT, where it is valid and readable.
+/// The time of a NAV-PVT, if it is valid and readable.
 #[tactic(auto, unfolding(crate::specs::Time::time_of))]
 pub(crate) fn time_of(payload: &[u8]) -> Option<DayTime>
     requires { length payload.now ≡ 92 }

@@ -209,7 +209,7 @@ whole_behind_sync (class ∷ id ∷ low ∷ high ∷ tail) n all is =
 under_sync : (first second : ℕ) (rest ys : List ℕ) → first ≡ 0xb5 → second ≡ 0x62 → 0xb5 ∷ 0x62 ∷ rest ≡ ys → first ∷ second ∷ rest ≡ ys
 under_sync first second rest ys one two is = cc
 
--- the sync characters are there where the answer is not No
+-- the sync characters are there if the answer is not No
 is_not_no : (b : Bool) (s t : Shape) → cond b s No ≡ t → (t ≡ No → ⊥) → (b ≡ true) × (s ≡ t)
 is_not_no true s t is some = (refl, is)
 is_not_no false s t is some = absurd (some (sym is))

@@ -11,7 +11,7 @@ is_right covered (ck_a ∷ ck_b ∷ more) = (sums_of covered).a == ck_a && (sums
 is_right covered (ck_a ∷ []) = false
 is_right covered [] = false
 
--- behind the sync characters, where the payload has n bytes
+-- behind the sync characters, if the payload has n bytes
 unfoldable pub shape_of_length : ℕ → List ℕ → Shape
 shape_of_length len rest =
     cond (nat_lt 2048 len) No

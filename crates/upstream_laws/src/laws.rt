@@ -15,7 +15,7 @@ pub fn heads_are_taken_off()
     ensures pieces { (stand : Stand) (first more : List ℕ) → behind stand (first ++ more) ≡ behind stand first ++ behind (taken stand first) more }
 {}
 
-/// Byte by byte the head ends exactly where the bytes begin with a head. There is none exactly where a line within its first 1,048,576 bytes
+/// Byte by byte the head ends exactly if the bytes begin with a head. There is none exactly if a line within its first 1,048,576 bytes
 /// cannot begin as an object of any class does, or that number of bytes came without its end.
 pub fn heads_end_exactly()
     ensures ended { (bytes : List ℕ) → ((taken fresh bytes).stage ≡ Stage.Behind) ↔ HasHead bytes }

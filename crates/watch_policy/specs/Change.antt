@@ -11,7 +11,7 @@ use Rattle.watch_policy.specs.declared.change.Change.{Change}
 use Rattle.watch_policy.specs.declared.change.ChangeFault.{ChangeFault}
 use Rattle.watch_policy.specs.declared.change.ChangeFault.TheVariants as fault
 
--- a value that is absent, or is there and reads so; no answer where it is there and cannot be read
+-- a value that is absent, or is there and reads so; no answer if it is there and cannot be read
 abbrev pub read_if : {X : Type 0} → (Data → Option X) → Option Data → Option (Option X)
 read_if read None = Some None
 read_if read (Some value) = option_map (λ x. Some x) (read value)
@@ -32,7 +32,7 @@ device_text (c ∷ text) = if is_name (c ∷ text) then Some (Some (c ∷ text))
 abbrev pub device_of : Data → Option (Option (List ℕ))
 device_of value = option_and_then device_text (as_str value)
 
--- what six members change, where each can be read
+-- what six members change, if each can be read
 abbrev pub change_by : (enable json nmea : Option (Option Bool)) (raw : Option (Option ℕ)) (pps : Option (Option Bool)) (device : Option (Option (Option (List ℕ)))) → Option Change
 change_by (Some enable) (Some json) (Some nmea) (Some raw) (Some pps) (Some device) =
     Some (record { enable = unwrap_or enable true; json = json; nmea = nmea; raw = raw; pps = pps; device = device })

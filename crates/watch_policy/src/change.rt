@@ -107,9 +107,9 @@ fn device_member(alloc: Global, value: &Value) -> Result<Option<Option<Name>>, C
     }
 }
 
-/// What a WATCH object changes. `BadWatch` comes exactly where the value is no object, where `enable`,
-/// `json`, `nmea` or `pps` is there and no truth value, where `raw` is there and not the whole number 0, 1
-/// or 2, or where `device` is there and neither a name nor the empty text. Other members are ignored. Memory
+/// What a WATCH object changes. `BadWatch` comes exactly if the value is no object, if `enable`,
+/// `json`, `nmea` or `pps` is there and no truth value, if `raw` is there and not the whole number 0, 1
+/// or 2, or if `device` is there and neither a name nor the empty text. Other members are ignored. Memory
 /// is taken for the name of a device alone.
 pub fn change_of(alloc: Global, value: &Value) -> Result<Change, ChangeFault>
     ensures ok { IfOk result (λ change. change_in (view value.now) ≡ Some change) }

@@ -18,7 +18,7 @@ pub fn opening() -> Policy
     }
 }
 
-/// The policy after a change: `enable` is the change's, each other member too where the change gives it.
+/// The policy after a change: `enable` is the change's, each other member too if the change gives it.
 /// Takes no memory.
 pub fn updated(policy: Policy, change: Change) -> Policy
     ensures { result ≡ policy_after policy change }

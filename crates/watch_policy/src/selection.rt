@@ -37,10 +37,10 @@ fn is_watched(device: &Option<Name>, name: &Name) -> bool
     }
 }
 
-/// The form in which a policy selects a report, or `None` where it does not: where the policy is disabled,
+/// The form in which a policy selects a report, or `None` if it does not: if the policy is disabled,
 /// watches another device, or no member of it asks for reports of this kind. Takes no memory.
 ///
-/// | report | where | form |
+/// | report | if | form |
 /// |---|---|---|
 /// | Tpv, Sky, Device | `json` | Json |
 /// | Toff, Pps | `pps` | Json |

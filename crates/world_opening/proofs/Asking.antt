@@ -47,7 +47,7 @@ pub places_in_step : (place : Option Place) (left : List (Option Place)) → pla
 places_in_step None left = refl
 places_in_step (Some place) left = refl
 
--- the same, where the places that are left are known by a step
+-- the same, if the places that are left are known by a step
 pub room_at : {places now left : List Place} {place : Place} {old mid : Asking} {f g : WorldFaults}
     → now ≡ place ∷ left → IsAsking places now old mid f g → length old.places + length places ≤ 16 → length mid.places < 16
 room_at {places} {now} {left} {place} {old} {mid} {f} {g} is so few =
@@ -69,7 +69,7 @@ stopped_at {places} {now} {left} {place} {old} {mid} {new} {f} {g} is so asked a
     let front : new.places ++ left ≡ mid.places ++ place ∷ left = ap (λ l. l ++ left) asked ∙ append_assoc mid.places (place ∷ []) left in
     ((left, sym all ∙ sym front), address ∙ so.address)
 
--- of edges: there is room for the place of the next device, where it has one
+-- of edges: there is room for the place of the next device, if it has one
 pub edge_room_at : {places : List Place} {now left : List (Option Place)} {place : Option Place} {old mid : Asking} {f g : WorldFaults}
     → now ≡ place ∷ left → IsAsking places (places_in now) old mid f g → length old.places + length places ≤ 16
     → length mid.places + length (option_to_list place) ≤ 16

@@ -54,7 +54,7 @@ pub record IsAsking (places left : List Place) (old new : Asking) (faults faults
   pub address : new.address ≡ old.address
   pub faults_stay : FaultsStay faults faults'
 
--- the stamps that a clock may give, where it tells them
+-- the stamps that a clock may give, if it tells them
 abbrev pub dial_of : Option Dial → Option (List Moment)
 dial_of stamps = option_map (λ (dial : Dial). dial.may) stamps
 
@@ -72,7 +72,7 @@ AsksSome asked places listen = ((rest : List Place) × (places ≡ asked.places 
 abbrev pub AsksAll : Asking → List Place → List ℕ → Type 0
 AsksAll asked places listen = (asked.places ≡ places) × (asked.address ≡ Some listen)
 
--- of each source nothing was taken, where it tells that, and it counted nothing
+-- of each source nothing was taken, if it tells that, and it counted nothing
 abbrev pub AreUnread : {S : Type 0} → (S → Option Stream) → (S → ℕ) → (S → ℕ) → List S → Type 0
 AreUnread content faults quiets [] = Unit {0}
 AreUnread content faults quiets (source ∷ sources) = IsUnread (content source) (faults source) (quiets source) × AreUnread content faults quiets sources
@@ -92,11 +92,11 @@ pub record TellsAsBefore {L D : Type 0} (links links' : Option L) (stamps stamps
 abbrev pub GivenOnce : List Place → Type 0
 GivenOnce places = IsDistinct same_place places
 
--- where the bytes behind the place were told, they are all left in the source
+-- if the bytes behind the place were told, they are all left in the source
 abbrev pub IsHeld : {S : Type 0} → (Place → Option (List ℕ)) → (S → Option Stream) → Place → S → Type 0
 IsHeld behind content place source = IsAllLeft (behind place) (content source)
 
--- the same of the edges of a device, where it has a place for them
+-- the same of the edges of a device, if it has a place for them
 abbrev pub IsEdgeHeld : {S : Type 0} → (Place → Option (List ℕ)) → (S → Option Stream) → Option Place → Option S → Type 0
 IsEdgeHeld behind content None None = Unit {0}
 IsEdgeHeld behind content (Some place) (Some source) = IsHeld behind content place source
@@ -111,7 +111,7 @@ IsNoneOf other places = AllByRecursion (λ (place : Place). other ≢ place) pla
 abbrev pub HasOneMore : {X : Type 0} → (X → Type 0) → List X → List X → Type 0
 HasOneMore {X} P old new = (x : X) × (new ≡ old ++ x ∷ []) × P x
 
--- So far all but those left were opened. What is behind other places is as it was, and where no place is given twice, each source is as R says.
+-- So far all but those left were opened. What is behind other places is as it was, and if no place is given twice, each source is as R says.
 pub record IsOpening {A X : Type 0} (places_of : List A → List Place) (R : A → X → Type 0) (behind behind' : Place → Option (List ℕ)) (given left : List A) (sources : List X) : Type 0 where
   pub done : List A
   pub all : done ++ left ≡ given

@@ -40,7 +40,11 @@ impl Model for Log {
 
     ghost Value = { LogView };
 
-    ghost view = { λ l. record { entries = entries_of l.events.items l.bytes.items; room = vec_capacity l.events - vec_len l.events; spare = vec_capacity l.bytes - vec_len l.bytes } };
+    ghost view = { λ l. record {
+      entries = entries_of l.events.items l.bytes.items;
+      room = vec_capacity l.events - vec_len l.events;
+      spare = vec_capacity l.bytes - vec_len l.bytes;
+    } };
 
     ghost invariant = { λ l. byte_count l.events.items ≡ length l.bytes.items };
 }

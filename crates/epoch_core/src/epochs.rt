@@ -173,7 +173,10 @@ impl Epochs {
     /// After a note: an end of epoch leaves no epoch running, and the calendar is the note's.
     fn end_note(&mut self, kind: NoteKind, days: Days)
         requires { where_given is_known_day days.day ≡ true }
-        ensures { self.new ≡ record { now = record { ran = cond (eoe kind) nothing_ran self.old.now.ran; day = days.day; last_tod = days.last_tod }; back = self.old.back } }
+        ensures { self.new ≡ record {
+          now = record { ran = cond (eoe kind) nothing_ran self.old.now.ran; day = days.day; last_tod = days.last_tod };
+          back = self.old.back;
+        } }
     {
         if is_eoe(kind) {
             self.renew(Running::new(self.alloc));

@@ -58,10 +58,19 @@ impl<J: HubNaming, R: Wait + Copy> Model for Hub<J, R> {
 
     ghost Value = { HubView };
 
-    ghost view = { λ h. record { book = h.book; inlets = h.inlets.items; ends = h.ends.items; inputs = h.inputs.items; door = h.keeper; wait = h.wait; is_shut = h.is_shut } };
+    ghost view = { λ h. record {
+      book = h.book;
+      inlets = h.inlets.items;
+      ends = h.ends.items;
+      inputs = h.inputs.items;
+      door = h.keeper;
+      wait = h.wait;
+      is_shut = h.is_shut;
+    } };
 
-    ghost invariant = { λ h. HubKeeps J.terms (record { book = h.book; inlets = h.inlets.items; ends = h.ends.items; inputs = h.inputs.items; door = h.keeper; wait = h.wait; is_shut = h.is_shut }) h.lasts.items
-        × (h.is_done ≡ h.keeper.done) };
+    ghost invariant = { λ h. HubKeeps J.terms
+        (record { book = h.book; inlets = h.inlets.items; ends = h.ends.items; inputs = h.inputs.items; door = h.keeper; wait = h.wait; is_shut = h.is_shut })
+        h.lasts.items × (h.is_done ≡ h.keeper.done) };
 }
 
 /// One step of a unit that there is.

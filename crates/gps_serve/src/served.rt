@@ -168,7 +168,8 @@ fn gather<W: World, J: HubNaming, D: Dials, R: Wait + Copy>(
     requires sound { ended.door.failed ≡ false → W.Gate.faults ended.door.gate ≡ 0 }
     requires tended { Tended (IsNewLink W.In.content W.In.faults W.In.quiets W.Out.written W.Out.faults)
         (SessionRuns W.In.content W.In.faults W.In.quiets W.Out.written W.Out.faults) numbers.queue (W.Gate.links first.value)
-        (door_now (W.Gate.links ended.door.gate) (W.Gate.faults ended.door.gate) (W.Gate.quiets ended.door.gate) ended.door.full ended.door.no_memory) ended.door.seat ended.door.runs.items }
+        (door_now (W.Gate.links ended.door.gate) (W.Gate.faults ended.door.gate) (W.Gate.quiets ended.door.gate) ended.door.full ended.door.no_memory)
+        ended.door.seat ended.door.runs.items }
     requires watched { WatchersRan numbers.tries J.terms.segments ended.watched.items }
     requires wait { J.terms.wait ≡ numbers.wait }
     requires closed { All IsClosed hub.book.sessions }

@@ -40,7 +40,8 @@ def sentences(t):
     ]]
 
 
-def second(t):
+def lines(t):
+    """The lines of a script for second t."""
     at = BEGIN + t
     for device in 0, 1:
         yield f"edge {device} assert {at}.000000000#{t + 1}"
@@ -56,7 +57,7 @@ def write_seconds(path, size):
         script.write("\n".join(OPENING) + "\n")
         t = 0
         while script.tell() < size:
-            script.write("".join(line + "\n" for u in range(t, t + 100) for line in second(u)))
+            script.write("".join(line + "\n" for u in range(t, t + 100) for line in lines(u)))
             t += 100
 
 

@@ -22,6 +22,7 @@ import socket
 import struct
 import subprocess
 import tempfile
+import threading
 import time
 
 from checks import check, exit_status, free_port, run_parts, within
@@ -29,7 +30,7 @@ from packets import BEGIN, PLACE, clock_of, frame, gga, nav_eoe, nav_pvt, rmc, s
 
 __all__ = ["check", "exit_status", "run_parts", "within", "BEGIN", "PLACE", "clock_of", "frame", "gga", "nav_eoe", "nav_pvt", "rmc", "second",
            "sentence", "WAIT", "SAMPLES", "VERSION", "Client", "Daemon", "FifoDevice", "Gpsd", "TcpDevice", "end_process", "free_port",
-           "limited", "many_files", "run", "sample", "sample_path", "until"]
+           "limited", "many_files", "run", "sample", "sample_path", "side_by_side", "until"]
 
 WAIT = 30  # seconds, for whatever must come
 SAMPLES = os.path.join(os.path.dirname(os.path.dirname(os.path.abspath(__file__))), "samples")
@@ -58,9 +59,16 @@ def until(done, seconds=WAIT, pause=0.02):
     return bool(found)
 
 
-def limited(kilobytes):
-    """What gives a process that starts this much address space; None for no limit."""
-    return (lambda: resource.setrlimit(resource.RLIMIT_AS, (kilobytes * 1024, kilobytes * 1024))) if kilobytes else None
+def limited(kilobytes, files=0):
+    """What gives a process that starts this much address space and this number of files; None for no limit."""
+    limits = [(resource.RLIMIT_AS, kilobytes * 1024), (resource.RLIMIT_NOFILE, files)]
+
+    def limit():
+        for kind, most in limits:
+            if most:
+                resource.setrlimit(kind, (most, most))
+
+    return limit if kilobytes or files else None
 
 
 def run(program, *words, given=b"", kilobytes=0, seconds=60):
@@ -77,6 +85,21 @@ def end_process(process, seconds=WAIT):
     except subprocess.TimeoutExpired:
         process.kill()
         return "still running", process.communicate()[0]
+
+
+def side_by_side(call, rows):
+    """Calls this with each row, all at once: what each call gives, by the first word of its row. One that breaks gives nothing."""
+    found = {}
+
+    def keep(row):
+        found[row[0]] = call(*row[1:])
+
+    threads = [threading.Thread(target=keep, args=(row,)) for row in rows]
+    for thread in threads:
+        thread.start()
+    for thread in threads:
+        thread.join()
+    return found
 
 
 def reset_at_close(link):
@@ -157,13 +180,13 @@ class FifoDevice:
 class Client:
     """A client of a daemon: what it sends, and what it is sent by lines or as it comes."""
 
-    def __init__(self, port, buffer=None, seconds=WAIT):
-        self.socket = socket.socket()
+    def __init__(self, port, buffer=None, seconds=WAIT, host="127.0.0.1"):
+        self.socket = socket.socket(socket.AF_INET6 if ":" in host else socket.AF_INET)
         if buffer:
             self.socket.setsockopt(socket.SOL_SOCKET, socket.SO_RCVBUF, buffer)
         self.socket.settimeout(seconds)
         try:
-            self.socket.connect(("127.0.0.1", port))
+            self.socket.connect((host, port))
         except OSError:
             self.socket.close()
             raise
@@ -236,18 +259,19 @@ class Client:
 
 
 class Daemon:
-    """`gpsrelay serve` on a free port of the loopback; `words` are its options and devices."""
+    """`gpsrelay serve` on a free port of the loopback, or at the address `listen`; `words` are its options and devices."""
 
-    def __init__(self, program, *words, port=None, kilobytes=0, environment=None, folder=None):
+    def __init__(self, program, *words, port=None, listen=None, kilobytes=0, files=0, environment=None, folder=None):
         self.port = port or free_port()
+        self.address = listen or f"127.0.0.1:{self.port}"
         self.errors = tempfile.TemporaryFile()
-        self.process = subprocess.Popen(self.call(program, words), stdout=subprocess.PIPE, stderr=self.errors,
-                                        preexec_fn=limited(kilobytes), env={**os.environ, **(environment or {})}, cwd=folder)
+        self.process = subprocess.Popen(self.call(program, words), stdin=subprocess.DEVNULL, stdout=subprocess.PIPE, stderr=self.errors,
+                                        preexec_fn=limited(kilobytes, files), env={**os.environ, **(environment or {})}, cwd=folder)
         self.place, self.has_listened = f"/proc/{self.process.pid}", False
         atexit.register(self.stop)  # whatever breaks the script, no daemon is left
 
     def call(self, program, words):
-        return [program, "serve", "--listen", f"127.0.0.1:{self.port}", *words]
+        return [program, "serve", "--listen", self.address, *words]
 
     def running(self):
         return self.process.poll() is None
@@ -255,6 +279,11 @@ class Daemon:
     def said(self):
         """What it wrote on standard error so far."""
         return os.pread(self.errors.fileno(), 1 << 24, 0).decode(errors="replace")
+
+    def says(self, text, seconds=WAIT):
+        """Waits until it says this, or ends: True, or what it said in its place."""
+        until(lambda: text in self.said() or not self.running(), seconds)
+        return text in self.said() or self.said()
 
     def is_listening(self):
         return "listening at" in self.said()

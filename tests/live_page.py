@@ -10,17 +10,9 @@ import tempfile
 import time
 
 import browser
-from checks import check, free_port
+from harness import Daemon, check, free_port
 
 VIEW = os.path.join(os.path.dirname(os.path.dirname(os.path.abspath(__file__))), "tools", "view.py")
-
-
-def until(wanted, what, seconds=8):
-    """What `what()` gives once it is the wanted one, or the last when the time is over."""
-    end = time.monotonic() + seconds
-    while (found := what()) != wanted and time.monotonic() < end:
-        time.sleep(0.02)
-    return found
 
 
 class View:
@@ -232,30 +224,17 @@ class Drive:
         self.start()
 
     def start(self):
-        self.process = subprocess.Popen([self.program, "serve", "--listen", f"127.0.0.1:{self.port}",
-                                         *[f"{name}=file:{fifo}" for name, fifo in self.fifos.items()]],
-                                        stdout=subprocess.DEVNULL, stderr=subprocess.DEVNULL)
+        self.daemon = Daemon(self.program, *[f"{name}=file:{fifo}" for name, fifo in self.fifos.items()], port=self.port)
         self.feeds = {name: writer(fifo) for name, fifo in self.fifos.items()}
-        until(True, self.connect)
-
-    def connect(self):
-        try:
-            self.client = socket.create_connection(("127.0.0.1", self.port), timeout=10)
-        except ConnectionRefusedError:
-            return False
-        self.client.sendall(b'?WATCH={"json":true};')
-        self.lines = self.client.makefile("rb")
-        while b'"class":"WATCH"' not in self.lines.readline():
-            pass
-        return True
+        self.client = self.daemon.client(seconds=10)
+        self.client.watching()
 
     def drive(self, first, last, device="gps0"):
         """Feeds these seconds, and gives the last TPV that the daemon sends of them: of the second before the last."""
         for sentences in self.seconds[first:last]:
             self.feeds[device].write(sentences)
         clock = f"2024-06-01T10:{15 + (last - 2) // 60}:{(last - 2) % 60:02d}.000Z"
-        while line := self.lines.readline():
-            report = json.loads(line)
+        while report := self.client.object():
             if report["class"] != "TPV":
                 continue
             self.positions += "lat" in report and report["device"] == "gps0"
@@ -264,8 +243,7 @@ class Drive:
         return None
 
     def kill(self):
-        self.process.kill()
-        self.process.wait()
+        self.daemon.stop()
         for feed in self.feeds.values():
             feed.close()
         self.client.close()

@@ -11,7 +11,7 @@ import sys
 import threading
 import time
 
-from harness import check, run_parts, second
+from harness import check, run_parts, second, side_by_side
 
 PROGRAM = os.path.abspath(sys.argv[1])
 LONG, SHORT = 3.5, 0.5
@@ -62,18 +62,9 @@ PIECES = {"decode": second, "pseudo": second, "lines": lambda _: SAID, "replay":
 
 
 def terminals():
-    found = {}
-
-    def look(title, *how):
-        found[title] = shown(*how)
-
     rows = [(word, word, piece, LONG) for word, piece in PIECES.items()]
     rows += [("short", "decode", second, SHORT), ("both", "decode", second, LONG, True)]
-    threads = [threading.Thread(target=look, args=row) for row in rows]
-    for thread in threads:
-        thread.start()
-    for thread in threads:
-        thread.join()
+    found = side_by_side(shown, rows)
     for word in PIECES:
         status, text = found[word]
         check(f"{word}: status", 0, status)

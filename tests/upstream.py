@@ -236,16 +236,7 @@ def refusals():
         ("closed at once", early, 4, Fake(keeps=False)),
     ]
     rows.append(("nobody listens", "connection refused", 4, None))
-    found = {}
-
-    def look(title, wanted, seconds, fake):
-        found[title] = bad_answer(wanted, seconds, fake.port if fake else free_port())
-
-    threads = [threading.Thread(target=look, args=row) for row in rows]
-    for thread in threads:
-        thread.start()
-    for thread in threads:
-        thread.join()
+    found = side_by_side(lambda wanted, seconds, fake: bad_answer(wanted, seconds, fake.port if fake else free_port()), rows)
     for title, *_ in rows:
         for what, wanted, got in found.get(title, [("ran to its end", True, False)]):
             check(f"{title}: {what}", wanted, got)

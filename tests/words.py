@@ -8,10 +8,8 @@ import socket
 import subprocess
 import sys
 import tempfile
-import time
 
-from checks import check, exit_status, free_port
-from packets import sentence
+from harness import Daemon, TcpDevice, check, exit_status, free_port, sentence
 
 PROGRAM = os.path.abspath(sys.argv[1])
 USAGE = "usage: gpsrelay decode|replay|generate|pseudo|lines|serve"
@@ -165,63 +163,39 @@ def statuses():
             check(f"{words!r} to a full disk: the status and one line", (4, 1), (status, errors.count("\n")))
 
 
-class Daemon:
-    def __init__(self, *words, listen="127.0.0.1:0"):
-        self.errors = tempfile.TemporaryFile()
-        self.process = subprocess.Popen([PROGRAM, "serve", "--listen", listen, *words], stdin=subprocess.DEVNULL, stdout=subprocess.DEVNULL,
-                                        stderr=self.errors)
+def started(*words, listen="127.0.0.1:0"):
+    return Daemon(PROGRAM, *words, listen=listen)
 
-    def said(self):
-        self.errors.seek(0)
-        return self.errors.read().decode(errors="replace")
 
-    def says(self, text):
-        """Waits until it has said this."""
-        end = time.monotonic() + WAIT
-        while text not in self.said() and self.process.poll() is None and time.monotonic() < end:
-            time.sleep(0.02)
-        return text in self.said() or self.said()
-
-    def port(self):
-        self.says("listening at ")
-        return int(self.said().partition("listening at ")[2].split()[0].rpartition(":")[2])
-
-    def status(self):
-        try:
-            return self.process.wait(WAIT)
-        except subprocess.TimeoutExpired:
-            return "still running"
-
-    def end(self):
-        self.process.kill()
-        self.process.wait()
+def port_of(daemon):
+    """The port that a daemon got, as it says."""
+    return int(daemon.listening().said().partition("listening at ")[2].split()[0].rpartition(":")[2])
 
 
 def ends(name, daemon, status, *texts):
     """The daemon ends with this status, and has said these."""
-    check(f"{name}: status", status, daemon.status())
+    check(f"{name}: status", status, daemon.wait(WAIT)[0])
     for text in texts:
         says(f"{name}: {text!r}", text, daemon.said())
-    daemon.end()
 
 
 def faults():
-    ends("a file that is missing", Daemon("g=file:/nonexistent/gps"), 3, "file:/nonexistent/gps cannot be opened: no such file")
-    ends("a folder as a device", Daemon("g=file:/tmp"), 3, "file:/tmp ", ": is a directory")
+    ends("a file that is missing", started("g=file:/nonexistent/gps"), 3, "file:/nonexistent/gps cannot be opened: no such file")
+    ends("a folder as a device", started("g=file:/tmp"), 3, "file:/tmp ", ": is a directory")
     closed = free_port()
-    ends("a peer that is not there", Daemon(f"g=tcp:127.0.0.1:{closed}"), 3, f"connecting to tcp:127.0.0.1:{closed}", ": connection refused")
-    ends("a device that ends", Daemon("g=file:/dev/null"), 0, "file:/dev/null has ended")
+    ends("a peer that is not there", started(f"g=tcp:127.0.0.1:{closed}"), 3, f"connecting to tcp:127.0.0.1:{closed}", ": connection refused")
+    ends("a device that ends", started("g=file:/dev/null"), 0, "file:/dev/null has ended")
     with tempfile.TemporaryDirectory() as place:
         path = f"{place}/secret"
         open(path, "w").close()
         os.chmod(path, 0)
         if not os.access(path, os.R_OK):
-            ends("a file that is forbidden", Daemon(f"g=file:{path}"), 3, f"file:{path} cannot be opened: permission denied")
+            ends("a file that is forbidden", started(f"g=file:{path}"), 3, f"file:{path} cannot be opened: permission denied")
     with socket.create_server(("127.0.0.1", 0)) as taken:
         port = taken.getsockname()[1]
-        ends("an address that is taken", Daemon("g=file:/dev/null", listen=f"127.0.0.1:{port}"), 8,
+        ends("an address that is taken", started("g=file:/dev/null", listen=f"127.0.0.1:{port}"), 8,
              f"cannot listen at 127.0.0.1:{port}: address in use")
-    ends("an address of another machine", Daemon("g=file:/dev/null", listen="192.0.2.1:2947"), 8,
+    ends("an address of another machine", started("g=file:/dev/null", listen="192.0.2.1:2947"), 8,
          "cannot listen at 192.0.2.1:2947: address not available")
 
 
@@ -229,52 +203,50 @@ def waiting():
     with tempfile.TemporaryDirectory() as place:
         path = f"{place}/fifo"
         os.mkfifo(path)
-        daemon = Daemon(f"g=file:{path}")
-        check("a FIFO: what is waited for", True, daemon.says(f"waiting for a writer of file:{path}"))
+        fifo = started(f"g=file:{path}")
+        check("a FIFO: what is waited for", True, fifo.says(f"waiting for a writer of file:{path}"))
         with open(path, "wb"):
             pass
-        ends("a FIFO", daemon, 0, f"file:{path} has ended")
+        ends("a FIFO", fifo, 0, f"file:{path} has ended")
 
 
 def terminals():
     master, slave = os.openpty()
     path = os.ttyname(slave)
-    daemon = Daemon(f"g=file:{path}")
-    check("a terminal: how it is set", True, daemon.says(f"file:{path} is a terminal: set it raw first: stty -F {path} raw -echo"))
-    daemon.says("listening at ")
+    terminal = started(f"g=file:{path}")
+    check("a terminal: how it is set", True, terminal.says(f"file:{path} is a terminal: set it raw first: stty -F {path} raw -echo"))
+    terminal.listening()
     os.close(slave)
     os.close(master)
     # Its hang-up is an end or a fault of the read, whichever the system's read meets.
-    check("a terminal that hangs up: status", True, daemon.status() in (0, 3))
-    says("a terminal that hangs up: it is said", f"file:{path} ", daemon.said().partition("listening at ")[2])
-    daemon.end()
+    check("a terminal that hangs up: status", True, terminal.wait(WAIT)[0] in (0, 3))
+    says("a terminal that hangs up: it is said", f"file:{path} ", terminal.said().partition("listening at ")[2])
 
 
 def clients():
     """The port that `:0` got, and the 65th client."""
-    with socket.create_server(("127.0.0.1", 0)) as receiver:
-        receiver.settimeout(WAIT)
-        daemon = Daemon(f"g=tcp:127.0.0.1:{receiver.getsockname()[1]}")
-        link, _ = receiver.accept()
-        port = daemon.port()
-        check("the port that it got is said", True, port > 0 or daemon.said())
-        links = []
-        for _ in range(64):
-            links.append(socket.create_connection(("127.0.0.1", port), WAIT))
-            check_first = links[-1].recv(1)
-            if check_first != b"{":
-                check("64 clients: each is served", b"{", check_first)
-        check("64 clients: none is turned away", True, "turned away" not in daemon.said() or daemon.said())
-        for _ in range(3):
-            further = socket.create_connection(("127.0.0.1", port), WAIT)
-            check("a further client: it is closed without a byte", b"", further.recv(1))
-            further.close()
-        check("a further client: it is said", True, daemon.says("a client was turned away: 64 clients are the most at a time"))
-        check("further clients: it is said once", 1, daemon.said().count("turned away"))
-        for it in links:
-            it.close()
-        link.close()
-        ends("a device that is closed", daemon, 0, "has ended")
+    device = TcpDevice("g")
+    full = started(device.word)
+    device.take()
+    port = port_of(full)
+    check("the port that it got is said", True, port > 0 or full.said())
+    links = []
+    for _ in range(64):
+        links.append(socket.create_connection(("127.0.0.1", port), WAIT))
+        check_first = links[-1].recv(1)
+        if check_first != b"{":
+            check("64 clients: each is served", b"{", check_first)
+    check("64 clients: none is turned away", True, "turned away" not in full.said() or full.said())
+    for _ in range(3):
+        further = socket.create_connection(("127.0.0.1", port), WAIT)
+        check("a further client: it is closed without a byte", b"", further.recv(1))
+        further.close()
+    check("a further client: it is said", True, full.says("a client was turned away: 64 clients are the most at a time"))
+    check("further clients: it is said once", 1, full.said().count("turned away"))
+    for it in links:
+        it.close()
+    device.close()
+    ends("a device that is closed", full, 0, "has ended")
 
 
 for part in words_that_are_refused, helps, statuses, faults, waiting, terminals, clients:

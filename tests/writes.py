@@ -24,7 +24,7 @@ SIZE = 8_000_000
 MOST_WRITES = 800  # of 8 MB: three for each 32 KB that are read ahead, as they make some 70 KB of lines and 32 KB wait at most
 
 
-def second(rng, t):
+def sentences(rng, t):
     """The sentences of one second: position, satellites in use, eleven satellites in view, minimum data."""
     time_of_day = f"{t // 3600 % 24:02}{t // 60 % 60:02}{t % 60:02}.00"
     place = f"{rng.randrange(90):02}{rng.randrange(60):02}.{rng.randrange(100000):05},N,{rng.randrange(180):03}{rng.randrange(60):02}.{rng.randrange(100000):05},E"
@@ -41,7 +41,7 @@ def made(size):
     rng = random.Random(8)
     out, t = bytearray(), 0
     while len(out) < size:
-        out += second(rng, t)
+        out += sentences(rng, t)
         t += 1
     return bytes(out[:size])
 

@@ -5,8 +5,6 @@ that use nothing, an idle machine, writes that signals interrupt. Each check fai
 Use: years.py PROGRAM [NAME..]. Prints a line for each check, and ends with 1 if one fails. NAME picks some of the parts.
 """
 import os
-import re
-import resource
 import signal
 import socket
 import subprocess
@@ -15,8 +13,9 @@ import tempfile
 import threading
 import time
 
-from checks import check, exit_status, free_port
-from packets import sentence
+import harness
+from harness import Client, TcpDevice, check, exit_status, free_port, until
+from packets import second as packets_of
 
 PROGRAM = os.path.abspath(sys.argv[1])
 WATCH = b'?WATCH={"json":true};'
@@ -24,63 +23,27 @@ CLOSE_ALL = "exec 0<&- 1>&- 2>&-"
 
 
 def second(t):
-    return sentence(f"GPRMC,12{t // 60 % 60:02d}{t % 60:02d},A,4807.038,N,01131.000,E,022.4,084.4,010624,,,A")
+    return packets_of(t, "RMC")
 
 
-def until(done, seconds=20):
-    """Whether it comes true in time."""
-    end = time.monotonic() + seconds
-    while not done():
-        if time.monotonic() > end:
-            return False
-        time.sleep(0.02)
-    return True
+class Daemon(harness.Daemon):
+    """A daemon that is started behind the words of a shell, if there are any. It may say nothing, so its clients try until it listens."""
 
+    def __init__(self, *words, shell="", **how):
+        self.shell = shell
+        super().__init__(PROGRAM, *words, **how)
 
-class Device:
-    """A receiver behind TCP."""
-
-    def __init__(self):
-        self.listener = socket.create_server(("127.0.0.1", 0))
-        self.listener.settimeout(20)
-        self.word = f"gps0=tcp:127.0.0.1:{self.listener.getsockname()[1]}"
-        self.link = None
-
-    def take(self):
-        self.link, _ = self.listener.accept()
-        self.link.settimeout(20)
-
-    def end(self):
-        self.link.close()
-        self.listener.close()
-
-
-class Daemon:
-    def __init__(self, *words, files=None, shell="", address=None):
-        self.port = free_port()
-        self.errors = tempfile.TemporaryFile()
-        words = [PROGRAM, "serve", "--listen", address or f"127.0.0.1:{self.port}", *words]
-
-        def limit():
-            if files:
-                resource.setrlimit(resource.RLIMIT_NOFILE, (files, files))
-
-        if shell:
-            words = ["sh", "-c", shell + '; exec "$@"', "sh", *words]
-        self.process = subprocess.Popen(words, stdin=subprocess.DEVNULL, stdout=subprocess.DEVNULL, stderr=self.errors, preexec_fn=limit)
+    def call(self, program, words):
+        words = super().call(program, words)
+        return ["sh", "-c", self.shell + '; exec "$@"', "sh", *words] if self.shell else words
 
     def connect(self, host="127.0.0.1", buffer=None, seconds=10):
+        """A client, or None if it does not listen in time."""
         end = time.monotonic() + seconds
         while True:
-            link = socket.socket(socket.AF_INET6 if ":" in host else socket.AF_INET)
-            if buffer:
-                link.setsockopt(socket.SOL_SOCKET, socket.SO_RCVBUF, buffer)
-            link.settimeout(10)
             try:
-                link.connect((host, self.port))
-                return link
+                return Client(self.port, buffer, 20, host)
             except OSError:
-                link.close()
                 if time.monotonic() > end:
                     return None
                 time.sleep(0.02)
@@ -88,73 +51,32 @@ class Daemon:
     def greets(self, host="127.0.0.1", seconds=10):
         """Whether a client is greeted in time."""
         end = time.monotonic() + seconds
-        while (link := self.connect(host, seconds=max(0, end - time.monotonic()))) is not None:
-            with link:
-                link.settimeout(max(0.1, end - time.monotonic()))
-                if part(link).startswith(b'{"class":"VERSION"'):
-                    return True
+        while (client := self.connect(host, seconds=max(0, end - time.monotonic()))) is not None:
+            said = client.receive(seconds=max(0.1, end - time.monotonic()))
+            client.close()
+            if said and said.startswith(b'{"class":"VERSION"'):
+                return True
             if time.monotonic() > end:
                 break
             time.sleep(0.05)
         return False
 
-    def open_files(self):
-        return len(os.listdir(f"/proc/{self.process.pid}/fd"))
-
-    def switches(self):
-        """How often its threads went to sleep."""
-        total = 0
-        for task in os.listdir(f"/proc/{self.process.pid}/task"):
-            with open(f"/proc/{self.process.pid}/task/{task}/status") as it:
-                total += int(re.search(r"^voluntary_ctxt_switches:\s+(\d+)", it.read(), re.M)[1])
-        return total
-
-    def cpu(self):
-        with open(f"/proc/{self.process.pid}/stat") as it:
-            fields = it.read().rpartition(")")[2].split()
-        return (int(fields[11]) + int(fields[12])) / os.sysconf("SC_CLK_TCK")
-
-    def wait(self, seconds=20):
-        try:
-            return self.process.wait(seconds)
-        except subprocess.TimeoutExpired:
-            self.process.kill()
-            self.process.wait()
-            return "still running"
-
-    def said(self):
-        self.errors.seek(0)
-        return self.errors.read().decode(errors="replace")
-
-
-def part(link):
-    """What comes at once, or nothing at the end."""
-    try:
-        return link.recv(65536)
-    except OSError:
-        return b""
-
-
-def rest(link, seconds=20):
-    """All that comes to the link's end."""
-    link.settimeout(seconds)
-    found = b""
-    while data := part(link):
-        found += data
-    return found
+    def status(self, seconds=20):
+        """Its exit status, once it has ended."""
+        return self.wait(seconds)[0]
 
 
 def started(*words, **how):
-    device = Device()
+    device = TcpDevice()
     daemon = Daemon(*words, device.word, **how)
     device.take()
     return daemon, device
 
 
-def flood(link, data):
+def flood(client, data):
     """Sends as much as goes."""
     try:
-        link.sendall(data)
+        client.send(data)
     except OSError:
         pass
 
@@ -165,46 +87,47 @@ def files():
     check("few files: a client is served", True, daemon.greets())
     before = daemon.open_files()
     for _ in range(100):
-        link = daemon.connect()
-        link.settimeout(5)
-        flood(link, b"?VERSION;" * 10_000)
-        link.close()
+        client = daemon.connect()
+        client.socket.settimeout(5)
+        flood(client, b"?VERSION;" * 10_000)
+        client.close()
     check("100 floods: files are closed", True, until(lambda: daemon.open_files() <= before, 20) or daemon.open_files())
     check("100 floods: a client is served", True, daemon.greets(seconds=5))
     device.end()
-    check("files: status", 0, daemon.wait())
+    check("files: status", 0, daemon.status())
     daemon, device = started("--queue", "65536")
     before = daemon.open_files()
     for more in 0, 50_000:
-        link = daemon.connect()
-        sender = threading.Thread(target=flood, args=(link, b"?FROB;" * (65_537 + more)))
+        client = daemon.connect()
+        sender = threading.Thread(target=flood, args=(client, b"?FROB;" * (65_537 + more)))
         sender.start()
-        found = rest(link)
+        found = client.rest()
         sender.join()
-        link.close()
+        client.close()
         if not more:
             check("65,536 requests are answered, and then the client is closed", 65_536, found.count(b'"ERROR"'))
         check("too many requests: files are closed", True, until(lambda: daemon.open_files() <= before, 5) or daemon.open_files())
     device.end()
-    check("too many requests: status", 0, daemon.wait())
+    check("too many requests: status", 0, daemon.status())
 
 
 def streams():
     """Standard streams that are closed: nothing else takes their numbers."""
     for shell in "exec 2>&-", "exec 0<&- 2>&-", CLOSE_ALL:
         daemon, device = started(shell=shell)
-        link = daemon.connect()
-        part(link)
-        link.sendall(WATCH)
-        device.link.sendall(second(1) + second(2))
+        client = daemon.connect()
+        client.receive()
+        client.send(WATCH)
+        device.send(second(1) + second(2))
         for number in 0, 1, 2:
-            where = os.readlink(f"/proc/{daemon.process.pid}/fd/{number}")
-            check(f"{shell}: number {number}", True, where.startswith("/dev/null") or "socket" not in where and where)
+            where = os.readlink(f"{daemon.place}/fd/{number}")
+            is_closed = f"{number}<&-" in shell or f"{number}>&-" in shell
+            good = where == "/dev/null" if is_closed else not where.startswith("socket:")
+            check(f"{shell}: number {number}", True, good or where)
         device.end()
-        lines = rest(link).split(b"\r\n")[:-1]
+        lines = client.rest().split(b"\r\n")[:-1]
         check(f"{shell}: a client has JSON alone", [], [line for line in lines if not line.startswith(b'{"class"')])
-        device.link.close()
-        check(f"{shell}: status", 4 if "1>" in shell else 0, daemon.wait())
+        check(f"{shell}: status", 4 if "1>" in shell else 0, daemon.status())
     for shell, status in ("exec 1>&-", 4), ("exec 0<&-", 3), (CLOSE_ALL, 3):
         done = subprocess.run(["sh", "-c", shell + '; exec "$@"', "sh", PROGRAM, "decode"], input=second(1) + second(2),
                               stdout=subprocess.DEVNULL, stderr=subprocess.DEVNULL, timeout=20)
@@ -230,20 +153,19 @@ def openings():
     with tempfile.TemporaryDirectory() as folder:
         pipe = os.path.join(folder, "gps")
         os.mkfifo(pipe)
-        device = Device()
+        device = TcpDevice()
         daemon = Daemon(device.word, f"pipe=file:{pipe}")
         check("a pipe without a writer: a client is served", True, daemon.greets(seconds=5))
-        if daemon.process.poll() is None and until(lambda: "waiting for a writer of file:" + pipe in daemon.said(), 3):
+        if daemon.running() and until(lambda: "waiting for a writer of file:" + pipe in daemon.said(), 3):
             check("a pipe without a writer: it is said", True, True)
-            link = daemon.connect()
-            part(link)
-            link.sendall(WATCH)
-            part(link)
+            client = daemon.connect()
+            client.receive()
+            client.send(WATCH)
+            client.receive()
             with open(pipe, "wb") as writer:
                 writer.write(second(1) + second(2))
-            link.settimeout(10)
             found = b""
-            while b'"device":"pipe"' not in found and (data := part(link)):
+            while b'"device":"pipe"' not in found and (data := client.receive(seconds=10)):
                 found += data
             check("the pipe's fixes come once it has a writer", True, b'"device":"pipe"' in found)
             device.take()
@@ -252,42 +174,41 @@ def openings():
             subprocess.run(["timeout", "1", "sh", "-c", f": > {pipe}"], check=False)
             device.take()
         device.end()
-        check("a pipe without a writer: status", 0, daemon.wait())
-        check("a missing file is a fault at once", 3, Daemon(f"gps0=file:{folder}/none").wait(5))
+        check("a pipe without a writer: status", 0, daemon.status())
+        check("a missing file is a fault at once", 3, Daemon(f"gps0=file:{folder}/none").status(5))
 
     listener, waiting = deaf_host()
-    device = Device()
+    device = TcpDevice()
     daemon = Daemon(device.word, f"deaf=tcp:127.0.0.1:{listener.getsockname()[1]}")
     check("a host that does not answer: a client is served", True, daemon.greets(seconds=4))
-    link = daemon.connect(seconds=1)
-    if link:
-        part(link)
+    client = daemon.connect(seconds=1)
+    if client:
+        client.receive()
         device.take()
         time.sleep(6)
         device.end()
-        check("a host that does not answer: status", 3, daemon.wait(5))
-        link.close()
+        check("a host that does not answer: status", 3, daemon.status(5))
+        client.close()
     else:
-        daemon.process.kill()
-        daemon.wait()
+        daemon.stop()
     daemon = Daemon(f"deaf=tcp:127.0.0.1:{listener.getsockname()[1]}")
-    check("a host that does not answer is a fault after five seconds", 3, daemon.wait(8))
+    check("a host that does not answer is a fault after five seconds", 3, daemon.status(8))
     for it in listener, *waiting:
         it.close()
-    device = Device()
+    device = TcpDevice()
     daemon = Daemon(device.word, f"gone=tcp:127.0.0.1:{free_port()}")
     check("a host that refuses: a client is served", True, daemon.greets(seconds=4))
-    if daemon.process.poll() is None:
+    if daemon.running():
         device.take()
         device.end()
-    check("a host that refuses: status", 3, daemon.wait())
+    check("a host that refuses: status", 3, daemon.status())
 
 
-def is_open(link):
-    """Whether its far end has not closed it."""
-    link.setblocking(False)
+def is_open(client):
+    """Whether the daemon has not closed it."""
+    client.socket.setblocking(False)
     try:
-        while data := link.recv(65536):
+        while data := client.socket.recv(65536):
             del data
         return False
     except BlockingIOError:
@@ -300,8 +221,8 @@ def places():
     """64 links that ask nothing give their places back after a minute; those that watch or asked keep theirs."""
     daemon, device = started()
     watching, asking = daemon.connect(), daemon.connect()
-    watching.sendall(WATCH)
-    asking.sendall(b"?VERSION;")
+    watching.send(WATCH)
+    asking.send(b"?VERSION;")
     silent = [daemon.connect() for _ in range(61)]
     trickling = daemon.connect()
     check("64 links: the next is not served", False, daemon.greets(seconds=1))
@@ -309,13 +230,13 @@ def places():
     while time.monotonic() - start < 69:
         flood(trickling, b"?")
         time.sleep(0.5)
-    check("silent links are ended after a minute", 0, sum(is_open(link) for link in silent))
+    check("silent links are ended after a minute", 0, sum(is_open(client) for client in silent))
     check("so is one that ends no request", False, is_open(trickling))
     check("one that watches is not", True, is_open(watching))
     check("nor is one that has asked", True, is_open(asking))
     check("the next client is served", True, daemon.greets())
     device.end()
-    check("places: status", 0, daemon.wait())
+    check("places: status", 0, daemon.status())
 
 
 def idle():
@@ -323,18 +244,18 @@ def idle():
     daemon, device = started()
     clients = [daemon.connect() for _ in range(64)]
     for client in clients:
-        client.sendall(WATCH)
+        client.send(WATCH)
     time.sleep(2)
-    switches, cpu, start = daemon.switches(), daemon.cpu(), time.monotonic()
+    switches, cpu, start = daemon.wakeups(), daemon.cpu(), time.monotonic()
     time.sleep(10)
     seconds = time.monotonic() - start
-    rate, used = (daemon.switches() - switches) / seconds, daemon.cpu() - cpu
+    rate, used = (daemon.wakeups() - switches) / seconds, daemon.cpu() - cpu
     print(f"        64 idle clients: {rate:.2f} wake-ups a second, {used:.2f} s of processor time in {seconds:.1f} s", flush=True)
     check("64 idle clients: below two wake-ups a second", True, rate < 2 or rate)
     check("64 idle clients: no processor time", True, used < 0.02 or used)
     start = time.monotonic()
     device.end()
-    check("64 idle clients: status", 0, daemon.wait())
+    check("64 idle clients: status", 0, daemon.status())
     took = time.monotonic() - start
     print(f"        it ended after {took * 1000:.0f} ms", flush=True)
     check("64 idle clients: the end comes within 0.2 s", True, took < 0.2 or took)
@@ -343,11 +264,11 @@ def idle():
 def signals():
     """A daemon that is stopped and continued while a write to a client waits for room: the client loses nothing."""
     daemon, device = started("--queue", "65536")
-    link = daemon.connect(buffer=2048)
-    link.sendall(WATCH)
+    client = daemon.connect(buffer=2048)
+    client.send(WATCH)
     time.sleep(0.2)
     count = 30_000
-    device.link.sendall(b"".join(second(t) for t in range(count)))
+    device.send(b"".join(second(t) for t in range(count)))
     time.sleep(0.3)
     for _ in range(3):
         daemon.process.send_signal(signal.SIGSTOP)
@@ -355,27 +276,26 @@ def signals():
         daemon.process.send_signal(signal.SIGCONT)
         time.sleep(0.05)
     device.end()
-    check("stopped while it writes: all lines come", count, rest(link).count(b'"TPV"'))
-    check("stopped while it writes: status", 0, daemon.wait())
+    check("stopped while it writes: all lines come", count, client.rest().count(b'"TPV"'))
+    check("stopped while it writes: status", 0, daemon.status())
 
 
 def addresses():
     """It listens where it is told, and a device is found by a name or by a number."""
     for address, hosts in ("[::1]", ["::1"]), ("[::]", ["::1", "127.0.0.1"]), ("localhost", ["localhost"]), ("0.0.0.0", ["127.0.0.1"]):
         port = free_port()
-        device = Device()
-        daemon = Daemon(device.word.replace("127.0.0.1", "localhost"), address=f"{address}:{port}")
-        daemon.port = port
+        device = TcpDevice()
+        daemon = Daemon(device.word.replace("127.0.0.1", "localhost"), port=port, listen=f"{address}:{port}")
         for host in hosts:
             check(f"it listens at {address}, as {host} finds", True, daemon.greets(host, 5))
         device.take()
         device.end()
-        check(f"{address}: status", 0, daemon.wait())
+        check(f"{address}: status", 0, daemon.status())
     listener = socket.create_server(("::1", 0), family=socket.AF_INET6)
     daemon = Daemon(f"gps0=tcp:[::1]:{listener.getsockname()[1]}")
     link, _ = listener.accept()
     link.close()
-    check("a device at [::1]: status", 0, daemon.wait())
+    check("a device at [::1]: status", 0, daemon.status())
 
 
 def main():

@@ -1,5 +1,5 @@
 #!/usr/bin/env python3
-"""Measures `gpsrelay decode` on made inputs, and on the same bytes gpsd's `gpsdecode` where it is installed, and where `cc` is
+"""Measures `gpsrelay decode` on made inputs, and on the same bytes gpsd's `gpsdecode` if it is installed, and if `cc` is
 installed a C program that writes the same lines (decode.c, built with -O2).
 
     python3 bench/bench.py [PROGRAM] [ROUNDS]
@@ -145,7 +145,7 @@ def made(make, path):
 
 
 def built(folder):
-    """The C program, or None where there is no C compiler."""
+    """The C program, or None if there is no C compiler."""
     compiler = shutil.which("cc")
     if not compiler:
         return None

@@ -5,7 +5,7 @@ Use: compare_decoders.py LOG PROGRAM. LOG holds what a receiver sent. Printed: h
 for each field how often it was equal, differed by rounding alone, stood on one side alone, or differed otherwise, with the largest
 difference. Needs gpsdecode (Debian: gpsd-tools).
 
-Fixes pair where their times are at most 5 ms apart; whole turns of 1,024 weeks are taken off first. Of several reports that gpsdecode
+Fixes pair if their times are at most 5 ms apart; whole turns of 1,024 weeks are taken off first. Of several reports that gpsdecode
 gives for one time the first one is compared. A sky pairs with the last SKY that gpsdecode gave for that time.
 """
 import json

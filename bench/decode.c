@@ -253,7 +253,7 @@ static void read_frame(Text frame, size_t len) {
     if (note.kind == EOE) close_epoch();
 }
 
-/* ---- packets: the bytes that are taken from `at` on, 0 where more must come first */
+/* ---- packets: the bytes that are taken from `at` on, 0 if more must come first */
 
 static size_t take_sentence(Text at, size_t left) {
     size_t len = 0;

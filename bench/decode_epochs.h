@@ -185,7 +185,7 @@ static void add_used(uint32_t id, int system) {
     used[used_len++].system = system;
 }
 
-/* the calendar goes on, and an epoch closes where this note begins another */
+/* the calendar goes on, and an epoch closes if this note begins another */
 static void meet(const Said *note) {
     if (!note->day.has) {
         if (last_tod.has && note->tod.has && last_tod.is - note->tod.is > DAY / 2 && known_day.has)

@@ -1,5 +1,5 @@
 #!/usr/bin/env python3
-"""Measures the daemon as its clients see it, and gpsd beside it where it is installed.
+"""Measures the daemon as its clients see it, and gpsd beside it if it is installed.
 
 Use: fan_out.py PROGRAM [SENTENCES [CLIENTS]]. A receiver behind TCP sends sentences as fast as they are taken; the clients watch in JSON.
 Printed: the time until all have all lines, the daemon's processor time a line, whether all streams are the same, peak memory (with

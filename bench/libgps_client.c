@@ -2,7 +2,7 @@
  *
  * cc -o libgps_client libgps_client.c -lgps -lm; ./libgps_client HOST PORT [READS]
  *
- * It watches in JSON with pulses, reads READS times (12 where left out), and prints what each read changed. A TOFF and a PPS are both
+ * It watches in JSON with pulses, reads READS times (12 by default), and prints what each read changed. A TOFF and a PPS are both
  * printed from `pps`: libgps 3.22 lays the numbers of a TOFF there too. */
 #include <gps.h>
 #include <stdio.h>

@@ -54,7 +54,7 @@ ESCAPES = {"\\e": "\\", "\\-": "-", "\\&": "", "\\(aq": "'", "\\(dq": '"', "\\(h
 
 
 class Block:
-    """A marked block: where it stands, what its comment says, and its commands, each with the lines that are shown of it (None where
+    """A marked block: where it stands, what its comment says, and its commands, each with the lines that are shown of it (None if
     nothing is compared)."""
 
     def __init__(self, place, words):

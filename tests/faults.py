@@ -60,7 +60,7 @@ def reader_goes():
                 had += more
             os.close(reader)
             status = process.wait(WAIT)
-            # Where all that was left fits into the pipe the program may have ended before.
+            # If all that was left fits into the pipe the program may have ended before.
             check(f"{words[0]}, its reader goes after {count} bytes", (True, True),
                   (due.startswith(had), status == 4 or status == 0 and len(due) - count <= 4096))
 

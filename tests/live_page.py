@@ -314,7 +314,7 @@ def the_drive(chromium, drive, shots):
             check(f"page: {colours}", PAPER[colours], chromium.wait("getComputedStyle(document.body).backgroundColor", PAPER[colours]))
             chromium.screenshot(os.path.join(shots, f"view-{width}-{colours}.png"))
     chromium.prefer(reduced_motion="reduce")
-    check("page: nothing moves where motion is not wanted", "none",
+    check("page: nothing moves if motion is not wanted", "none",
           chromium.value("getComputedStyle(document.getElementById('status'), '::before').animationName"))
 
 
@@ -363,7 +363,7 @@ def gone_and_back(chromium, drive, shots):
 
 
 def run(program, shots):
-    """All of it; that of the browser where one is installed."""
+    """All of it; that of the browser if one is installed."""
     os.makedirs(shots, exist_ok=True)
     over_http()
     path = browser.installed()

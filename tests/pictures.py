@@ -1,8 +1,8 @@
 #!/usr/bin/env python3
 """tools/track.py and tools/view.py over the built program: the picture of the sample drive against the geometry that made it, and
-the live page against the lines that the daemon sends, in a real browser where one is installed.
+the live page against the lines that the daemon sends, in a real browser if one is installed.
 
-Use: pictures.py PROGRAM [FOLDER]. Screenshots of the page are left in FOLDER where it is given. Prints a line for each check, and
+Use: pictures.py PROGRAM [FOLDER]. Screenshots of the page are left in FOLDER if it is given. Prints a line for each check, and
 ends with 1 if one fails.
 """
 import json
@@ -106,7 +106,7 @@ def scales(picture, words):
 
 
 def sky(picture):
-    """Each satellite is at its azimuth and elevation, and filled where it is used."""
+    """Each satellite is at its azimuth and elevation, and filled if it is used."""
     horizon = next(part for part in picture.iter(SVG + "circle") if part.get("class") == "axis")
     x, y, radius = (float(horizon.get(name)) for name in ("cx", "cy", "r"))
     found = [(part.get("class"), float(part.get("cx")), float(part.get("cy"))) for part in by_id(picture, "satellites")]

@@ -132,7 +132,7 @@ def helps():
 
 
 def statuses():
-    """One line at each status but 0; nothing at 0 where all is well."""
+    """One line at each status but 0; nothing at 0 if all is well."""
     good = run("decode", RMC)
     check("decode of a sentence: nothing is said", (0, ""), (good[0], good[2]))
     empty = run("decode", b"")

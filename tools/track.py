@@ -69,7 +69,7 @@ class Satellite:
 
 
 class Sky:
-    """One SKY line. A satellite that is seen with several signals is one here, used where one of them is."""
+    """One SKY line. A satellite that is seen with several signals is one here, used if one of them is."""
 
     def __init__(self, report):
         self.hdop = number(report, "hdop", 0)
@@ -126,7 +126,7 @@ class Run:
 
 
 def number(report, name, low=-1e9, high=1e9):
-    """The number that a member has, or None where it is absent. Anything else makes the line a bad one."""
+    """The number that a member has, or None if it is absent. Anything else makes the line a bad one."""
     value = report.get(name)
     if value is None:
         return None
@@ -136,7 +136,7 @@ def number(report, name, low=-1e9, high=1e9):
 
 
 def seconds_of(text):
-    """The seconds since 1970 of a time as `2024-06-01T10:15:13.000Z`, or None where there is none."""
+    """The seconds since 1970 of a time as `2024-06-01T10:15:13.000Z`, or None if there is none."""
     if text is None:
         return None
     if not isinstance(text, str) or not TIME_FORM.fullmatch(text):
@@ -176,7 +176,7 @@ def read_run(source):
 
 
 def chosen_device(run, wanted):
-    """The device to draw, or None where the one that is wanted is in no line."""
+    """The device to draw, or None if the one that is wanted is in no line."""
     devices = run.devices()
     if wanted is None:
         return devices[0] if devices else ""

@@ -71,7 +71,7 @@ def step_metres(one, other):
 
 
 def distance(placed):
-    """The way along all fixes, in metres; straight on where there was no fix for a while."""
+    """The way along all fixes, in metres; straight on if there was no fix for a while."""
     return sum(step_metres(one, other) for one, other in zip(placed, placed[1:]))
 
 
@@ -232,7 +232,7 @@ def sky_place(satellite, x, y, radius):
 
 
 def satellites(sky, x, y, radius):
-    """The plot: a mark for each satellite, filled where it is used, and its PRN beside it."""
+    """The plot: a mark for each satellite, filled if it is used, and its PRN beside it."""
     placed = [satellite for satellite in sky.satellites if satellite.has_place]
     spots = [sky_place(satellite, x, y, radius) for satellite in placed]
     circles, letter_boxes = rings(x, y, radius)
@@ -279,7 +279,7 @@ def legend(sky):
 # The strips
 
 class Axis:
-    """The axis of time of both strips: the seconds of the fixes, or their numbers where no line tells a time."""
+    """The axis of time of both strips: the seconds of the fixes, or their numbers if no line tells a time."""
 
     def __init__(self, fixes, left, width):
         self.timed = any(fix.time is not None for fix in fixes)
@@ -349,7 +349,7 @@ def value_range(values, floor, least):
 
 
 def strip(box, axis, heading, unit, runs, lost, floor=None, least=8, with_times=False):
-    """One value over time. `floor` is the lower end of its axis where that is fixed, `least` the smallest length of its axis."""
+    """One value over time. `floor` is the lower end of its axis if that is fixed, `least` the smallest length of its axis."""
     left, top, width, height = box
     parts = panel(box, f"{heading}, {unit}")
     if not runs:
@@ -376,7 +376,7 @@ def strip(box, axis, heading, unit, runs, lost, floor=None, least=8, with_times=
 
 
 def strip_line(pixels, bottom):
-    """The line of one run, with a tint down to the bottom where that is given."""
+    """The line of one run, with a tint down to the bottom if that is given."""
     ended = "Z" if len(pixels) == 1 else ""
     found = [f'<path class="track thin" d="M{points(pixels)}{ended}"/>']
     if bottom is not None:
@@ -385,7 +385,7 @@ def strip_line(pixels, bottom):
 
 
 def lost_bands(lost, axis, top, bottom):
-    """A grey band over each time without a fix, with a word where there is room for it."""
+    """A grey band over each time without a fix, with a word if there is room for it."""
     found = []
     for since, until in lost:
         x, width = axis.place(since), axis.place(until) - axis.place(since)

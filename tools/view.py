@@ -70,7 +70,7 @@ def numbers_of(report, ranges):
 
 
 def fix_of(report):
-    """A TPV as the page gets it, or None where it has no mode. Below mode 2 it has no position."""
+    """A TPV as the page gets it, or None if it has no mode. Below mode 2 it has no position."""
     if not is_number(report.get("mode"), 0, 3):
         return None
     fix = {"mode": int(report["mode"]), **numbers_of(report, TPV_RANGES)}
@@ -82,7 +82,7 @@ def fix_of(report):
 
 
 def sky_of(report):
-    """A SKY as the page gets it: one entry for each satellite, used where one of its signals is. None where it has no list."""
+    """A SKY as the page gets it: one entry for each satellite, used if one of its signals is. None if it has no list."""
     if not isinstance(report.get("satellites"), list):
         return None
     found = {}
@@ -97,7 +97,7 @@ def sky_of(report):
 
 
 class Device:
-    """What is known of one device. `points` are its last positions, None where the fix was lost between; `count` is how many
+    """What is known of one device. `points` are its last positions, None if the fix was lost between; `count` is how many
     there were in all, so that a browser knows which of them it has."""
 
     def __init__(self):
@@ -171,7 +171,7 @@ class Board:
             self.touch()
 
     def take_report(self, report):
-        """False where a report of a class that is drawn cannot be read."""
+        """False if a report of a class that is drawn cannot be read."""
         kind = report.get("class")
         if kind == "DEVICES":
             return self.take_devices(report.get("devices"))
@@ -191,7 +191,7 @@ class Board:
         return True
 
     def device(self, name):
-        """The device of a name, which is a new one where the name is; None where it is no name or there are too many."""
+        """The device of a name, a new one if the name is new. None if it is no name, or if there are too many."""
         if not isinstance(name, str) or not 0 < len(name) <= 200:
             return None
         if name not in self.devices and len(self.devices) < MOST_DEVICES:
@@ -251,7 +251,7 @@ class DaemonLink(threading.Thread):
             pause = min(pause * 2, LONGEST_PAUSE)
 
     def follow(self, link):
-        """Hands on the lines of one link until it ends. True where there was one."""
+        """Hands on the lines of one link until it ends. True if there was one."""
         link.settimeout(None)
         keep_alive(link)
         link.sendall(WATCH)
@@ -265,7 +265,7 @@ class DaemonLink(threading.Thread):
 
 
 def keep_alive(link):
-    """Lets the system find out within 15 seconds that the other machine is gone, where it can."""
+    """Lets the system find out within 15 seconds that the other machine is gone, if it can."""
     link.setsockopt(socket.SOL_SOCKET, socket.SO_KEEPALIVE, 1)
     for name, value in ("TCP_KEEPIDLE", 6), ("TCP_KEEPINTVL", 3), ("TCP_KEEPCNT", 3):
         if hasattr(socket, name):

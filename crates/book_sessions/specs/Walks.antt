@@ -1,4 +1,4 @@
--- A walk over some elements of a list, by their numbers: a step of the roster's own, of which no public clause speaks.
+-- A walk over some elements of a list, by their numbers: a step of the roster's own. No public clause speaks of it.
 use Rattle.std.specs.Prelude.{◌≡◌, ℕ, ◌+◌, Bool, false, List, [], ◌∷◌, slice_get, slice_index_or, slice_set, Option, Some, None, if◌then◌else◌}
 
 -- the numbers, from n on, of the elements that pass

@@ -1,4 +1,4 @@
-//! All sessions of a run, by number, of which few are open: what each is answered, what is spread to it, its closing
+//! All sessions of a run, by number, also those that are closed: what each is answered, what is spread to it, its closing
 //! and the turn. No call walks over sessions that were closed before this generation. This project's own.
 #![tactic(auto)]
 

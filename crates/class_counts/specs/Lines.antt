@@ -27,7 +27,7 @@ AreRead (v ∷ values) (line ∷ lines) = IsRead v line × AreRead values lines
 abbrev pub IsBad : List ℕ → Type 0
 IsBad line = (is_too_long limit line ≡ true) ⊎ ((v : Line) → IsLineOf v line → ⊥)
 
--- a line of which too much was read is known before its end was read
+-- a line that is too long is known before its end was read
 abbrev pub long_line : List ℕ → List (List ℕ)
 long_line line = if is_too_long limit line then line ∷ [] else []
 

@@ -96,7 +96,7 @@ Looked (Waiting watched) d x y lasts end old new = ⊥
 Looked Done d x y lasts end old new = ⊥
 Looked (Refused fault) d x y lasts end old new = GotOne x y × (fault ≡ NoMemory) × (end ≡ Some LostNoMemory)
 
--- how a device ends by what was got of its lanes, of which the book refused nothing
+-- how a device ends by what was got of its lanes, if the book refused nothing of it
 abbrev pub end_told : InletsView → Option DeviceEnd
 end_told x = end_by [] (ending_of x.bytes.got) (edge_ending x.edges (got_of x.edges))
 

@@ -144,7 +144,7 @@ impl<J: HubNaming, R: Wait + Copy> Hub<J, R> {
     }
 
     /// Gets a piece of one lane of a device and gives it to the book. A device whose lanes have both told how their source ended has stopped;
-    /// so has one of which the book refuses a piece, which is lost.
+    /// so has one if the book refuses a piece of it, and then it is lost.
     pub fn device_piece(&mut self, d: u8) -> Pumped
         requires { d < length J.terms.names }
         ensures pumped { DevicePumped result d self.old self.new }
@@ -168,8 +168,8 @@ impl<J: HubNaming, R: Wait + Copy> Hub<J, R> {
         pumped
     }
 
-    /// Gets a piece of a session's input lane and gives it to the book. A session whose source has ended is hung up; so is one of which the
-    /// book refuses a piece, and no request of that piece is answered.
+    /// Gets a piece of a session's input lane and gives it to the book. A session whose source has ended is hung up; so is one if the
+    /// book refuses a piece of it, and no request of that piece is answered.
     pub fn session_piece(&mut self, s: u32) -> Pumped
         requires { s < length self.old.inputs }
         ensures pumped { SessionPumped result s self.old self.new }

@@ -1,4 +1,4 @@
--- Pieces on their way to a sink, of which the last may wait for further ones.
+-- Pieces on their way to a sink. The last may wait for further ones.
 use Rattle.std.specs.Prelude.{◌≡◌, ℕ, List, ◌++◌, Option, Bool, true, false}
 use Rattle.gps_outside.specs.Told.{Goes, Appends, AppendsPart}
 

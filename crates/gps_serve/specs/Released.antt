@@ -1,4 +1,4 @@
--- The lanes of a session that has ended, of which what they hold is got while the daemon runs.
+-- The lanes of a session that has ended. What they hold is got while the daemon runs.
 use Rattle.std.specs.Prelude.{◌≡◌, ◌<◌, ℕ, List, [], ◌∷◌, ◌++◌, length, get_or, Option}
 use Rattle.gps_lane.specs.Ends.{Putting, Taking}
 use Rattle.hub_door.specs.Admissions.{Admissions, SessionLanes}

@@ -40,7 +40,7 @@ pub(crate) fn with_list<'a>(
     command.arg(list)
 }
 
-/// What clap reads from a command's words, of which the first is the command's name.
+/// What clap reads from a command's words, the first of which is the command's name.
 pub(crate) fn matches_in<'a>(
     command: Command<'a>,
     words: &'a [String],

@@ -15,7 +15,7 @@ use std::time::{self, Duration};
 /// How many seconds a device is silent before that is said.
 const SILENCE: u64 = 60;
 
-/// Says, when it is dropped, that a link was dropped of which nothing was read.
+/// Says, when it is dropped, that a link was dropped before anything of it was read.
 pub struct Ticket {
     dropped: Arc<AtomicBool>,
 }

@@ -1,5 +1,5 @@
-//! What the door worker of the running daemon holds beside the hub: a list of the sessions that were admitted, of which each side knows
-//! the same. The hub stands behind a lock, which forgets; the seat that the door worker holds does not. This project's own.
+//! What the door worker of the running daemon holds beside the hub: a list of the sessions that were admitted. Each side knows the
+//! same of it. The hub stands behind a lock, which forgets; the seat that the door worker holds does not. This project's own.
 #![tactic(auto)]
 
 mod keeper;

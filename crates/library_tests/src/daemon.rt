@@ -166,7 +166,7 @@ fn one_client(
     Ok(plan)
 }
 
-/// Two clients, of which the first is not written to before the second one was.
+/// Two clients. The first is not written to before the second one was.
 fn two_clients(alloc: Global) -> Result<Vec<DoorPlan<MemorySource, CountingSink>>, NoMemory>
     ensures { IfOk result (λ plan. HaveLinks
         (λ source. IsUnread (Some source.stream) source.faults source.quiets)

@@ -37,7 +37,7 @@ fn steps(hand: &HandOff, taker: &mut Taker, most: u32) -> Option<TakeStep>
     ended
 }
 
-/// A sample to begin, stores, and steps of the taker of which the last ended a reading so.
+/// A sample to begin, stores, and steps of the taker, the last of which ended a reading so.
 #[derive(Clone, Copy)]
 struct Round {
     begins: Option<u32>,

@@ -51,7 +51,7 @@ fn loads(segment: &Segment, monitor: &mut Monitor, most: u32) -> Option<Reading>
     ended
 }
 
-/// A sample to begin, stores, and loads of which the last ended a reading so.
+/// A sample to begin, stores, and loads, the last of which ended a reading so.
 #[derive(Clone, Copy)]
 struct Round {
     begins: Option<(u32, u32)>,

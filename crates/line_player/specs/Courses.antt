@@ -48,7 +48,7 @@ due_at_end rules course (Some line) = course.written ++ bad_line line
 abbrev pub ended_texts : {X : Type 0} → Rules X → List ℕ → List (List ℕ)
 ended_texts rules bytes = map (text_in rules.limit) (lines bytes)
 
--- a line of which too much was read is known before its end was read
+-- a line that is too long is known before its end was read
 abbrev pub long_texts : {X : Type 0} → Rules X → List ℕ → List (List ℕ)
 long_texts rules line = cond (is_too_long rules.limit line) (text_in rules.limit line ∷ []) []
 

@@ -6,7 +6,7 @@ use gps_report::Position;
 
 const DEGREE: u64 = 1_000_000_000;
 
-/// Nanodegrees of degrees and minutes, of which a degree has 60 * 10^7.
+/// Nanodegrees of degrees and minutes; minutes are in units of 1e-7, so a degree has 60 * 10^7.
 fn angle_within(n: u64, most: u64) -> Option<u64>
     requires few { n < 10 ^ 12 }
     requires most { most ≤ 180 }

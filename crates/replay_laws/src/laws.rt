@@ -9,7 +9,7 @@ ghost use Rattle.replay_laws.specs.Readings.{IsOfPublished, lines_of, readings_a
 
 /// Each sample that a monitor takes is the published sample of its number: the number is above the unit's first number, by no more
 /// than the number of samples that are published at that line (`published`). The numbers that one monitor takes do not fall
-/// (`in_order`). It is said of the lines of any script, of which those up to the first refused one are run.
+/// (`in_order`). It is said of the lines of any script; those up to the first refused one are run.
 pub fn monitors_take_published_samples()
     ensures published { (queue : ℕ) (lines : List (List ℕ)) → AllByRecursion IsOfPublished (readings_of queue lines) }
     ensures in_order { (queue monitor : ℕ) (lines : List (List ℕ)) → Rises 0 (taken_by monitor (readings_of queue lines)) }

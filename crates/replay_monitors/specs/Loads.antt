@@ -18,7 +18,7 @@ next_value words reading = slice_index words (next_word reading)
 abbrev pub with_next : List ℕ → List ℕ → List ℕ
 with_next words reading = reading ++ next_value words reading ∷ []
 
--- these values are those of a whole reading: two of which valid is 0, or twelve
+-- these values are those of a whole reading: two, the second of which (valid) is 0, or twelve
 abbrev pub is_whole : List ℕ → Bool
 is_whole values = (length values == 2 && slice_index values 1 == 0) || length values == 12
 

@@ -1,4 +1,4 @@
-//! One load of which the book knows before and after.
+//! One load, and what the book knows before and after it.
 
 ghost use Rattle.std.specs.Prelude.{◌≡◌, ◌<◌, length, get_or};
 ghost use Rattle.shm_segment.specs.Publishing.{noticed, words_now};

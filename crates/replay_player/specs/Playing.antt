@@ -50,7 +50,7 @@ pub record Watches (b : BookView) (w : UnitMonitorView) (t : MonitorState) : Typ
   pub reading : w.reading ≡ t.reading
   pub of : IsOf w b
 
--- the stage over a log of which this part is forgotten
+-- the stage over a log whose first part, this one, is forgotten
 pub record Standing (s : ReplayBookView) (before : List Entry) (firsts : List ℕ) (clients : List Client) (stores : List ℕ) (watches : List MonitorState) : Type 0 where
   pub stands : StandsFor s.book.log.opening before
   pub clients_are : AllZip (Attends s.book.names before s.book.log.log) s.book.sessions clients

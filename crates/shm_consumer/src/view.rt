@@ -3,7 +3,7 @@ use std::collections::LinkedList;
 
 /// What a seat is.
 pub enum Role {
-    /// The first seat, of which the giver's and the taker's are made.
+    /// The first seat. The giver's and the taker's are made of it.
     Opens,
     Gives,
     Takes,

@@ -107,7 +107,7 @@ IsEdgeHeld behind content (Some place) None = ⊥
 abbrev pub IsNoneOf : Place → List Place → Type 0
 IsNoneOf other places = AllByRecursion (λ (place : Place). other ≢ place) places
 
--- there is one more, of which P holds
+-- there is one more, and P holds of it
 abbrev pub HasOneMore : {X : Type 0} → (X → Type 0) → List X → List X → Type 0
 HasOneMore {X} P old new = (x : X) × (new ≡ old ++ x ∷ []) × P x
 

@@ -1,6 +1,7 @@
 #!/usr/bin/env python3
 """Faults of the outside, over the built program: full disks, readers that go, bytes that come and go one by one, inputs that cannot be
-read, clients that reset their link at each point of a conversation, and a daemon that is stopped and continued. Every wait is bounded.
+read, clients that reset their link at each point of a conversation, a daemon that is stopped and continued, and readers that wait at a
+FIFO at the daemon's end. Every wait is bounded.
 
 Use: faults.py PROGRAM. Prints a line for each check, and ends with 1 if one fails.
 """
@@ -14,7 +15,7 @@ import sys
 import threading
 import time
 
-from harness import Daemon, TcpDevice, check, free_port, run, run_parts, sample_path, second, until, within
+from harness import Daemon, FifoDevice, TcpDevice, check, free_port, run, run_parts, sample_path, second, until, within
 
 PROGRAM = os.path.abspath(sys.argv[1])
 DRIVE, SCRIPT = sample_path("drive.nmea"), sample_path("two_devices.script")
@@ -208,4 +209,70 @@ def stopped():
     check("stopped and continued: status", 0, status)
 
 
-sys.exit(run_parts(full_disk, reader_goes, byte_by_byte, no_input, resets, narrow, stopped))
+def is_read(path):
+    """Whether somebody has this FIFO open for reading."""
+    try:
+        os.close(os.open(path, os.O_WRONLY | os.O_NONBLOCK))
+        return True
+    except OSError:
+        return False
+
+
+def lose(daemon, device, readers):
+    """Loses a device for lack of memory. Its sentences come one by one until only the threads of this number of readers and the calling
+    one are left, and nothing comes behind the last."""
+    daemon.starve()
+    for t in range(100):
+        device.send(rmc(t))
+        if until(lambda: not daemon.running() or daemon.threads() <= 1 + readers, 0.2):
+            break
+
+
+def waiting_readers():
+    """At the daemon's end the reader of a device waits for the next byte, and that of its edges for a writer. Both are woken."""
+    device, edges = FifoDevice("g"), FifoDevice("g", "edges")
+    edges.end()
+    daemon = Daemon(PROGRAM, device.word, edges.word).listening()
+    until(lambda: daemon.said().count("waiting for a writer") == 2)
+    lose(daemon, device, 2)
+    check("no memory, while readers wait at FIFOs: status", 7, daemon.wait(10)[0])
+    device.close()
+    edges.close()
+
+
+def waiting_writer():
+    """No reader waits at the daemon's end, and a writer waits at a FIFO for the next daemon. It waits on."""
+    device, other = FifoDevice("g"), TcpDevice("h")
+    daemon = Daemon(PROGRAM, device.word, other.word).listening()
+    other.take()
+    device.alone()
+    check("a FIFO is opened", True, until(lambda: is_read(device.path)))
+    device.end()
+    check("a FIFO that has ended is closed", True, until(lambda: not is_read(device.path)))
+    writer = threading.Thread(target=lambda: os.close(os.open(device.path, os.O_WRONLY)), daemon=True)
+    writer.start()
+    other.end()
+    check("a writer waits at a FIFO for the next daemon: status", 0, daemon.wait(10)[0])
+    check("a writer waits at a FIFO for the next daemon: it waits on", False, until(lambda: not writer.is_alive(), 1))
+    os.close(os.open(device.path, os.O_RDONLY | os.O_NONBLOCK))
+    writer.join(WAIT)
+    device.close()
+
+
+def replaced():
+    """A file that has taken the place of a FIFO is not written into. The reader at the FIFO is not woken then."""
+    device = FifoDevice("g")
+    device.alone()
+    daemon = Daemon(PROGRAM, device.word).listening()
+    until(lambda: is_read(device.path))
+    os.remove(device.path)
+    open(device.path, "wb").close()
+    lose(daemon, device, 1)
+    check("no memory, and a file in the place of the FIFO: it stays empty", (True, b""),
+          (not until(lambda: not daemon.running(), 1), content(device.path)))
+    device.send(b"\n")
+    check("no memory, and a file in the place of the FIFO: status, after one more byte", 7, daemon.wait(10)[0])
+    device.close()
+
+
+sys.exit(run_parts(full_disk, reader_goes, byte_by_byte, no_input, resets, narrow, stopped, waiting_readers, waiting_writer, replaced))

@@ -305,6 +305,10 @@ class Daemon:
         """Its exit status and what it wrote, once it ends by itself; it is killed if it does not."""
         return end_process(self.process, seconds)
 
+    def starve(self):
+        """From here on it gets no more memory than it has."""
+        resource.prlimit(self.process.pid, resource.RLIMIT_DATA, (0, 0))
+
     def stop(self):
         """Kills it if it still runs."""
         if self.running():

@@ -37,13 +37,15 @@ pub(crate) enum Burst {
     Over,
 }
 
-/// What stands behind the lock: the hub, how many devices and units it has, and the bells of each session.
+/// What stands behind the lock: the hub, how many devices and units it has, the bells of each session, and whether the book refused a piece of
+/// a device. Such a device is lost, and its readers may still read.
 #[derive(Drop)]
 pub(crate) struct Floor<J: HubNaming, R: Wait + Copy> {
     pub(crate) hub: Hub<J, R>,
     pub(crate) devices: u8,
     pub(crate) units: u8,
     pub(crate) sessions: Vec<Arc<SessionBells>>,
+    pub(crate) has_refused: bool,
     pub(crate) ghost devices_are: { devices ≡ length J.terms.names },
     pub(crate) ghost units_are: { units ≡ length J.terms.segments },
 }
@@ -55,7 +57,11 @@ impl<J: HubNaming, R: Wait + Copy> Floor<J, R> {
             return false;
         }
         match self.hub.device_piece(device) {
-            Pumped::Fed | Pumped::Refused(_) => true,
+            Pumped::Fed => true,
+            Pumped::Refused(_) => {
+                self.has_refused = true;
+                true
+            }
             Pumped::Empty | Pumped::Waiting { watched: _ } | Pumped::Done => false,
         }
     }

@@ -22,6 +22,7 @@ mod served;
 mod settling;
 mod starts;
 mod status;
+mod waker;
 
 pub use laws::ended_devices_are_logged_whole;
 pub use serve_end_parts::{

@@ -13,6 +13,7 @@ use crate::floor::Floor;
 use crate::pump::{publish, pump};
 use crate::readers::{DeviceWork, join_readers, start_readers};
 use crate::starts::DeviceStart;
+use crate::waker::{Waker, wake_readers};
 use gps_fixed::NoMemory;
 use gps_hub::HubNaming;
 use gps_outside::{Clock, Door, Sink, Source};
@@ -226,6 +227,7 @@ fn work<
     J: HubNaming + Send + Sync + 's,
     D: Dials + Send + Sync + 's,
     R: Threads + Wait + Copy + Send + Sync + 's,
+    V: Waker,
 >(
     rt: R,
     alloc: Global,
@@ -233,6 +235,7 @@ fn work<
     floor: &'s Mutex<Floor<J, R>>,
     clock: &'s Mutex<SharedClock<C, D>>,
     bells: &'s Bells,
+    waker: &V,
     tries: u32,
     setup: Setup<S, K, G, D, J, R>,
 ) -> Option<Ended<S, K, G, J, R>>
@@ -269,7 +272,9 @@ fn work<
     if let Some(closer) = closer {
         closer.close();
     }
+    let held = wake_readers(&rt, floor, waker);
     let runs = join_devices(&rt, works, runs);
+    drop(held);
     let watched = join_watchers(&rt, watching, watched);
     publisher.join(&rt);
     let door = door.join(&rt);
@@ -290,12 +295,14 @@ pub(crate) fn in_scope<
     J: HubNaming + Send + Sync + 'e,
     D: Dials + Send + Sync + 'e,
     R: Threads + Wait + Copy + Send + Sync + 'e,
+    V: Waker,
 >(
     rt: R,
     alloc: Global,
     floor: &'e Mutex<Floor<J, R>>,
     clock: &'e Mutex<SharedClock<C, D>>,
     bells: &'e Bells,
+    waker: &V,
     tries: u32,
     setup: Setup<S, K, G, D, J, R>,
 ) -> Option<Ended<S, K, G, J, R>>
@@ -310,6 +317,6 @@ pub(crate) fn in_scope<
     thread::scope(
         thread::scope_env(),
         &rt,
-        move |scope| work(rt, alloc, scope, floor, clock, bells, tries, setup),
+        move |scope| work(rt, alloc, scope, floor, clock, bells, waker, tries, setup),
     )
 }

@@ -262,6 +262,7 @@ fn floor_of<J: HubNaming, R: Wait + Copy>(alloc: Global, hub: Hub<J, R>, devices
         devices,
         units: 2 * devices,
         sessions: Vec::new(alloc),
+        has_refused: false,
     }
 }
 
@@ -360,7 +361,16 @@ fn run<
     let Ok(setup) = set_up::<W::In, W::Out, W::Gate, D, J, R>(alloc, starts, watchers, door) else {
         return nothing(alloc, world, Stop::NoMemory);
     };
-    let Some(ended) = in_scope(rt, alloc, &floor, &clock, &bells, numbers.tries, setup) else {
+    let Some(ended) = in_scope(
+        rt,
+        alloc,
+        &floor,
+        &clock,
+        &bells,
+        &world,
+        numbers.tries,
+        setup,
+    ) else {
         return nothing(alloc, world, Stop::NoMemory);
     };
     let Floor {
@@ -368,6 +378,7 @@ fn run<
         devices: _,
         units: _,
         sessions: _,
+        has_refused: _,
     } = shut(&rt, floor.into_inner());
     gather::<W, J, D, R>(&rt, hub, ended, rooms, world, numbers, first)
 }

@@ -16,8 +16,7 @@ use serve_threads::SessionBells;
 use session_core::Item;
 use std::sync::{Arc, Wait};
 
-/// A burst takes a piece of each device in turn, until it has this many or more. The lock is held for a burst, and the writers are rung at its
-/// end; so it is short.
+/// A burst takes a piece of each device in turn, until it has this many or more. The lock is held for a burst, so it is short.
 const PIECES_A_BURST: u32 = 4;
 
 /// More sessions than may have news at once.
@@ -29,12 +28,24 @@ const STEPS: u16 = 1_664;
 /// What a burst did.
 #[derive(Clone, Copy, Debug, PartialEq, Eq)]
 pub(crate) enum Burst {
-    /// Pieces were taken.
+    /// Pieces were taken, and the sessions were attended to.
     Fed,
+    /// Pieces were taken, more may wait, and the sessions were left to a later burst.
+    Held,
     /// There was nothing to take.
     Idle,
     /// All devices have stopped, and the book is shut.
     Over,
+}
+
+/// What a burst took of the devices' lanes.
+#[derive(Clone, Copy, Debug, PartialEq, Eq)]
+enum Taken {
+    Nothing,
+    /// All that waited.
+    All,
+    /// As much as a burst takes. More may wait.
+    Some,
 }
 
 /// What stands behind the lock: the hub, how many devices and units it has, the bells of each session, and whether the book refused a piece of
@@ -77,17 +88,20 @@ impl<J: HubNaming, R: Wait + Copy> Floor<J, R> {
         fed
     }
 
-    /// Whether a piece was taken.
-    fn feed_all(&mut self) -> bool {
+    /// Takes pieces of the devices, as many as a burst takes.
+    fn feed_all(&mut self) -> Taken {
         let mut fed = 0u32;
         for _ in 0..PIECES_A_BURST {
             let more = self.feed_each();
             fed = fed.saturating_add(more);
-            if more == 0 || fed >= PIECES_A_BURST {
+            if fed >= PIECES_A_BURST {
+                return Taken::Some;
+            }
+            if more == 0 {
                 break;
             }
         }
-        fed > 0
+        if fed > 0 { Taken::All } else { Taken::Nothing }
     }
 
     /// Takes a piece of a session's input, and rings its threads if there is something for them.
@@ -134,17 +148,21 @@ impl<J: HubNaming, R: Wait + Copy> Floor<J, R> {
         }
     }
 
-    /// Takes what waits in the lanes of devices and sessions. If all devices have stopped, the book is shut, and the sessions are told.
-    pub(crate) fn burst(&mut self) -> Burst
+    /// Takes what waits in the lanes of devices and sessions. If it may hold back, and more of the devices may wait, the sessions are left to a
+    /// later burst: their writers are rung then. If all devices have stopped, the book is shut, and the sessions are told.
+    pub(crate) fn burst(&mut self, may_hold: bool) -> Burst
         ensures closed { result ≡ Over → All IsClosed self.new.hub.book.sessions }
         ensures stopped { result ≡ Over → All HasStopped self.new.hub.ends }
     {
-        let fed = self.feed_all();
-        let heard = self.attend_all();
+        let taken = self.feed_all();
+        let holds = may_hold && taken == Taken::Some;
+        let heard = !holds && self.attend_all();
         if self.hub.shut() {
             self.close_sessions();
             Burst::Over
-        } else if fed || heard {
+        } else if holds {
+            Burst::Held
+        } else if heard || taken != Taken::Nothing {
             Burst::Fed
         } else {
             Burst::Idle

@@ -4,21 +4,50 @@ use gps_lane::Bell;
 use serve_threads::Bells;
 use std::sync::{Mutex, Wait};
 
-/// Pumps the lanes into the hub until all devices have stopped, and then closes all bells.
+/// At most this many bursts in a row leave the writers asleep while more of the devices waits. To wake a writer and to send costs more than to put
+/// a burst's lines into its lane.
+const MOST_HELD: u32 = 7;
+
+/// More items than a burst mostly gives a session.
+const PLACES_A_BURST: u32 = 1_024;
+
+/// How many bursts may be held for sessions with queues of this length, so that what they bring finds room.
+fn most_held(queue: u32) -> u32 {
+    let held = queue / PLACES_A_BURST;
+    if held < MOST_HELD { held } else { MOST_HELD }
+}
+
+/// There are new samples, and room in the lanes of the devices.
+fn ring_fed(bells: &Bells) {
+    bells.publisher.ring();
+    bells.ring_devices();
+}
+
+/// Pumps the lanes into the hub until all devices have stopped, and then closes all bells. The sessions have queues of this length.
 pub(crate) fn pump<J: HubNaming, R: Wait + Copy>(
     rt: &R,
     floor: &Mutex<Floor<J, R>>,
     bells: &Bells,
+    queue: u32,
 ) {
+    let most = most_held(queue);
+    let mut held = 0u32;
     for _ in rt.forever() {
-        let burst = floor.lock(rt).burst();
+        let burst = floor.lock(rt).burst(held < most);
         match burst {
             Burst::Over => break,
-            Burst::Fed => {
-                bells.publisher.ring();
-                bells.ring_devices();
+            Burst::Held => {
+                held = held.saturating_add(1);
+                ring_fed(bells);
             }
-            Burst::Idle => bells.pump.wait(rt),
+            Burst::Fed => {
+                held = 0;
+                ring_fed(bells);
+            }
+            Burst::Idle => {
+                held = 0;
+                bells.pump.wait(rt);
+            }
         }
     }
     bells.close();

@@ -260,6 +260,7 @@ fn work<
         return None;
     };
     let closer = door.gate.closer();
+    let queue = door.queue;
     let Some(door) = start_door(rt, alloc, scope, floor, bells, door) else {
         bells.close();
         publisher.join(&rt);
@@ -267,7 +268,7 @@ fn work<
     };
     let watching = start_watchers(rt, alloc, scope, watchers, tries, bells, watching);
     let works = start_devices(rt, alloc, scope, starts, clock, bells, works);
-    pump(&rt, floor, bells);
+    pump(&rt, floor, bells, queue);
     // The door worker finds its bell closed, once its call returns.
     if let Some(closer) = closer {
         closer.close();

@@ -95,9 +95,9 @@ fn close<J: HubNaming, R: Wait + Copy>(rt: &R, floor: Floor<J, R>) -> Floor<J, R
 {
     let mut floor = floor;
     for _ in rt.forever() {
-        match floor.burst() {
+        match floor.burst(false) {
             Burst::Over => return floor,
-            Burst::Fed | Burst::Idle => {}
+            Burst::Fed | Burst::Held | Burst::Idle => {}
         }
     }
     unreachable!()

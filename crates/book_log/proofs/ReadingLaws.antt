@@ -1,7 +1,7 @@
 -- The first and the last of joined lists.
-use Rattle.std.proofs.Common.{◌≡◌, ℕ, refl, sym, ap, ◌∙◌, List, [], ◌∷◌, ◌++◌, append_assoc, Option, Some, None}
+use Rattle.std.proofs.Common.{◌≡◌, ◌<◌, ◌+◌, ℕ, refl, sym, ap, ◌∙◌, List, [], ◌∷◌, ◌++◌, append_assoc, length, take, slice_index_or, Option, Some, None}
 use Rattle.std.specs.Option.{option_or}
-use Rattle.std.proofs.lemmas.List.{map-append}
+use Rattle.std.proofs.lemmas.List.{map-append, take_more}
 use Rattle.gps_report.specs.declared.report.Body.{Body}
 use Rattle.book_log.specs.Readings.{first_of, last_of, of_device}
 
@@ -19,6 +19,14 @@ last_of-append f (x ∷ xs) ys = ap (λ o. option_or o (f x)) (last_of-append f 
 
 pub last_more : {X Y : Type 0} (f : X → Option Y) (xs : List X) (x : X) → last_of f (xs ++ x ∷ []) ≡ option_or (f x) (last_of f xs)
 last_more f xs x = last_of-append f xs (x ∷ [])
+
+pub last_next : {X Y : Type 0} (f : X → Option Y) (xs : List X) (i : ℕ) (x : X) (last now : Option Y) → i < length xs → x ≡ slice_index_or xs i x
+    → last ≡ last_of f (take i xs) → now ≡ option_or (f x) last → now ≡ last_of f (take (i + 1) xs)
+last_next f xs i x last now within here before step =
+    step ∙ ap (option_or (f x)) before
+    ∙ ap (λ y. option_or (f y) (last_of f (take i xs))) here
+    ∙ sym (last_more f (take i xs) (slice_index_or xs i x))
+    ∙ sym (ap (last_of f) (take_more xs i x within))
 
 pub first_of-append : {X Y : Type 0} (f : X → Option Y) (xs ys : List X) → first_of f (xs ++ ys) ≡ option_or (first_of f xs) (first_of f ys)
 first_of-append f [] ys = refl

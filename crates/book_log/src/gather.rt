@@ -1,5 +1,6 @@
-ghost use Rattle.std.specs.Prelude.{◌≡◌, ◌≤◌, ◌<◌, ◌∷◌, ◌++◌, [], None, IfOk, OnOk, length};
+ghost use Rattle.std.specs.Prelude.{◌≡◌, ◌≤◌, ◌<◌, ◌+◌, ◌∷◌, ◌++◌, [], None, IfOk, OnOk, length};
 ghost use Rattle.std.specs.Option.{option_or};
+ghost use Rattle.std.specs.Vec.{vec_len, vec_capacity};
 ghost use Rattle.book_batch.specs.Sharing.{SharesLines, shares_of};
 ghost use Rattle.book_log.specs.DeviceLogView.{AreOf};
 ghost use Rattle.book_log.specs.Readings.{fix_in, last_of, of_device, sky_in};
@@ -46,25 +47,64 @@ fn renew_sky(last: &mut Option<Sky>, body: &Body) -> Result<(), NoMemory>
     Ok(())
 }
 
-/// Room for the given number of reports, and in it the announcement of a first byte, if there is one.
+/// The announcement of a first byte, if there is one, and room for the given number of further reports.
 fn begun(
     alloc: Global,
     device: u8,
     first: Option<Stamp>,
     more: usize,
 ) -> Result<Vec<Report>, NoMemory>
-    ensures { IfOk result (λ reports. reports.items ≡ of_device device (announcement first)) }
+    ensures items { IfOk result (λ reports. reports.items ≡ of_device device (announcement first)) }
+    ensures room { IfOk result (λ reports. vec_len reports + more ≤ vec_capacity reports) }
 {
     let mut reports = Vec::with_capacity(alloc, more)?;
     if let Some(at) = first {
         let body = Body::Device(Some(at));
         reports.push(Report { device, body })?;
     }
+    reports.reserve(more)?;
+    Ok(reports)
+}
+
+fn last_fix(bodies: &[Body]) -> Option<Fix>
+    ensures { result ≡ last_of fix_in bodies.now }
+{
+    let mut fix = None;
+    for body in bodies {
+        renew_fix(&mut fix, body);
+    }
+    fix
+}
+
+fn last_sky(bodies: &[Body]) -> Result<Option<Sky>, NoMemory>
+    ensures { IfOk result (λ sky. sky ≡ last_of sky_in bodies.now) }
+{
+    let mut sky = None;
+    for body in bodies {
+        renew_sky(&mut sky, body)?;
+    }
+    Ok(sky)
+}
+
+/// The reports of a device's new bodies, behind the announcement. A report has some 170 bytes: the loop does nothing else, so that the compiler copies
+/// it as seldom as it can.
+#[tactic(auto, using(crate::proofs::ReadingLaws::of_device_more))]
+fn reported(
+    alloc: Global,
+    device: u8,
+    first: Option<Stamp>,
+    bodies: Vec<Body>,
+) -> Result<Vec<Report>, NoMemory>
+    ensures { IfOk result (λ reports. reports.items ≡ of_device device (announcement first ++ bodies.items)) }
+{
+    let mut reports = begun(alloc, device, first, bodies.len())?;
+    'bodies: for body in bodies {
+        reports.push_reserved(Report { device, body });
+    }
     Ok(reports)
 }
 
 /// The reports of a device's new bodies, behind the announcement of its first byte, if it came with them.
-#[tactic(auto, using(crate::proofs::ReadingLaws::last_more, crate::proofs::ReadingLaws::of_device_more))]
 fn list(
     alloc: Global,
     device: u8,
@@ -75,14 +115,9 @@ fn list(
     ensures fix { IfOk result (λ out. out.fix ≡ last_of fix_in bodies.items) }
     ensures sky { IfOk result (λ out. out.sky ≡ last_of sky_in bodies.items) }
 {
-    let mut reports = begun(alloc, device, first, bodies.len())?;
-    let mut fix = None;
-    let mut sky = None;
-    for body in bodies {
-        renew_fix(&mut fix, &body);
-        renew_sky(&mut sky, &body)?;
-        reports.push(Report { device, body })?;
-    }
+    let fix = last_fix(bodies.as_slice());
+    let sky = last_sky(bodies.as_slice())?;
+    let reports = reported(alloc, device, first, bodies)?;
     Ok(Listed { reports, fix, sky })
 }
 

@@ -55,7 +55,9 @@ fn text_bytes(
     if !is_sized(text, most) {
         return Ok(None);
     }
-    let mut bytes = Bytes::from_slice(alloc, text)?;
+    let mut bytes = Bytes::new(alloc);
+    bytes.reserve(text.len() + ending.len())?;
+    bytes.extend_from_slice(text)?;
     bytes.extend_from_slice(ending)?;
     Ok(Some(bytes))
 }

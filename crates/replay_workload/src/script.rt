@@ -1,6 +1,7 @@
 ghost use Rattle.std.specs.Prelude.{◌≡◌, ◌≤◌, ◌<◌, ◌+◌, ◌*◌, ◌++◌, [], length, IfOk, OnOk};
 ghost use Rattle.replay_workload.specs.Sentences.{gga, gll, rmc};
-ghost use Rattle.replay_workload.specs.Workload.{edge_end, edge_line, edge_number, head, receiver_lines, second_lines, steps, text_line, whole_second, workload_of};
+ghost use Rattle.replay_workload.specs.Workload.{edge_end, edge_line, edge_number, head, receiver_lines, second_lines, steps, whole_second, workload_of};
+ghost use Rattle.replay_workload.specs.TextLines.{prefixed_line, prefixed_lines, text_prefix};
 
 use crate::numbers::{first, five_digits, next};
 use crate::sentences::{gsa, gsv, push_gga, push_gll, push_rmc, push_sentence, vtg};
@@ -19,6 +20,9 @@ const HEAD_ROOM: usize = 147;
 
 /// No sentence's body is longer.
 const BODY_ROOM: usize = 80;
+
+/// What a text line has before its sentence is no longer.
+const PREFIX_ROOM: usize = 28;
 
 #[tactic(auto, unfolding(crate::specs::Workload::head))]
 fn push_head(out: &mut Bytes) -> Result<(), NoMemory>
@@ -64,15 +68,23 @@ fn push_edge_line(out: &mut Bytes, device: u64, t: u32) -> Result<(), NoMemory>
     push_edge_end(out, t)
 }
 
-#[tactic(auto, unfolding(crate::specs::Workload::text_line))]
-fn push_text_line(out: &mut Bytes, device: u64, t: u32, body: &[u8]) -> Result<(), NoMemory>
-    ensures { OnOk result (out.new ≡ out.old ++ text_line device t body.now) }
+/// Adds what the text lines of a receiver in a second begin with.
+#[tactic(auto, unfolding(crate::specs::TextLines::text_prefix))]
+fn push_text_prefix(out: &mut Bytes, device: u64, t: u32) -> Result<(), NoMemory>
+    ensures { OnOk result (out.new ≡ out.old ++ text_prefix device t) }
 {
     out.extend_from_slice(b"text ")?;
     push_decimal(out, device)?;
     out.extend_from_slice(b" ")?;
     push_whole_second(out, t)?;
-    out.extend_from_slice(b".100000000 ")?;
+    out.extend_from_slice(b".100000000 ")
+}
+
+#[tactic(auto, unfolding(crate::specs::TextLines::prefixed_line))]
+fn push_prefixed_line(out: &mut Bytes, prefix: &[u8], body: &[u8]) -> Result<(), NoMemory>
+    ensures { OnOk result (out.new ≡ out.old ++ prefixed_line prefix.now body.now) }
+{
+    out.extend_from_slice(prefix)?;
     push_sentence(out, body)?;
     out.extend_from_slice(b"\n")
 }
@@ -117,16 +129,31 @@ fn with_room(alloc: Global, room: usize) -> Result<Bytes, NoMemory>
     Ok(out)
 }
 
-#[tactic(auto, unfolding(crate::specs::Workload::receiver_lines))]
-fn push_receiver(out: &mut Bytes, device: u64, t: u32, bodies: &Bodies) -> Result<(), NoMemory>
+#[tactic(auto, unfolding(crate::specs::TextLines::prefixed_lines))]
+fn push_prefixed_lines(out: &mut Bytes, prefix: &[u8], bodies: &Bodies) -> Result<(), NoMemory>
+    ensures { OnOk result (out.new ≡ out.old ++ prefixed_lines prefix.now bodies.now.rmc bodies.now.gga bodies.now.gll) }
+{
+    push_prefixed_line(out, prefix, bodies.rmc.as_slice())?;
+    push_prefixed_line(out, prefix, vtg())?;
+    push_prefixed_line(out, prefix, bodies.gga.as_slice())?;
+    push_prefixed_line(out, prefix, gsa())?;
+    push_prefixed_line(out, prefix, gsv())?;
+    push_prefixed_line(out, prefix, bodies.gll.as_slice())
+}
+
+/// The lines have a common prefix, which is made once, in `prefix`.
+fn push_receiver(
+    out: &mut Bytes,
+    prefix: &mut Bytes,
+    device: u64,
+    t: u32,
+    bodies: &Bodies,
+) -> Result<(), NoMemory>
     ensures { OnOk result (out.new ≡ out.old ++ receiver_lines device t bodies.now.rmc bodies.now.gga bodies.now.gll) }
 {
-    push_text_line(out, device, t, bodies.rmc.as_slice())?;
-    push_text_line(out, device, t, vtg())?;
-    push_text_line(out, device, t, bodies.gga.as_slice())?;
-    push_text_line(out, device, t, gsa())?;
-    push_text_line(out, device, t, gsv())?;
-    push_text_line(out, device, t, bodies.gll.as_slice())
+    prefix.clear();
+    push_text_prefix(prefix, device, t)?;
+    push_prefixed_lines(out, prefix.as_slice(), bodies)
 }
 
 #[tactic(auto, unfolding(crate::specs::Workload::steps))]
@@ -139,15 +166,21 @@ fn push_steps(out: &mut Bytes) -> Result<(), NoMemory>
 }
 
 #[tactic(auto, unfolding(crate::specs::Workload::second_lines, crate::specs::Workload::line_cut))]
-fn push_second(out: &mut Bytes, bodies: &mut Bodies, t: u32, n: u32) -> Result<(), NoMemory>
+fn push_second(
+    out: &mut Bytes,
+    prefix: &mut Bytes,
+    bodies: &mut Bodies,
+    t: u32,
+    n: u32,
+) -> Result<(), NoMemory>
     requires { t < 10_000 }
     ensures { OnOk result (out.new ≡ out.old ++ second_lines t n) }
 {
     bodies.write(NOON + t, n)?;
     push_edge_line(out, 0, t)?;
     push_edge_line(out, 1, t)?;
-    push_receiver(out, 0, t, bodies)?;
-    push_receiver(out, 1, t, bodies)?;
+    push_receiver(out, prefix, 0, t, bodies)?;
+    push_receiver(out, prefix, 1, t, bodies)?;
     push_steps(out)
 }
 
@@ -161,10 +194,11 @@ pub fn workload(alloc: Global, seed: u32, size: u32) -> Result<Bytes, NoMemory>
     let mut out = with_room(alloc, HEAD_ROOM + SECOND_ROOM * size as usize)?;
     push_head(&mut out)?;
     let mut bodies = Bodies::new(alloc)?;
+    let mut prefix = with_room(alloc, PREFIX_ROOM)?;
     let mut drawn = first(seed);
     'seconds: for t in 0..size {
         drawn = next(drawn);
-        push_second(&mut out, &mut bodies, t, five_digits(drawn))?;
+        push_second(&mut out, &mut prefix, &mut bodies, t, five_digits(drawn))?;
     }
     Ok(out)
 }

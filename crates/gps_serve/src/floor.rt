@@ -43,9 +43,9 @@ pub(crate) enum Burst {
 enum Taken {
     Nothing,
     /// All that waited.
-    All,
+    Whole,
     /// As much as a burst takes. More may wait.
-    Some,
+    Part,
 }
 
 /// What stands behind the lock: the hub, how many devices and units it has, the bells of each session, and whether the book refused a piece of
@@ -95,13 +95,17 @@ impl<J: HubNaming, R: Wait + Copy> Floor<J, R> {
             let more = self.feed_each();
             fed = fed.saturating_add(more);
             if fed >= PIECES_A_BURST {
-                return Taken::Some;
+                return Taken::Part;
             }
             if more == 0 {
                 break;
             }
         }
-        if fed > 0 { Taken::All } else { Taken::Nothing }
+        if fed > 0 {
+            Taken::Whole
+        } else {
+            Taken::Nothing
+        }
     }
 
     /// Takes a piece of a session's input, and rings its threads if there is something for them.
@@ -155,7 +159,7 @@ impl<J: HubNaming, R: Wait + Copy> Floor<J, R> {
         ensures stopped { result ≡ Over → All HasStopped self.new.hub.ends }
     {
         let taken = self.feed_all();
-        let holds = may_hold && taken == Taken::Some;
+        let holds = may_hold && taken == Taken::Part;
         let heard = !holds && self.attend_all();
         if self.hub.shut() {
             self.close_sessions();

@@ -356,12 +356,12 @@ module _ (says : Texts) where
       record { readings = u.readings; reads = u.pieces; stamps = u.stamps; ends = (all.0, all.1, waits_all (texts_so_far says (stream_of u.readings)) waits sink sink' sink'' u.wrote flushed) }
 
   -- the sink failed before the next read
-  pub unsettled : (history : ℕ) (budget : Budget) (kept : DeviceKept)
+  pub not_flushed : (history : ℕ) (budget : Budget) (kept : DeviceKept)
       (source now : Option Stream) (quiets quiets' : ℕ) (clock clock' : Option Dial) (waits : List ℕ) (sink sink' sink'' : Option (List ℕ))
       → UnderWay history budget kept source now quiets quiets' clock clock' waits sink sink'
       → Goes (AppendsPart waits) sink' sink''
       → Decoded says WriteFault history source now clock clock' sink sink''
-  unsettled history budget kept source now quiets quiets' clock clock' waits sink sink' sink'' u part = record {
+  not_flushed history budget kept source now quiets quiets' clock clock' waits sink sink' sink'' u part = record {
     readings = u.readings;
     reads = inl u.pieces;
     stamps = u.stamps;
@@ -372,12 +372,12 @@ module _ (says : Texts) where
   }
 
   -- what waited was written before the next read, or goes on waiting
-  pub settled : (history : ℕ) (budget : Budget) (kept : DeviceKept)
+  pub ready_or_flushed : (history : ℕ) (budget : Budget) (kept : DeviceKept)
       (source now : Option Stream) (quiets quiets' : ℕ) (clock clock' : Option Dial) (waits waits' : List ℕ) (sink sink' sink'' : Option (List ℕ))
       → UnderWay history budget kept source now quiets quiets' clock clock' waits sink sink'
       → Waits waits waits' sink' sink''
       → UnderWay history budget kept source now quiets quiets' clock clock' waits' sink sink''
-  settled history budget kept source now quiets quiets' clock clock' waits waits' sink sink' sink'' u wrote = record {
+  ready_or_flushed history budget kept source now quiets quiets' clock clock' waits waits' sink sink' sink'' u wrote = record {
     readings = u.readings;
     pieces = u.pieces;
     taken = u.taken;

@@ -115,7 +115,7 @@ fn write_reports<S: Source, K: Sink, C: Clock>(
     let mut intake = Intake::new(history);
     let mut buf = [0u8; 512];
     'turns: loop {
-        if !draft.settle(&*source, sink) {
+        if !draft.flush_unless_ready(&*source, sink) {
             return CommandOutcome::WriteFault;
         }
         match intake.step(source, &mut buf) {

@@ -143,12 +143,12 @@ impl Draft {
     /// Writes what waits, unless more bytes stand ready in the source.
     ///
     /// False: the sink failed.
-    pub fn settle<S: Source, K: Sink>(&mut self, source: &S, sink: &mut K) -> bool
+    pub fn flush_unless_ready<S: Source, K: Sink>(&mut self, source: &S, sink: &mut K) -> bool
         ensures bytes { Sends result self.old self.new (K.written sink.old) (K.written sink.new) }
         ensures kept { result ≡ true → (self.new ≡ []) ⊎ S.keeps_at_fault source.now }
         ensures faults_stay { K.faults sink.old ≤ K.faults sink.new }
         ensures failed { result ≡ false → Rose (K.faults sink.old) (K.faults sink.new) }
     {
-        self.outbox.settle(source, sink)
+        self.outbox.flush_unless_ready(source, sink)
     }
 }

@@ -1,6 +1,6 @@
 //! Pieces of a text that are written into an array of bytes, so that no piece asks for memory. Each function gives the place behind its piece.
 
-ghost use Rattle.std.specs.Prelude.{◌≡◌, ◌<◌, ◌≤◌, ◌+◌, ◌%◌, ◌^◌, ◌∷◌, ◌++◌, [], length, take};
+ghost use Rattle.std.specs.Prelude.{◌≡◌, ◌<◌, ◌≤◌, ◌+◌, ◌/◌, ◌%◌, ◌^◌, ◌∷◌, ◌++◌, [], length, take};
 ghost use Rattle.std.specs.Fmt.{decimal};
 ghost use Rattle.gps_fixed.specs.Text.{digits_in, scaled_text, unsigned_text};
 ghost use Rattle.json_line.specs.Json.{member, member_if, signed, truth};
@@ -38,6 +38,29 @@ fn digit(n: u32) -> u8
     b'0' + (n % 10) as u8
 }
 
+/// The two digits of each number below 100, one number after the other.
+static PAIRS: [u8; 200] =
+    *b"00010203040506070809101112131415161718192021222324252627282930313233343536373839404142434445464748495051525354555657585960616263646566676869707172737475767778798081828384858687888990919293949596979899";
+
+/// Two digits at once, without a division.
+#[inline(always)]
+fn two_digits(n: u32) -> [u8; 2]
+    requires { n < 100 }
+    ensures { result ≡ (48 + n / 10 % 10) ∷ (48 + n % 10) ∷ [] }
+{
+    let at = n as usize * 2;
+    [PAIRS[at], PAIRS[at + 1]]
+}
+
+#[inline(always)]
+fn three_digits(n: u32) -> [u8; 3]
+    requires { n < 1_000 }
+    ensures { result ≡ (48 + n / 100 % 10) ∷ (48 + n / 10 % 10) ∷ (48 + n % 10) ∷ [] }
+{
+    let last = two_digits(n % 100);
+    [digit(n / 100), last[0], last[1]]
+}
+
 /// A whole number, in decimal digits without leading zeros. Most have one to three.
 #[cycle(number)]
 #[inline(always)]
@@ -51,8 +74,8 @@ pub fn place_number(room: &mut [u8], at: usize, n: u32) -> usize
 {
     match n {
         0..=9 => place_byte(room, at, digit(n)),
-        10..=99 => place_text(room, at, &[digit(n / 10), digit(n)]),
-        100..=999 => place_text(room, at, &[digit(n / 100), digit(n / 10), digit(n)]),
+        10..=99 => place_text(room, at, &two_digits(n)),
+        100..=999 => place_text(room, at, &three_digits(n)),
         _ => place_long(room, at, n),
     }
 }

@@ -171,8 +171,8 @@ impl<T: Keyed> Once<T> {
     }
 
     /// Adds an element, unless one with its key is there.
-    pub fn add(&mut self, item: T) -> Result<(), NoMemory>
-        ensures ok { OnOk result (self.new ≡ added (by_key T.key) self.old item) }
+    pub fn add(&mut self, item: &T) -> Result<(), NoMemory>
+        ensures ok { OnOk result (self.new ≡ added (by_key T.key) self.old item.now) }
         ensures err { OnErr result (self.new ≡ self.old) }
     {
         let key = item.key();
@@ -183,7 +183,7 @@ impl<T: Keyed> Once<T> {
         let room = if self.items.is_empty() { USUAL } else { 1 };
         self.keys.reserve(room)?;
         self.items.reserve(room)?;
-        self.items.push_reserved(item);
+        self.items.push_reserved(*item);
         self.keys.push_reserved(key);
         Ok(())
     }
@@ -204,7 +204,7 @@ impl<T: Keyed> Once<T> {
     {
         let len = self.len();
         for item in more {
-            match self.add(*item) {
+            match self.add(item) {
                 Ok(()) => {}
                 Err(refused) => {
                     self.truncate(len);

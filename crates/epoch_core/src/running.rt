@@ -121,7 +121,7 @@ fn add_ids(used_ids: &mut Once<UsedId>, ids: &[u32], system: Option<u8>) -> Resu
 {
     let len = used_ids.len();
     for id in ids {
-        match used_ids.add(UsedId { id: *id, system }) {
+        match used_ids.add(&UsedId { id: *id, system }) {
             Ok(()) => {}
             Err(refused) => {
                 used_ids.truncate(len);

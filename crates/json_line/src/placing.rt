@@ -159,13 +159,14 @@ fn place_digits(room: &mut [u8], at: usize, n: u32, count: u8) -> usize
     ensures end { result ≤ at + 9 }
 {
     match count {
-        2 => place_text(room, at, &[digit(n / 10), digit(n)]),
-        3 => place_text(room, at, &[digit(n / 100), digit(n / 10), digit(n)]),
+        2 => place_text(room, at, &two_digits(n % 100)),
+        3 => place_text(room, at, &three_digits(n % 1_000)),
         4 => place_text(
             room,
             at,
             &[digit(n / 1_000), digit(n / 100), digit(n / 10), digit(n)],
         ),
+        9 => place_text(room, at, &nine_digits(n)),
         _ => place_some_of_nine(room, at, n, count),
     }
 }

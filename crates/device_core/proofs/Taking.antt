@@ -1,5 +1,5 @@
 -- Packets taken one after another.
-use Rattle.std.proofs.Common.{◌≡◌, sym, ap, ◌∙◌, subst, List, [], ◌∷◌, ◌++◌, append_assoc, append-nil, Option, true, length, ◌+◌, ◌≤◌, arith}
+use Rattle.std.proofs.Common.{◌≡◌, refl, sym, ap, ◌∙◌, subst, List, [], ◌∷◌, ◌++◌, append_assoc, append-nil, Option, true, length, ◌+◌, ◌≤◌, arith}
 use Rattle.std.proofs.lemmas.List.{length-append, map-append}
 use Rattle.std.specs.Option.{option_or}
 use Rattle.std.specs.List.{list_all}
@@ -74,3 +74,12 @@ took_more old now next toff at_now at_next done packet bodies more all one = rec
 -- a packet and at most five reports that it causes
 pub few_more : (packet : Packet) (caused bodies more : List Body) → length caused ≤ 5 → more ≡ bodies ++ PacketBody packet ∷ caused → length more ≤ length bodies + 6
 few_more packet caused bodies more few made = omega (arith, ap length made, length-append bodies (PacketBody packet ∷ caused))
+
+-- if one of two lists is empty, the other is both
+pub none_behind : (before more : List Body) → length more ≡ 0 → before ≡ before ++ more
+none_behind before [] none = sym (append-nil before)
+none_behind before (body ∷ more) none = absurd (omega (arith, none))
+
+pub none_before : (before more : List Body) → length before ≡ 0 → more ≡ before ++ more
+none_before [] more none = refl
+none_before (body ∷ before) more none = absurd (omega (arith, none))

@@ -109,6 +109,22 @@ pub(crate) fn take_packets(
     Ok((out, last))
 }
 
+/// Adds reports behind others. Most packets cause none, and mostly none stand before those that are caused: then their own list is kept.
+#[tactic(auto, using(crate::proofs::Taking::none_behind, crate::proofs::Taking::none_before))]
+fn add_behind(out: &mut Vec<Body>, mut caused: Vec<Body>) -> Result<(), NoMemory>
+    ensures { OnOk result (out.new.items ≡ out.old.items ++ caused.items) }
+{
+    if caused.is_empty() {
+        return Ok(());
+    }
+    if out.is_empty() {
+        *out = caused;
+        return Ok(());
+    }
+    out.append(&mut caused)?;
+    Ok(())
+}
+
 /// Takes the packet at a place: what its note causes goes to the reports, and it does not.
 #[tactic(auto, using(crate::proofs::Quiet::took_one_quietly))]
 fn take_placed(
@@ -124,12 +140,12 @@ fn take_placed(
 {
     // A note is large: it is read where it was made.
     let note = note_of_bytes(alloc, placed.kind, placed.part(bytes));
-    let mut caused = match &note {
+    let caused = match &note {
         Ok(note) => epochs.take(note, placed.at)?,
         Err(_) => return Err(NoMemory),
     };
     let next = last_toff(caused.as_slice(), toff);
-    out.append(&mut caused)?;
+    add_behind(out, caused)?;
     Ok(next)
 }
 

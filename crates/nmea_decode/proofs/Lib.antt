@@ -6,3 +6,4 @@ pub mod Splitting
 pub mod Walks
 pub mod Fitting
 pub mod Saying
+pub mod Nexts

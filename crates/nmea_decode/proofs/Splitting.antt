@@ -5,12 +5,12 @@ use Rattle.std.proofs.lemmas.List.Sums.{sum_by-cons}
 use Rattle.nmea_decode.specs.Fields.{address_of, behind, field, field_at, field_count, fields_of, has_comma, is_comma, joined, list_of_fields, skipped}
 
 -- a text of fields is empty, or begins with the comma before its first field
-abbrev Begins : List ℕ → Type 0
+abbrev pub Begins : List ℕ → Type 0
 Begins [] = Unit {0}
 Begins (c ∷ text) = is_comma c ≡ true
 
 -- what stands from the first comma on
-abbrev rest : List ℕ → List ℕ
+abbrev pub rest : List ℕ → List ℕ
 rest text = drop (position_or_len is_comma text) text
 
 drop_one : (n c : ℕ) (text : List ℕ) → drop (1 + n) (c ∷ text) ≡ drop n text
@@ -127,10 +127,10 @@ drop_first : (first more : List ℕ) → drop (length first) (first ++ more) ≡
 drop_first [] more = refl
 drop_first (c ∷ first) more = drop_first first more
 
-first_is : (first more : List ℕ) → has_comma first ≡ false → Begins more → before_first is_comma (first ++ more) ≡ first
+pub first_is : (first more : List ℕ) → has_comma first ≡ false → Begins more → before_first is_comma (first ++ more) ≡ first
 first_is first more plain begins = ap (λ n. take n (first ++ more)) (place_behind first more plain begins) ∙ take_first first more
 
-rest_is : (first more : List ℕ) → has_comma first ≡ false → Begins more → rest (first ++ more) ≡ more
+pub rest_is : (first more : List ℕ) → has_comma first ≡ false → Begins more → rest (first ++ more) ≡ more
 rest_is first more plain begins = ap (λ n. drop n (first ++ more)) (place_behind first more plain begins) ∙ drop_first first more
 
 joined_begins : (fields : List (List ℕ)) → Begins (joined fields)

@@ -1,6 +1,7 @@
-ghost use Rattle.std.specs.Prelude.{◌≡◌, ◌==◌, ◌<◌, ◌≤◌, ◌/◌, IfOk, OnErr, length};
+ghost use Rattle.std.specs.Prelude.{◌≡◌, ◌==◌, ◌<◌, ◌≤◌, ◌/◌, IfOk, OnErr, OnOk, length};
 ghost use Rattle.std.specs.List.{position_or_len};
 ghost use Rattle.gps_report.specs.Fits.{Fits};
+ghost use Rattle.gps_report.specs.Note.{empty_note};
 ghost use Rattle.nmea_frame.specs.Sentence.{body_of};
 ghost use Rattle.nmea_decode.specs.Fields.{field_count, skipped};
 ghost use Rattle.nmea_decode.specs.Satellites.{ids_in};
@@ -16,21 +17,19 @@ use gps_report::{Ids, Note, NoteKind, Tag};
 use memchr::memchr;
 use std::alloc::Global;
 
-/// A note with a time, which is its tag.
+/// Gives a note a kind and a time, which is its tag.
 #[tactic(auto, unfolding(crate::specs::Notes::timed))]
-fn timed(alloc: Global, kind: NoteKind, time: Option<u64>) -> Note
-    ensures { result ≡ timed kind time }
+fn begin(note: &mut Note, kind: NoteKind, time: Option<u64>)
+    requires { note.old ≡ empty_note NoteKind.Other }
+    ensures { note.new ≡ timed kind time }
 {
     let tod = tod(time);
-    let tag = match tod {
+    note.kind = kind;
+    note.tod = tod;
+    note.tag = match tod {
         Some(tod) => Some(Tag::Tod(tod)),
         None => None,
     };
-    Note {
-        tag,
-        tod,
-        ..Note::empty(alloc, kind)
-    }
 }
 
 fn status_of_quality(text: &[u8]) -> Option<bool>
@@ -65,9 +64,11 @@ fn if_valid<T: Copy>(status: Option<bool>, quantity: Option<T>) -> Option<T>
     }
 }
 
+#[inline(never)]
 #[tactic(auto, unfolding(crate::specs::Notes::gga))]
-fn read_gga(alloc: Global, text: &[u8]) -> Note
-    ensures { result ≡ gga text.now }
+fn read_gga(note: &mut Note, text: &[u8])
+    requires { note.old ≡ empty_note NoteKind.Other }
+    ensures { note.new ≡ gga text.now }
 {
     let (time_text, text) = next(text);
     let (lat, text) = next(text);
@@ -79,19 +80,19 @@ fn read_gga(alloc: Global, text: &[u8]) -> Note
     let (alt_msl, text) = next(text);
     let (geoid_sep, _) = next(skip(text, 1));
     let status = status_of_quality(quality);
-    Note {
-        status,
-        position: if_valid(status, position(lat, north, lon, east)),
-        hdop: if_valid(status, dilution(hdop)),
-        alt_msl: if_valid(status, height(alt_msl)),
-        geoid_sep: if_valid(status, height(geoid_sep)),
-        ..timed(alloc, NoteKind::Gga, time(time_text))
-    }
+    begin(note, NoteKind::Gga, time(time_text));
+    note.status = status;
+    note.position = if_valid(status, position(lat, north, lon, east));
+    note.hdop = if_valid(status, dilution(hdop));
+    note.alt_msl = if_valid(status, height(alt_msl));
+    note.geoid_sep = if_valid(status, height(geoid_sep));
 }
 
+#[inline(never)]
 #[tactic(auto, unfolding(crate::specs::Notes::rmc))]
-fn read_rmc(alloc: Global, text: &[u8]) -> Note
-    ensures { result ≡ rmc text.now }
+fn read_rmc(note: &mut Note, text: &[u8])
+    requires { note.old ≡ empty_note NoteKind.Other }
+    ensures { note.new ≡ rmc text.now }
 {
     let (time_text, text) = next(text);
     let (status, text) = next(text);
@@ -104,19 +105,19 @@ fn read_rmc(alloc: Global, text: &[u8]) -> Note
     let (date_text, _) = next(text);
     let time = time(time_text);
     let status = status_of_letter(status);
-    Note {
-        status,
-        position: if_valid(status, position(lat, north, lon, east)),
-        speed: if_valid(status, speed(knots)),
-        track: if_valid(status, track(course)),
-        day: day_beside(time, date(date_text)),
-        ..timed(alloc, NoteKind::Rmc, time)
-    }
+    begin(note, NoteKind::Rmc, time);
+    note.status = status;
+    note.position = if_valid(status, position(lat, north, lon, east));
+    note.speed = if_valid(status, speed(knots));
+    note.track = if_valid(status, track(course));
+    note.day = day_beside(time, date(date_text));
 }
 
+#[inline(never)]
 #[tactic(auto, unfolding(crate::specs::Notes::gll))]
-fn read_gll(alloc: Global, text: &[u8]) -> Note
-    ensures { result ≡ gll text.now }
+fn read_gll(note: &mut Note, text: &[u8])
+    requires { note.old ≡ empty_note NoteKind.Other }
+    ensures { note.new ≡ gll text.now }
 {
     let (lat, text) = next(text);
     let (north, text) = next(text);
@@ -125,16 +126,16 @@ fn read_gll(alloc: Global, text: &[u8]) -> Note
     let (time_text, text) = next(text);
     let (status, _) = next(text);
     let status = status_of_letter(status);
-    Note {
-        status,
-        position: if_valid(status, position(lat, north, lon, east)),
-        ..timed(alloc, NoteKind::Gll, time(time_text))
-    }
+    begin(note, NoteKind::Gll, time(time_text));
+    note.status = status;
+    note.position = if_valid(status, position(lat, north, lon, east));
 }
 
+#[inline(never)]
 #[tactic(auto, unfolding(crate::specs::Notes::gsa))]
-fn read_gsa(alloc: Global, text: &[u8]) -> Result<Note, NoMemory>
-    ensures note { IfOk result (λ note. note ≡ gsa text.now) }
+fn read_gsa(note: &mut Note, alloc: Global, text: &[u8]) -> Result<(), NoMemory>
+    requires { note.old ≡ empty_note NoteKind.Other }
+    ensures note { OnOk result (note.new ≡ gsa text.now) }
     ensures memory { OnErr result (0 < length (ids_in 12 (skipped 2 text.now))) }
 {
     let (dim, ids_text) = next(skip(text, 1));
@@ -144,96 +145,108 @@ fn read_gsa(alloc: Global, text: &[u8]) -> Result<Note, NoMemory>
     let (hdop, text) = next(text);
     let (vdop, text) = next(text);
     let (system, _) = next(text);
-    Ok(Note {
-        dim: dimensions(dim),
-        used: Ids::from_vec(used),
-        pdop: dilution(pdop),
-        hdop: dilution(hdop),
-        vdop: dilution(vdop),
-        system: system_stated(system),
-        ..Note::empty(alloc, NoteKind::Gsa)
-    })
+    note.kind = NoteKind::Gsa;
+    note.dim = dimensions(dim);
+    note.used = Ids::from_vec(used);
+    note.pdop = dilution(pdop);
+    note.hdop = dilution(hdop);
+    note.vdop = dilution(vdop);
+    note.system = system_stated(system);
+    Ok(())
 }
 
+#[inline(never)]
 #[tactic(auto, unfolding(crate::specs::Notes::gsv))]
-fn read_gsv(alloc: Global, talker: &[u8], text: &[u8]) -> Result<Note, NoMemory>
-    ensures note { IfOk result (λ note. note ≡ gsv talker.now text.now) }
+fn read_gsv(note: &mut Note, alloc: Global, talker: &[u8], text: &[u8]) -> Result<(), NoMemory>
+    requires { note.old ≡ empty_note NoteKind.Other }
+    ensures note { OnOk result (note.new ≡ gsv talker.now text.now) }
     ensures memory { OnErr result (0 < field_count (skipped 3 text.now) / 4) }
 {
     let sats = satellites(alloc, skip(text, 3), system_of_talker(talker))?;
-    Ok(Note {
-        sats,
-        ..Note::empty(alloc, NoteKind::Gsv)
-    })
+    note.kind = NoteKind::Gsv;
+    note.sats = sats;
+    Ok(())
 }
 
+#[inline(never)]
 #[tactic(auto, unfolding(crate::specs::Notes::vtg))]
-fn read_vtg(alloc: Global, text: &[u8]) -> Note
-    ensures { result ≡ vtg text.now }
+fn read_vtg(note: &mut Note, text: &[u8])
+    requires { note.old ≡ empty_note NoteKind.Other }
+    ensures { note.new ≡ vtg text.now }
 {
     let (course, text) = next(text);
     let (knots, _) = next(skip(text, 3));
-    Note {
-        track: track(course),
-        speed: speed(knots),
-        ..Note::empty(alloc, NoteKind::Vtg)
-    }
+    note.kind = NoteKind::Vtg;
+    note.track = track(course);
+    note.speed = speed(knots);
 }
 
+#[inline(never)]
 #[tactic(auto, unfolding(crate::specs::Notes::zda))]
-fn read_zda(alloc: Global, text: &[u8]) -> Note
-    ensures { result ≡ zda text.now }
+fn read_zda(note: &mut Note, text: &[u8])
+    requires { note.old ≡ empty_note NoteKind.Other }
+    ensures { note.new ≡ zda text.now }
 {
     let (time_text, text) = next(text);
     let (day, text) = next(text);
     let (month, text) = next(text);
     let (year, _) = next(text);
     let time = time(time_text);
-    let day = day_beside(time, long_date(day, month, year));
-    Note {
-        day,
-        ..timed(alloc, NoteKind::Zda, time)
-    }
+    begin(note, NoteKind::Zda, time);
+    note.day = day_beside(time, long_date(day, month, year));
 }
 
-// A note is large, and each function that hands it on would copy it: from here up to `note_of` all is inlined, so that it is made where it
-// is kept.
+// A note is large, and each function that hands one on has room of its own for it, which is cleared. So the note is made once, in
+// `read_body`, and each kind of sentence writes its own quantities into it.
 
 /// One row for each kind of sentence that is read, by its name; the most frequent ones come first.
 #[inline(always)]
-fn read_named(alloc: Global, name: &[u8], talker: &[u8], text: &[u8]) -> Result<Note, NoMemory>
-    ensures note { IfOk result (λ note. note ≡ (said_by name.now talker.now text.now).note) }
+fn read_named(
+    note: &mut Note,
+    alloc: Global,
+    name: &[u8],
+    talker: &[u8],
+    text: &[u8],
+) -> Result<(), NoMemory>
+    requires { note.old ≡ empty_note NoteKind.Other }
+    ensures note { OnOk result (note.new ≡ (said_by name.now talker.now text.now).note) }
     ensures memory { OnErr result (0 < (said_by name.now talker.now text.now).entries) }
 {
     if name == b"RMC".as_slice() {
-        Ok(read_rmc(alloc, text))
+        read_rmc(note, text);
+        Ok(())
     } else if name == b"GGA".as_slice() {
-        Ok(read_gga(alloc, text))
+        read_gga(note, text);
+        Ok(())
     } else if name == b"GSV".as_slice() {
-        read_gsv(alloc, talker, text)
+        read_gsv(note, alloc, talker, text)
     } else if name == b"GSA".as_slice() {
-        read_gsa(alloc, text)
+        read_gsa(note, alloc, text)
     } else if name == b"VTG".as_slice() {
-        Ok(read_vtg(alloc, text))
+        read_vtg(note, text);
+        Ok(())
     } else if name == b"GLL".as_slice() {
-        Ok(read_gll(alloc, text))
+        read_gll(note, text);
+        Ok(())
     } else if name == b"ZDA".as_slice() {
-        Ok(read_zda(alloc, text))
+        read_zda(note, text);
+        Ok(())
     } else {
-        Ok(Note::empty(alloc, NoteKind::Other))
+        Ok(())
     }
 }
 
 /// The last three letters of an address name the kind, the first two the talker.
 #[inline(always)]
-fn read_at(alloc: Global, address: &[u8], text: &[u8]) -> Result<Note, NoMemory>
-    ensures note { IfOk result (λ note. note ≡ (said_at address.now text.now).note) }
+fn read_at(note: &mut Note, alloc: Global, address: &[u8], text: &[u8]) -> Result<(), NoMemory>
+    requires { note.old ≡ empty_note NoteKind.Other }
+    ensures note { OnOk result (note.new ≡ (said_at address.now text.now).note) }
     ensures memory { OnErr result (0 < (said_at address.now text.now).entries) }
 {
     if is_read(address) {
-        read_named(alloc, &address[2..], &address[..2], text)
+        read_named(note, alloc, &address[2..], &address[..2], text)
     } else {
-        Ok(Note::empty(alloc, NoteKind::Other))
+        Ok(())
     }
 }
 
@@ -244,7 +257,9 @@ fn read_body(alloc: Global, body: &[u8]) -> Result<Note, NoMemory>
     ensures memory { OnErr result (0 < body_entries body.now) }
 {
     let (address, text) = split_address(body);
-    read_at(alloc, address, text)
+    let mut note = Note::empty(alloc, NoteKind::Other);
+    read_at(&mut note, alloc, address, text)?;
+    Ok(note)
 }
 
 #[tactic(auto, using(crate::proofs::Searching::place_is, crate::proofs::Searching::nowhere_is))]

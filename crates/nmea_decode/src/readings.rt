@@ -1,8 +1,11 @@
 ghost use Rattle.std.specs.Prelude.{◌≡◌, ◌*◌, ◌+◌, ◌^◌, ◌<◌, ◌≤◌, pos, Some, IfSome};
 ghost use Rattle.std.specs.Char.{is_ascii_digit};
+ghost use Rattle.std.specs.Option.{option_and_then};
 ghost use Rattle.gps_fixed.specs.Scaled.{scaled};
+ghost use Rattle.nmea_decode.specs.Fields.{behind, field, is_field_end};
 ghost use Rattle.nmea_decode.specs.Readings.{above_nought, azimuth_of, clock, date_from, date_of, dated, day_ns, day_with, days_passed, dilution_of, elevation_of, full_year, height_of, id_of, later_by, long_date_of, number_up_to, plain_number, speed_of, strength_of, IsOfCentury, time_of, tod_of, track_of, up_to, within_right_angle};
 
+use crate::fields::next;
 use gps_fixed::{day_of, nearest_ratio, read_digits, read_scaled};
 
 const SECOND: u64 = 1_000_000_000;
@@ -57,53 +60,149 @@ fn integer(text: &[u8]) -> Option<i64>
     }
 }
 
-/// The same, from 0 to `most`.
-#[tactic(auto, unfolding(crate::specs::Readings::number_up_to))]
-fn whole(text: &[u8], most: u32) -> Option<u32>
-    ensures number { result ≡ number_up_to most 0 text.now }
+/// A number from 0 to `most`.
+fn up_to(n: Option<i64>, most: u32) -> Option<u32>
+    ensures number { result ≡ option_and_then (up_to most) n }
     ensures within { IfSome result (λ n. n ≤ most) }
 {
-    match integer(text) {
+    match n {
         Some(n) if n >= 0 && n <= i64::from(most) => Some(n as u32),
         _ => None,
     }
 }
 
-/// The id of a satellite, 1..=999.
-#[tactic(auto, unfolding(crate::specs::Readings::id_of))]
-pub(crate) fn id(text: &[u8]) -> Option<u32>
-    ensures id { result ≡ id_of text.now }
+/// A text as such a number, without its decimals.
+#[tactic(auto, unfolding(crate::specs::Readings::number_up_to))]
+fn whole(text: &[u8], most: u32) -> Option<u32>
+    ensures number { result ≡ number_up_to most 0 text.now }
+    ensures within { IfSome result (λ n. n ≤ most) }
+{
+    up_to(integer(text), most)
+}
+
+/// Whether a field ends here: none follows, or the comma before the next.
+fn is_field_end(text: &[u8]) -> bool
+    ensures { result ≡ is_field_end text.now }
+{
+    match text {
+        [] => true,
+        [c, ..] => *c == b',',
+    }
+}
+
+/// A first field of two or three digits, as most fields of a satellite are, and the text behind it. No comma is looked for.
+#[inline(always)]
+fn few_digits_next(text: &[u8]) -> Option<(u32, &[u8])>
+    ensures number { IfSome result (λ r. scaled 0 (field text.now) ≡ Some (pos r.0)) }
+    ensures behind { IfSome result (λ r. r.1.now ≡ behind text.now) }
+{
+    match text {
+        [_, a, b, rest @ ..] if is_digit(*a) && is_digit(*b) && is_field_end(rest) => {
+            let n = 10 * u32::from(*a - b'0') + u32::from(*b - b'0');
+            Some((n, rest))
+        }
+        [_, a, b, c, rest @ ..]
+            if is_digit(*a) && is_digit(*b) && is_digit(*c) && is_field_end(rest) => {
+            let n = 100 * u32::from(*a - b'0') + 10 * u32::from(*b - b'0') + u32::from(*c - b'0');
+            Some((n, rest))
+        }
+        _ => None,
+    }
+}
+
+/// Any first field, and the text behind it.
+#[inline(never)]
+fn integer_next(text: &[u8]) -> (Option<i64>, &[u8])
+    ensures number { result.0 ≡ scaled 0 (field text.now) }
+    ensures behind { result.1.now ≡ behind text.now }
+{
+    let (first, rest) = next(text);
+    (integer(first), rest)
+}
+
+/// The first field as a number without its decimals, and the text behind it.
+#[inline(always)]
+fn next_integer(text: &[u8]) -> (Option<i64>, &[u8])
+    ensures number { result.0 ≡ scaled 0 (field text.now) }
+    ensures behind { result.1.now ≡ behind text.now }
+{
+    match few_digits_next(text) {
+        Some((n, rest)) => (Some(i64::from(n)), rest),
+        None => integer_next(text),
+    }
+}
+
+/// The same, from 0 to `most`.
+#[inline(always)]
+#[tactic(auto, unfolding(crate::specs::Readings::number_up_to))]
+fn next_whole(text: &[u8], most: u32) -> (Option<u32>, &[u8])
+    ensures number { result.0 ≡ number_up_to most 0 (field text.now) }
+    ensures behind { result.1.now ≡ behind text.now }
+    ensures within { IfSome result.0 (λ n. n ≤ most) }
+{
+    let (n, rest) = next_integer(text);
+    (up_to(n, most), rest)
+}
+
+fn above_nought(n: Option<u32>) -> Option<u32>
+    requires { IfSome n (λ n. n ≤ 999) }
+    ensures number { result ≡ option_and_then above_nought n }
     ensures within { IfSome result (λ n. n ≤ 999) }
 {
-    match whole(text, 999) {
+    match n {
         Some(n) if n > 0 => Some(n),
         _ => None,
     }
 }
 
-/// Degrees above the horizon, -90..=90.
-#[tactic(auto, unfolding(crate::specs::Readings::elevation_of))]
-pub(crate) fn elevation(text: &[u8]) -> Option<i32>
-    ensures { result ≡ elevation_of text.now }
+/// The id of a satellite, 1..=999, and the text behind its field.
+#[inline(always)]
+#[tactic(auto, unfolding(crate::specs::Readings::id_of))]
+pub(crate) fn next_id(text: &[u8]) -> (Option<u32>, &[u8])
+    ensures id { result.0 ≡ id_of (field text.now) }
+    ensures behind { result.1.now ≡ behind text.now }
+    ensures within { IfSome result.0 (λ n. n ≤ 999) }
 {
-    match integer(text) {
+    let (n, rest) = next_whole(text, 999);
+    (above_nought(n), rest)
+}
+
+fn within_right_angle(n: Option<i64>) -> Option<i32>
+    ensures { result ≡ option_and_then within_right_angle n }
+{
+    match n {
         Some(n) if -90 <= n && n <= 90 => Some(n as i32),
         _ => None,
     }
 }
 
-/// Degrees from true north, 0..=360.
-pub(crate) fn azimuth(text: &[u8]) -> Option<u32>
-    ensures { result ≡ azimuth_of text.now }
+/// Degrees above the horizon, -90..=90, and the text behind their field.
+#[inline(always)]
+#[tactic(auto, unfolding(crate::specs::Readings::elevation_of))]
+pub(crate) fn next_elevation(text: &[u8]) -> (Option<i32>, &[u8])
+    ensures elevation { result.0 ≡ elevation_of (field text.now) }
+    ensures behind { result.1.now ≡ behind text.now }
 {
-    whole(text, 360)
+    let (n, rest) = next_integer(text);
+    (within_right_angle(n), rest)
 }
 
-/// Signal strength in dBHz, 0..=99.
-pub(crate) fn strength(text: &[u8]) -> Option<u32>
-    ensures { result ≡ strength_of text.now }
+/// Degrees from true north, 0..=360, and the text behind their field.
+#[inline(always)]
+pub(crate) fn next_azimuth(text: &[u8]) -> (Option<u32>, &[u8])
+    ensures azimuth { result.0 ≡ azimuth_of (field text.now) }
+    ensures behind { result.1.now ≡ behind text.now }
 {
-    whole(text, 99)
+    next_whole(text, 360)
+}
+
+/// Signal strength in dBHz, 0..=99, and the text behind its field.
+#[inline(always)]
+pub(crate) fn next_strength(text: &[u8]) -> (Option<u32>, &[u8])
+    ensures strength { result.0 ≡ strength_of (field text.now) }
+    ensures behind { result.1.now ≡ behind text.now }
+{
+    next_whole(text, 99)
 }
 
 /// A dilution in hundredths, at most 99.99.

@@ -5,7 +5,7 @@ ghost use Rattle.nmea_decode.specs.Fields.{field_count, skipped};
 ghost use Rattle.nmea_decode.specs.Satellites.{ids_in, satellite_of, satellites_in, satellites_of, signal_in, signal_of};
 
 use crate::fields::{count, next, skip};
-use crate::readings::{azimuth, elevation, id, strength};
+use crate::readings::{next_azimuth, next_elevation, next_id, next_strength};
 use gps_fixed::NoMemory;
 use gps_report::{Satellite, Sats};
 use std::alloc::Global;
@@ -19,16 +19,16 @@ fn satellite(text: &[u8], system: Option<u8>, signal: Option<u8>) -> (Option<Sat
     ensures satellite { result.0 ≡ satellite_of system signal text.now }
     ensures behind { result.1.now ≡ skipped 4 text.now }
 {
-    let (id_text, text) = next(text);
-    let (el, text) = next(text);
-    let (az, text) = next(text);
-    let (ss, text) = next(text);
-    let satellite = match id(id_text) {
+    let (id, text) = next_id(text);
+    let (el, text) = next_elevation(text);
+    let (az, text) = next_azimuth(text);
+    let (ss, text) = next_strength(text);
+    let satellite = match id {
         Some(prn) => Some(Satellite {
             prn,
-            el: elevation(el),
-            az: azimuth(az),
-            ss: strength(ss),
+            el,
+            az,
+            ss,
             used: false,
             gnss: match system {
                 Some(system) => Some((system, prn as u16)),
@@ -144,8 +144,8 @@ pub(crate) fn push_ids<'a>(
     let mut rest = text;
     let mut left = fields;
     'fields: while left > 0 {
-        let (field, behind) = next(rest);
-        push_id(ids, id(field))?;
+        let (id, behind) = next_id(rest);
+        push_id(ids, id)?;
         rest = behind;
         left -= 1;
     }

@@ -54,3 +54,22 @@ three_digits (a ∷ b ∷ c ∷ []) n long one two three is =
     digits_read (a ∷ b ∷ c ∷ []) n
     (all_of (is_ascii_digit a) _ one (all_of (is_ascii_digit b) _ two (all_of (is_ascii_digit c) true three refl))) (omega arith) (omega arith) (omega (arith, is))
 three_digits (a ∷ b ∷ c ∷ d ∷ text) n long one two three is = absurd (omega (arith, long))
+
+pub point_and_two : (text : List ℕ) (n : ℕ) → length text ≡ 4 → slice_index text 1 ≡ 46 → is_ascii_digit (slice_index text 0) ≡ true
+    → is_ascii_digit (slice_index text 2) ≡ true → is_ascii_digit (slice_index text 3) ≡ true
+    → n ≡ 100 * (slice_index text 0 - 48) + 10 * (slice_index text 2 - 48) + (slice_index text 3 - 48) → scaled 2 text ≡ Some (pos n)
+point_and_two [] n long point one two three is = absurd (omega (arith, long))
+point_and_two (a ∷ []) n long point one two three is = absurd (omega (arith, long))
+point_and_two (a ∷ p ∷ []) n long point one two three is = absurd (omega (arith, long))
+point_and_two (a ∷ p ∷ b ∷ []) n long point one two three is = absurd (omega (arith, long))
+point_and_two (a ∷ p ∷ b ∷ c ∷ []) n long point one two three is =
+    let exact = scaled_exact 2 (a ∷ p ∷ b ∷ c ∷ []) (pos n) in
+    exact.1 (record {
+      negative = false;
+      parts = record { whole = a ∷ []; behind = Some (b ∷ c ∷ []) };
+      are = record { whole = all_of (is_ascii_digit a) true one refl; behind = all_of (is_ascii_digit b) _ two (all_of (is_ascii_digit c) true three refl); few = omega arith };
+      some = omega arith;
+      text_is = ap (λ d. a ∷ d ∷ b ∷ c ∷ []) point;
+      value_is = ap pos (omega (arith, is));
+    })
+point_and_two (a ∷ p ∷ b ∷ c ∷ d ∷ text) n long point one two three is = absurd (omega (arith, long))

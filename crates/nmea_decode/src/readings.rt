@@ -1,4 +1,4 @@
-ghost use Rattle.std.specs.Prelude.{◌≡◌, ◌*◌, ◌+◌, ◌^◌, ◌<◌, ◌≤◌, pos, Some, IfSome};
+ghost use Rattle.std.specs.Prelude.{◌≡◌, ◌==◌, ◌*◌, ◌+◌, ◌^◌, ◌<◌, ◌≤◌, pos, Some, IfSome};
 ghost use Rattle.std.specs.Char.{is_ascii_digit};
 ghost use Rattle.std.specs.Option.{option_and_then};
 ghost use Rattle.gps_fixed.specs.Scaled.{scaled};
@@ -205,11 +205,33 @@ pub(crate) fn next_strength(text: &[u8]) -> (Option<u32>, &[u8])
     next_whole(text, 99)
 }
 
+fn is_point(c: u8) -> bool
+    ensures { result ≡ (c == 46) }
+{
+    c == b'.'
+}
+
+/// One digit, a point and two digits, as most dilutions are.
+fn hundredths(text: &[u8]) -> Option<u32>
+    ensures { IfSome result (λ n. scaled 2 text.now ≡ Some (pos n)) }
+{
+    match text {
+        [a, point, b, c] if is_digit(*a) && is_point(*point) && is_digit(*b) && is_digit(*c) => {
+            Some(100 * u32::from(*a - b'0') + 10 * u32::from(*b - b'0') + u32::from(*c - b'0'))
+        }
+        _ => None,
+    }
+}
+
 /// A dilution in hundredths, at most 99.99.
+#[tactic(auto, unfolding(crate::specs::Readings::number_up_to))]
 pub(crate) fn dilution(text: &[u8]) -> Option<u32>
     ensures { result ≡ dilution_of text.now }
 {
-    number(text, 9_999, 2)
+    match hundredths(text) {
+        Some(n) => up_to(Some(i64::from(n)), 9_999),
+        None => number(text, 9_999, 2),
+    }
 }
 
 /// A height in millimetres.

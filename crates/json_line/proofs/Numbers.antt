@@ -1,5 +1,5 @@
 -- The texts of numbers and their lengths.
-use Rattle.std.proofs.Common.{◌≡◌, ℕ, ◌/◌, ◌%◌, ◌<◌, ◌≤◌, ◌+◌, ◌^◌, List, [], ◌∷◌, ◌++◌, length, ap, ◌∙◌, arith, append_assoc, length-append}
+use Rattle.std.proofs.Common.{◌≡◌, ℕ, ◌/◌, ◌%◌, ◌<◌, ◌≤◌, ◌+◌, ◌^◌, [], ◌∷◌, ◌++◌, length, ap, ◌∙◌, arith, append_assoc, length-append}
 use Rattle.std.proofs.lemmas.Fmt.{decimal_step, length-decimal-le}
 use Rattle.std.specs.Fmt.{decimal}
 use Rattle.gps_fixed.proofs.TextLaws.{decimal_one, decimal_two, decimal_three}

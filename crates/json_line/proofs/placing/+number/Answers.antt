@@ -1,4 +1,4 @@
-use Rattle.std.proofs.Common.{◌≡◌, ◌<◌, ◌^◌, arith, append_assoc}
+use Rattle.std.proofs.Common.{arith, append_assoc}
 use Rattle.json_line.proofs.Numbers.{in_thousands, three_more, at_most_ten, thousands_at_most_seven}
 use Rattle.json_line.proofs.placing.+number.Goals as goal
 

@@ -2,7 +2,7 @@
 use Rattle.std.proofs.Common.{◌≡◌, ℕ, ◌+◌, ◌≤◌, Bool, true, false, cond, List, [], ◌∷◌, ◌++◌, length, inl, inr, Option, refl, sym, ap, ◌∙◌, subst, arith, append-nil, length-append}
 use Rattle.std.specs.Prelude.{◌==◌, ◌||◌, not}
 use Rattle.std.proofs.lemmas.Bool.Decides.{nat_tests}
-use Rattle.gps_outside.specs.Told.{Stream, Goes as Told, Appends, AppendsPart}
+use Rattle.gps_outside.specs.Told.{Stream, Goes, Appends, AppendsPart}
 use Rattle.line_cut.specs.Limits.{is_too_long}
 use Rattle.line_cut.specs.Lines.{has_feed, is_feed, last_lines, lines, open_line, with_first}
 use Rattle.line_cut.proofs.Splits.{open_plain}
@@ -81,10 +81,10 @@ stopped Bad count bytes source after sink sink' outcome read stops writes =
     let text : bad_behind count.good ≡ bad_line (n + 1) = ap bad_line (kept_small n count.good stops.2 (omega arith)) in
     elim writes [
       | inl whole ↦ subst (λ o. Counted o source after sink sink') (sym whole.0)
-          (record { bytes = bytes; ends = inl (read, (n + 1, stops.1, subst (λ t. Told (Appends t) sink sink') text whole.1)) })
+          (record { bytes = bytes; ends = inl (read, (n + 1, stops.1, subst (λ t. Goes (Appends t) sink sink') text whole.1)) })
       | inr rest ↦ elim rest [
         | inl part ↦ subst (λ o. Counted o source after sink sink') (sym part.0)
-            (record { bytes = bytes; ends = inr (inl (read, (n + 1, stops.1, subst (λ t. Told (AppendsPart t) sink sink') text part.1))) })
+            (record { bytes = bytes; ends = inr (inl (read, (n + 1, stops.1, subst (λ t. Goes (AppendsPart t) sink sink') text part.1))) })
         | inr none ↦ subst (λ o. Counted o source after sink sink') (sym none.0) (record { bytes = bytes; ends = (inl read, none.1) })
       ]
     ]
@@ -151,10 +151,10 @@ ended true count bytes source after sink sink' outcome read stands is writes =
     let text : bad_behind count.good ≡ bad_line (n + 1) = ap bad_line (kept_small n count.good lacks.2 (omega arith)) in
     elim writes [
       | inl whole ↦ subst (λ o. Counted o source after sink sink') (sym whole.0)
-          (record { bytes = bytes; ends = inr (read, (n + 1, lacks.1, subst (λ t. Told (Appends t) sink sink') text whole.1)) })
+          (record { bytes = bytes; ends = inr (read, (n + 1, lacks.1, subst (λ t. Goes (Appends t) sink sink') text whole.1)) })
       | inr rest ↦ elim rest [
         | inl part ↦ subst (λ o. Counted o source after sink sink') (sym part.0)
-            (record { bytes = bytes; ends = inr (inr (read, (n + 1, lacks.1, subst (λ t. Told (AppendsPart t) sink sink') text part.1))) })
+            (record { bytes = bytes; ends = inr (inr (read, (n + 1, lacks.1, subst (λ t. Goes (AppendsPart t) sink sink') text part.1))) })
         | inr none ↦ subst (λ o. Counted o source after sink sink') (sym none.0) (record { bytes = bytes; ends = (inr read, none.1) })
       ]
     ]
@@ -168,10 +168,10 @@ ended false count bytes source after sink sink' outcome read stands is writes =
     subst (λ ls. AreRead values ls) (sym (ap (λ l. lines bytes ++ l) (none_last (open_line bytes) is) ∙ append-nil (lines bytes))) stands.are in
     elim writes [
       | inl whole ↦ subst (λ o. Counted o source after sink sink') (sym whole.0)
-          (record { bytes = bytes; ends = (read, (values, are, subst (λ t. Told (Appends t) sink sink') text whole.1)) })
+          (record { bytes = bytes; ends = (read, (values, are, subst (λ t. Goes (Appends t) sink sink') text whole.1)) })
       | inr rest ↦ elim rest [
         | inl part ↦ subst (λ o. Counted o source after sink sink') (sym part.0)
-            (record { bytes = bytes; ends = inl (read, (values, are, subst (λ t. Told (AppendsPart t) sink sink') text part.1)) })
+            (record { bytes = bytes; ends = inl (read, (values, are, subst (λ t. Goes (AppendsPart t) sink sink') text part.1)) })
         | inr none ↦ subst (λ o. Counted o source after sink sink') (sym none.0) (record { bytes = bytes; ends = (inr read, none.1) })
       ]
     ]

@@ -35,7 +35,7 @@ UsesSome (Ok (Some n)) piece = (0 < n) × (n ≤ length piece)
 UsesSome (Ok None) piece = Unit {0}
 UsesSome (Err stop) piece = Unit {0}
 
--- a further piece was counted, or a bad line was met in it
-abbrev pub Goes : {X : Type 0} → Result X Stop → Count → List ℕ → Type 0
-Goes (Ok _) count bytes = CountStands count bytes
-Goes (Err stop) count bytes = Stops stop count bytes
+-- a further piece was counted, or a bad line was met in it, or there was no memory
+abbrev pub CountsOrStops : {X : Type 0} → Result X Stop → Count → List ℕ → Type 0
+CountsOrStops (Ok _) count bytes = CountStands count bytes
+CountsOrStops (Err stop) count bytes = Stops stop count bytes

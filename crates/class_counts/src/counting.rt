@@ -2,7 +2,7 @@ ghost use Rattle.std.specs.Prelude.{◌≡◌, ◌≤◌, ◌++◌, ◌==◌, Li
 ghost use Rattle.gps_client.specs.declared.line.Line.{Line};
 ghost use Rattle.gps_client.specs.Texts.{IsLineOf};
 ghost use Rattle.line_cut.specs.Lines.{open_line};
-ghost use Rattle.class_counts.specs.Standing.{Goes, CountStands, CountSteps, UsesSome};
+ghost use Rattle.class_counts.specs.Standing.{CountsOrStops, CountStands, CountSteps, UsesSome};
 
 use crate::tally::Tally;
 use gps_client::{Line, LineFault, read_line};
@@ -85,7 +85,7 @@ impl Count {
     /// Counts the lines of one more piece.
     #[tactic(auto, using(crate::proofs::Feeding::begun, crate::proofs::Feeding::goes_on, crate::proofs::Feeding::at_end, crate::proofs::Feeding::stopped))]
     pub(crate) fn feed(&mut self, alloc: Global, piece: &[u8]) -> Result<(), Stop>
-        ensures { (bytes : List ℕ) → CountStands self.old bytes → Goes result self.new (bytes ++ piece.now) }
+        ensures { (bytes : List ℕ) → CountStands self.old bytes → CountsOrStops result self.new (bytes ++ piece.now) }
     {
         let mut rest = piece;
         'cuts: loop {

@@ -1,6 +1,6 @@
 -- What the counts of the outside say once the threads have ended.
 use Rattle.std.proofs.Common.{◌≡◌, ℕ, ◌<◌, ◌⊎◌, inl, inr, Bool, true, false, ◌||◌, List, [], ◌∷◌, ◌++◌, Option, Some, None, refl, sym, ◌∙◌, subst, arith}
-use Rattle.serve_end_settling.specs.Failing.{SomeFailed, SourceFailed}
+use Rattle.serve_end_settling.specs.Failing.{AnyOf, SourceFailed}
 use Rattle.serve_end_settling.proofs.Causes.{failed_front, failed_last}
 use Rattle.std.specs.Prelude.{Result, Err}
 use Rattle.gps_outside.specs.Counts.{Rose}
@@ -14,10 +14,10 @@ either true now is = inl refl
 either false now is = inr is
 
 -- one more device
-pub failed_more : {X : Type 0} (P : X → Type 0) (before now failed : Bool) (xs xs' : List X) (x : X) → (before ≡ true → SomeFailed P xs) → (now ≡ true → P x)
-    → failed ≡ (before || now) → xs' ≡ xs ++ x ∷ [] → failed ≡ true → SomeFailed P xs'
+pub failed_more : {X : Type 0} (P : X → Type 0) (before now failed : Bool) (xs xs' : List X) (x : X) → (before ≡ true → AnyOf P xs) → (now ≡ true → P x)
+    → failed ≡ (before || now) → xs' ≡ xs ++ x ∷ [] → failed ≡ true → AnyOf P xs'
 failed_more P before now failed xs xs' x so one is more e =
-    subst (SomeFailed P) (sym more)
+    subst (AnyOf P) (sym more)
     (elim (either before now (sym is ∙ e)) [ inl first ↦ failed_front P xs x (so first) | inr last ↦ failed_last P xs x (one last) ])
 
 -- what the door's failing says of its count

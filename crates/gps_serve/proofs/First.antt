@@ -13,7 +13,7 @@ use Rattle.serve_pieces.specs.declared.piece.Ending.TheVariants.{End, Failed, No
 use Rattle.serve_pieces.specs.declared.piece.Piece.{Piece}
 use Rattle.serve_threads.specs.declared.reading.ReaderDone.{ReaderDone}
 use Rattle.serve_end_settling.specs.declared.device.DeviceRun.{DeviceRun}
-use Rattle.serve_end_settling.specs.Failing.{EdgeFailed, SaysFailed, SomeFailed}
+use Rattle.serve_end_settling.specs.Failing.{EdgeFailed, SaysFailed, AnyOf}
 use Rattle.serve_end_settling.specs.Lanes.{tx_of}
 use Rattle.serve_end_settling.specs.Runs.{EachRun, EdgesRan, SourceFacts}
 use Rattle.serve_end_settling.proofs.Causes.{each_run_more}
@@ -107,7 +107,7 @@ not_lost may facts device untold whole lost =
     ]
 
 none_lost : {S R : Type 0} (may : Option (List Moment)) (facts : SourceFacts S) (devices : List (DeviceDone S R)) → EachRun TellsNoFault devices
-    → All (IsWhole may facts) devices → SomeFailed WasLostByFault devices → ⊥
+    → All (IsWhole may facts) devices → AnyOf WasLostByFault devices → ⊥
 none_lost may facts [] untold whole lost = lost
 none_lost may facts (device ∷ devices) untold whole lost = elim lost [
   | inl this ↦ not_lost may facts device untold.0 (whole zero device (omega arith)) this
@@ -117,12 +117,12 @@ none_lost may facts (device ∷ devices) untold whole lost = elim lost [
 -- of the causes of a status a device that was lost by a fault is the first
 pub first_of : {S R : Type 0} (may : Option (List Moment)) (facts : SourceFacts S) (devices : List (DeviceDone S R)) (failed : Bool) (status : ℕ)
     → (failed ≡ true → status ≡ 3) → (failed ≡ false → EachRun TellsNoFault devices) → All (IsWhole may facts) devices
-    → SomeFailed WasLostByFault devices → status ≡ 3
+    → AnyOf WasLostByFault devices → status ≡ 3
 first_of may facts devices true status three untold whole lost = three refl
 first_of may facts devices false status three untold whole lost = absurd (none_lost may facts devices (untold refl) whole lost)
 
 -- if no device is there, none was lost
-pub no_devices : {S R : Type 0} (devices : List (DeviceDone S R)) (status : ℕ) → devices ≡ [] → SomeFailed WasLostByFault devices → status ≡ 3
+pub no_devices : {S R : Type 0} (devices : List (DeviceDone S R)) (status : ℕ) → devices ≡ [] → AnyOf WasLostByFault devices → status ≡ 3
 no_devices [] status none lost = absurd lost
 no_devices (device ∷ devices) status none lost = absurd (cc)
 

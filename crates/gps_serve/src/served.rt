@@ -8,7 +8,7 @@ ghost use Rattle.hub_promise.specs.Parts.{terms_of};
 ghost use Rattle.gps_world.specs.Asking.{asked_nothing};
 ghost use Rattle.world_opening.specs.Opening.{AsksAll, AsksSome, GivenOnce, dial_of, places_in};
 ghost use Rattle.serve_end_parts.specs.Plans.{IsPlan};
-ghost use Rattle.serve_end_settling.specs.Failing.{DeviceFailed, SomeFailed, SourceFailed};
+ghost use Rattle.serve_end_settling.specs.Failing.{DeviceFailed, AnyOf, SourceFailed};
 ghost use Rattle.serve_end_settling.specs.Runs.{RunCause, EachRun, source_facts};
 ghost use Rattle.serve_threads.specs.Segments.{segments_of};
 ghost use Rattle.serve_threads.specs.Sessions.{SessionRuns};
@@ -63,7 +63,7 @@ fn nothing<W: World, R: Wait + Copy>(alloc: Global, world: W, stop: Stop) -> Ser
     ensures three { result.status ≡ 3 → stop ≡ Stop.Input }
     ensures eight { result.status ≡ 8 → stop ≡ Stop.Listen }
     ensures seven { result.status ≡ 7 → result.no_memory ≡ true }
-    ensures first { SomeFailed WasLostByFault result.devices.items → result.status ≡ 3 }
+    ensures first { AnyOf WasLostByFault result.devices.items → result.status ≡ 3 }
     ensures untold { (result.status ≡ 3) ⊎ All TellsNoFault result.devices.items }
     ensures door { SourceFailed W.Gate.faults result.gate → (result.status ≡ 3) ⊎ (result.status ≡ 8) }
     ensures lacked { stop ≡ Stop.NoMemory → result.status ≡ 7 }
@@ -181,10 +181,10 @@ fn gather<W: World, J: HubNaming, D: Dials, R: Wait + Copy>(
     ensures book { IsSome result.book }
     ensures world { result.world ≡ world }
     ensures range { (result.status ≡ 0) ⊎ (result.status ≡ 3) ⊎ (result.status ≡ 7) ⊎ (result.status ≡ 8) }
-    ensures three { result.status ≡ 3 → SomeFailed (DeviceFailed W.In.faults) result.devices.items }
+    ensures three { result.status ≡ 3 → AnyOf (DeviceFailed W.In.faults) result.devices.items }
     ensures eight { result.status ≡ 8 → SourceFailed W.Gate.faults result.gate }
     ensures seven { result.status ≡ 7 → result.no_memory ≡ true }
-    ensures first { SomeFailed WasLostByFault result.devices.items → result.status ≡ 3 }
+    ensures first { AnyOf WasLostByFault result.devices.items → result.status ≡ 3 }
     ensures untold { (result.status ≡ 3) ⊎ All TellsNoFault result.devices.items }
     ensures door { SourceFailed W.Gate.faults result.gate → (result.status ≡ 3) ⊎ (result.status ≡ 8) }
     ensures zero { result.status ≡ 0 → result.no_memory ≡ false }
@@ -323,10 +323,10 @@ fn run<
     requires sound { W.Gate.faults gate ≡ 0 }
     ensures world { result.world ≡ world }
     ensures range { (result.status ≡ 0) ⊎ (result.status ≡ 3) ⊎ (result.status ≡ 7) ⊎ (result.status ≡ 8) }
-    ensures three { result.status ≡ 3 → SomeFailed (DeviceFailed W.In.faults) result.devices.items }
+    ensures three { result.status ≡ 3 → AnyOf (DeviceFailed W.In.faults) result.devices.items }
     ensures eight { result.status ≡ 8 → SourceFailed W.Gate.faults result.gate }
     ensures seven { result.status ≡ 7 → result.no_memory ≡ true }
-    ensures first { SomeFailed WasLostByFault result.devices.items → result.status ≡ 3 }
+    ensures first { AnyOf WasLostByFault result.devices.items → result.status ≡ 3 }
     ensures untold { (result.status ≡ 3) ⊎ All TellsNoFault result.devices.items }
     ensures door { SourceFailed W.Gate.faults result.gate → (result.status ≡ 3) ⊎ (result.status ≡ 8) }
     ensures zero { result.status ≡ 0 → (result.no_memory ≡ false) × IsSome result.book }
@@ -394,10 +394,10 @@ pub fn serve<W: World, R: Threads + Wait + Copy + Send + Sync>(
     requires plan { IsPlan plan }
     requires asked { W.asked world ≡ asked_nothing }
     ensures range { (result.status ≡ 0) ⊎ (result.status ≡ 3) ⊎ (result.status ≡ 7) ⊎ (result.status ≡ 8) }
-    ensures three { result.status ≡ 3 → SomeFailed (DeviceFailed W.In.faults) result.devices.items ⊎ Rose (W.input_faults world) (W.input_faults result.world) }
+    ensures three { result.status ≡ 3 → AnyOf (DeviceFailed W.In.faults) result.devices.items ⊎ Rose (W.input_faults world) (W.input_faults result.world) }
     ensures eight { result.status ≡ 8 → SourceFailed W.Gate.faults result.gate ⊎ Rose (W.listen_faults world) (W.listen_faults result.world) }
     ensures seven { result.status ≡ 7 → result.no_memory ≡ true }
-    ensures first { SomeFailed WasLostByFault result.devices.items → result.status ≡ 3 }
+    ensures first { AnyOf WasLostByFault result.devices.items → result.status ≡ 3 }
     ensures untold { (result.status ≡ 3) ⊎ All TellsNoFault result.devices.items }
     ensures door { SourceFailed W.Gate.faults result.gate → (result.status ≡ 3) ⊎ (result.status ≡ 8) }
     ensures zero { result.status ≡ 0 → (result.no_memory ≡ false) × IsSome result.book }

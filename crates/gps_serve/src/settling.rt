@@ -4,7 +4,7 @@ ghost use Rattle.std.specs.Vec.{vec_len, vec_capacity};
 ghost use Rattle.std.specs.Vec.Iter.{into_iter_items};
 ghost use Rattle.book_sessions.specs.MemberView.{MemberView};
 ghost use Rattle.book_units.specs.Units.{UnitView};
-ghost use Rattle.serve_end_settling.specs.Failing.{DeviceFailed, SomeFailed, source_of};
+ghost use Rattle.serve_end_settling.specs.Failing.{DeviceFailed, AnyOf, source_of};
 ghost use Rattle.serve_end_settling.specs.Lanes.{tx_of};
 ghost use Rattle.serve_end_settling.specs.Runs.{RunCause, EachRun, source_facts};
 ghost use Rattle.gps_serve.specs.Facts.{sink_facts};
@@ -90,7 +90,7 @@ pub(crate) fn devices_done<S: Source, D: Dials, R: Wait + Copy>(
     requires enough { vec_len runs ≤ vec_capacity room }
     ensures served { AllZip (DeviceServed D.may (source_facts S.Source)) inlets.items result.devices.items }
     ensures ends { map (λ device. device.end) result.devices.items ≡ ends.items }
-    ensures failed { result.failed ≡ true → SomeFailed (DeviceFailed S.faults) result.devices.items }
+    ensures failed { result.failed ≡ true → AnyOf (DeviceFailed S.faults) result.devices.items }
     ensures untold { result.failed ≡ false → EachRun TellsNoFault result.devices.items }
     ensures left { AllZip IsLeftOf runs.items result.devices.items }
 {

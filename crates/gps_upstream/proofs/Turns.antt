@@ -8,7 +8,7 @@ use Rattle.upstream_laws.specs.declared.stage.Stage.TheVariants.{Nowhere}
 use Rattle.upstream_laws.specs.Head.{Stand, taken, behind}
 use Rattle.gps_upstream.specs.declared.reading.HeadStep.{HeadStep}
 use Rattle.gps_upstream.specs.declared.reading.HeadStep.TheVariants as steps
-use Rattle.gps_upstream.specs.Reading.{Gives, GoesOn, Moves, handed_on}
+use Rattle.gps_upstream.specs.Reading.{Gives, HeadGoesOn, Moves, handed_on}
 use Rattle.gps_upstream.proofs.Heads.{behind_both, taken_both}
 
 -- these bytes were taken from the source so far, and all of them belong to the head
@@ -55,7 +55,7 @@ behind_more : (old now : Stand) (a b bytes : List ℕ) → now ≡ taken old a �
 behind_more old now a b bytes p none q =
     behind_both old a b ∙ ap (λ l. l ++ behind (taken old a) b) none ∙ ap (λ (s : Stand). behind s b) (sym p) ∙ q
 
-pub in_head : (old now new : Stand) (c d e : Option Stream) → IsInHead old now c d → GoesOn now new d e → IsInHead old new c e
+pub in_head : (old now new : Stand) (c d e : Option Stream) → IsInHead old now c d → HeadGoesOn now new d e → IsInHead old new c e
 in_head old now new c d e first more = record {
   raw = first.raw ++ more.raw;
   moved = goes_on (Passes first.raw) (Passes more.raw) (Passes (first.raw ++ more.raw)) c d e (passes_both first.raw more.raw) first.moved more.moved;

@@ -49,7 +49,7 @@ pub record Gives (step : HeadStep) (buffer : List ℕ) (old new : Stand) (before
   pub stage : StandsAt step new.stage
 
 -- some bytes are taken from the source, and all of them belong to the head
-pub record GoesOn (old new : Stand) (before after : Option Stream) : Type 0 where
+pub record HeadGoesOn (old new : Stand) (before after : Option Stream) : Type 0 where
   pub raw : List ℕ
   pub moved : Goes (Passes raw) before after
   pub stand : new ≡ taken old raw

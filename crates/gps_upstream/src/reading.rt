@@ -3,7 +3,7 @@ ghost use Rattle.gps_outside.specs.Counts.{Rose};
 ghost use Rattle.upstream_laws.specs.declared.stage.Stage.{Stage};
 ghost use Rattle.gps_upstream.specs.declared.reading.HeadStep.{HeadStep};
 ghost use Rattle.gps_upstream.specs.Calls.{answer_of};
-ghost use Rattle.gps_upstream.specs.Reading.{FitsBuffer, Gives, GoesOn};
+ghost use Rattle.gps_upstream.specs.Reading.{FitsBuffer, Gives, HeadGoesOn};
 
 use crate::cutter::HeadCutter;
 use gps_outside::{ReadStep, Source};
@@ -58,7 +58,7 @@ fn read_once<S: Source>(source: &mut S, cutter: &mut HeadCutter, buf: &mut [u8])
     requires head { cutter.old.stage ≢ Stage.Nowhere }
     ensures fits { IfSome result (λ step. FitsBuffer step (length buf.old)) }
     ensures gives { IfSome result (λ step. Gives step buf.new cutter.old cutter.new (S.content source.old) (S.content source.new)) }
-    ensures goes_on { IfNone result (GoesOn cutter.old cutter.new (S.content source.old) (S.content source.new)) }
+    ensures goes_on { IfNone result (HeadGoesOn cutter.old cutter.new (S.content source.old) (S.content source.new)) }
     ensures faults_stay { S.faults source.old ≤ S.faults source.new }
     ensures quiets_stay { S.quiets source.old ≤ S.quiets source.new }
     ensures failed { result ≡ Some HeadStep.Failed → Rose (S.faults source.old) (S.faults source.new) }

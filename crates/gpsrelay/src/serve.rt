@@ -6,7 +6,7 @@ ghost use Rattle.gps_words.specs.Within.{IsWithin};
 ghost use Rattle.gps_world.specs.Asking.{asked_nothing};
 ghost use Rattle.world_opening.specs.Opening.{dial_of, places_in};
 ghost use Rattle.serve_end_parts.specs.Plans.{IsPlan};
-ghost use Rattle.serve_end_settling.specs.Failing.{DeviceFailed, SomeFailed, SourceFailed};
+ghost use Rattle.serve_end_settling.specs.Failing.{DeviceFailed, AnyOf, SourceFailed};
 ghost use Rattle.serve_end_settling.specs.Runs.{source_facts};
 ghost use Rattle.gps_serve.specs.AtEnd.{AtEnd, handed_back, settings_in, start_in};
 ghost use Rattle.gps_serve.specs.Facts.{world_facts};
@@ -108,7 +108,7 @@ fn nothing<W: World, R: Wait + Copy>(alloc: Global, world: W, status: u8) -> Ser
     ensures book { result.book ≡ None }
     ensures world { result.world ≡ world }
     ensures devices { result.devices.items ≡ [] }
-    ensures first { SomeFailed WasLostByFault result.devices.items → result.status ≡ 3 }
+    ensures first { AnyOf WasLostByFault result.devices.items → result.status ≡ 3 }
     ensures untold { (result.status ≡ 3) ⊎ All TellsNoFault result.devices.items }
     ensures readers { ReadersHadMemory result.devices.items result.sessions.items }
     ensures door { SourceFailed W.Gate.faults result.gate → (result.status ≡ 3) ⊎ (result.status ≡ 8) }
@@ -149,10 +149,10 @@ pub fn serve_main<W: World, R: Threads + Wait + Copy + Send + Sync>(
     ensures refused { serve_asked_of (map string_bytes words.now) ≡ None → (result.status ≡ 2) ⊎ (result.status ≡ 7) }
     ensures only { result.status ≡ 2 → serve_asked_of (map string_bytes words.now) ≡ None }
     ensures untouched { serve_asked_of (map string_bytes words.now) ≡ None → (result.book ≡ None) × (result.world ≡ world) }
-    ensures three { result.status ≡ 3 → SomeFailed (DeviceFailed W.In.faults) result.devices.items ⊎ Rose (W.input_faults world) (W.input_faults result.world) }
+    ensures three { result.status ≡ 3 → AnyOf (DeviceFailed W.In.faults) result.devices.items ⊎ Rose (W.input_faults world) (W.input_faults result.world) }
     ensures eight { result.status ≡ 8 → SourceFailed W.Gate.faults result.gate ⊎ Rose (W.listen_faults world) (W.listen_faults result.world) }
     ensures seven { result.status ≡ 7 → result.no_memory ≡ true }
-    ensures first { SomeFailed WasLostByFault result.devices.items → result.status ≡ 3 }
+    ensures first { AnyOf WasLostByFault result.devices.items → result.status ≡ 3 }
     ensures untold { (result.status ≡ 3) ⊎ All TellsNoFault result.devices.items }
     ensures door { SourceFailed W.Gate.faults result.gate → (result.status ≡ 3) ⊎ (result.status ≡ 8) }
     ensures zero { result.status ≡ 0 → (result.no_memory ≡ false) × IsSome result.book }

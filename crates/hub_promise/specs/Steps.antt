@@ -16,7 +16,7 @@ use Rattle.session_core.specs.declared.mark.Close.{Close}
 use Rattle.session_core.specs.declared.mark.Close.TheVariants.{Overrun}
 use Rattle.session_core.specs.SessionView.{SessionView}
 use Rattle.session_runs.specs.Accounts.{CarriesOn}
-use Rattle.session_runs.specs.Following.{GoesOn, forgotten_if}
+use Rattle.session_runs.specs.Following.{BookGoesOn, forgotten_if}
 use Rattle.hub_promise.specs.declared.ends.DeviceEnd.{DeviceEnd}
 use Rattle.hub_promise.specs.declared.ends.DeviceEnd.TheVariants.{Ended, ReadFault, NoMemory as LostNoMemory}
 use Rattle.hub_promise.specs.DaemonHub.{SessionFits}
@@ -58,7 +58,7 @@ pub record Abides (old new : MemberView) : Type 0 where
 -- entries came to a book, behind a turn or none
 pub record Onward (old new : BookView) (entries : List Entry) : Type 0 where
   pub turns : Bool
-  pub goes : (before : List Entry) → StandsFor old.log.opening before → GoesOn turns old new entries before
+  pub goes : (before : List Entry) → StandsFor old.log.opening before → BookGoesOn turns old new entries before
   pub carries : (before : List Entry) → StandsFor old.log.opening before → AllZip (CarriesOn old before new (forgotten_if turns before old.log.log)) old.sessions new.sessions
   pub abides : AllZip Abides old.sessions new.sessions
   pub units : (before : List Entry) → StandsFor old.log.opening before → (u : ℕ) (x : UnitView) → u < length old.units

@@ -10,7 +10,7 @@ use Rattle.serve_threads.specs.Reading.{Reads, ReadsLines}
 use Rattle.serve_threads.specs.declared.reading.ReaderDone.{ReaderDone}
 use Rattle.serve_end_parts.specs.declared.done.DeviceDone.{DeviceDone}
 use Rattle.serve_end_settling.specs.declared.device.DeviceRun.{DeviceRun}
-use Rattle.serve_end_settling.specs.Failing.{DeviceFailed, EdgeFailed, RunFailed, SomeFailed, SourceFailed, source_of}
+use Rattle.serve_end_settling.specs.Failing.{DeviceFailed, EdgeFailed, RunFailed, AnyOf, SourceFailed, source_of}
 use Rattle.serve_end_settling.specs.Runs.{EachRun, EdgeCause, RunCause}
 
 rose_some : (before now : ℕ) → Rose before now → 0 < now
@@ -28,11 +28,11 @@ pub each_run_more : {X : Type 0} (P : X → Type 0) (runs : List X) (run : X) �
 each_run_more P [] run each p = (p, tt)
 each_run_more P (first ∷ runs) run each p = (each.0, each_run_more P runs run each.1 p)
 
-pub failed_front : {X : Type 0} (P : X → Type 0) (xs : List X) (x : X) → SomeFailed P xs → SomeFailed P (xs ++ x ∷ [])
+pub failed_front : {X : Type 0} (P : X → Type 0) (xs : List X) (x : X) → AnyOf P xs → AnyOf P (xs ++ x ∷ [])
 failed_front P [] x some = absurd some
 failed_front P (first ∷ xs) x some = elim some [ inl here ↦ inl here | inr later ↦ inr (failed_front P xs x later) ]
 
-pub failed_last : {X : Type 0} (P : X → Type 0) (xs : List X) (x : X) → P x → SomeFailed P (xs ++ x ∷ [])
+pub failed_last : {X : Type 0} (P : X → Type 0) (xs : List X) (x : X) → P x → AnyOf P (xs ++ x ∷ [])
 failed_last P [] x p = inl p
 failed_last P (first ∷ xs) x p = inr (failed_last P xs x p)
 

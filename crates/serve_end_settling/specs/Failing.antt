@@ -31,6 +31,7 @@ RunFailed faults run = SourceFailed faults (Some run.bytes.source) ⊎ SourceFai
 abbrev pub DeviceFailed : {S R : Type 0} → (S → ℕ) → DeviceDone S R → Type 0
 DeviceFailed faults device = SourceFailed faults device.source ⊎ SourceFailed faults device.edges
 
-abbrev pub SomeFailed : {X : Type 0} → (X → Type 0) → List X → Type 0
-SomeFailed P [] = ⊥
-SomeFailed P (x ∷ xs) = P x ⊎ SomeFailed P xs
+-- it holds of one of these
+abbrev pub AnyOf : {X : Type 0} → (X → Type 0) → List X → Type 0
+AnyOf P [] = ⊥
+AnyOf P (x ∷ xs) = P x ⊎ AnyOf P xs

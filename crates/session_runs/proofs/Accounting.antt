@@ -15,7 +15,7 @@ use Rattle.book_sessions.specs.Roster.{Shuts}
 use Rattle.report_book.specs.BookView.{BookView}
 use Rattle.session_runs.specs.Accounts.{Account, AccountIn, AdmittedHasAccount, CarriesOn, ClosedHearsNothing, ClosingsEndAccounts, EntriesCarryAccounts, InputsExtendAccounts, OthersKeepAccounts, QuietEntriesCarryAccounts, ShutEndsAccounts, TakingMovesItems, put_of}
 use Rattle.session_runs.specs.Asking.{HasSent, HearsNothing}
-use Rattle.session_runs.specs.Following.{Extends, Follows, GoesOn, answered_run, closed_run, forgotten_if, run_after, shut_run}
+use Rattle.session_runs.specs.Following.{BookGoesOn, Extends, Follows, answered_run, closed_run, forgotten_if, run_after, shut_run}
 use Rattle.session_runs.specs.Runs.{SessionRun, items_over}
 use Rattle.session_runs.proofs.Books.{admitted_begins, given_taken, moves_extend, place_is}
 use Rattle.session_runs.proofs.Counting.{AllCount, Counts, closings_count, counts_these, entries_count, items_on, same_counts, shuts_count}
@@ -55,7 +55,7 @@ carries old new entries before onward names whole a b follows (nothing, counts) 
       sent = subst S (sym whole) (sent_onward old.names (before ++ old.log.log) entries a b r.stretches bytes nothing account.sent);
     })
 
-all_carry : (turns : Bool) (old new : BookView) (entries before : List Entry) → GoesOn turns old new entries before → AllZip HearsNothing old.sessions new.sessions
+all_carry : (turns : Bool) (old new : BookView) (entries before : List Entry) → BookGoesOn turns old new entries before → AllZip HearsNothing old.sessions new.sessions
     → AllCount old.sessions new.sessions → AllZip (CarriesOn old before new (forgotten_if turns before old.log.log)) old.sessions new.sessions
 all_carry turns old new entries before on nothing counts =
     let onward : List Entry = forgotten_if turns before old.log.log in

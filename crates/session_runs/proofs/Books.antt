@@ -20,7 +20,7 @@ use Rattle.report_book.specs.BookView.{BookView, turned_if}
 use Rattle.report_book.specs.Moves.{BookAdds}
 use Rattle.report_book.specs.Standing.{BookHolds}
 use Rattle.session_runs.specs.Runs.{SessionRun, IsHere, IsRunOf, RunsOf, items_over}
-use Rattle.session_runs.specs.Following.{Extends, Follows, GoesOn, closing_after, opened_run, run_after, shut_run}
+use Rattle.session_runs.specs.Following.{BookGoesOn, Extends, Follows, closing_after, opened_run, run_after, shut_run}
 use Rattle.session_runs.specs.Laws.{AdmittedRunBegins, GivenMore, GivenTaken, MovesExtendRuns, OneRunChanges, ShutAllRuns}
 use Rattle.session_runs.proofs.Going.{reports_extend, shuts_end, turns_keep}
 use Rattle.session_runs.proofs.Whole.{whole_length}
@@ -123,10 +123,10 @@ runs_on old new before onward names follows runs zip =
 
 -- entries and their reports were added, behind a turn or none
 moved : (exact turns : Bool) (old new : BookView) (entries before : List Entry) (reports : List Report) → BookHolds old → StandsFor old.log.opening before
-    → BookAdds exact (turned_if turns old) new entries reports → GoesOn turns old new entries before
+    → BookAdds exact (turned_if turns old) new entries reports → BookGoesOn turns old new entries before
 moved true_or turns old new entries before reports held stands adds = by turns adds
   where
-    by : (turns : Bool) → BookAdds true_or (turned_if turns old) new entries reports → GoesOn turns old new entries before
+    by : (turns : Bool) → BookAdds true_or (turned_if turns old) new entries reports → BookGoesOn turns old new entries before
     by true adds =
         let onward : List Entry = before ++ old.log.log in
         let present : StandsFor old.log.present onward = (held.log.over before stands).present in

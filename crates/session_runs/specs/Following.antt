@@ -44,7 +44,7 @@ abbrev pub forgotten_if : Bool → List Entry → List Entry → List Entry
 forgotten_if turns before log = cond turns (before ++ log) before
 
 -- Entries came to a book, behind a turn or none: the whole log is so much longer, and each session goes on.
-pub record GoesOn (turns : Bool) (old new : BookView) (entries before : List Entry) : Type 0 where
+pub record BookGoesOn (turns : Bool) (old new : BookView) (entries before : List Entry) : Type 0 where
   pub stands : StandsFor new.log.opening (forgotten_if turns before old.log.log)
   pub whole : forgotten_if turns before old.log.log ++ new.log.log ≡ (before ++ old.log.log) ++ entries
   pub names : new.names ≡ old.names

@@ -22,7 +22,7 @@ use Rattle.report_book.specs.BookView.{BookView}
 use Rattle.report_book.specs.Moves.{AddsQuietly, Admits, Moves, SameButSessions, ShutsAll}
 use Rattle.report_book.specs.Standing.{BookHolds}
 use Rattle.session_runs.specs.Runs.{SessionRun, IsGiven, IsRunOf, RunsOf, items_over}
-use Rattle.session_runs.specs.Following.{Extends, Follows, GoesOn, answered_run, closed_run, opened_run, shut_run}
+use Rattle.session_runs.specs.Following.{BookGoesOn, Extends, Follows, answered_run, closed_run, opened_run, shut_run}
 
 -- A new session's run is its opening, after the whole log.
 pub record RunBegins (name : OutletName) (cap : ℕ) (old new : BookView) (before : List Entry) : Type 0 where
@@ -64,11 +64,11 @@ TurnsKeepRuns = (names : List (List ℕ)) (before log : List Entry) (s : Session
 -- Entries come, behind a turn if one is due.
 abbrev pub MovesExtendRuns : Type 0
 MovesExtendRuns = (exact turns : Bool) (old new : BookView) (entries before : List Entry) → BookHolds old → StandsFor old.log.opening before
-    → Moves exact turns old new entries → GoesOn turns old new entries before
+    → Moves exact turns old new entries → BookGoesOn turns old new entries before
 
 abbrev pub QuietEntriesKeepRuns : Type 0
 QuietEntriesKeepRuns = (old new : BookView) (entries before : List Entry) → StandsFor old.log.opening before
-    → AddsQuietly old new entries → GoesOn Bool.false old new entries before
+    → AddsQuietly old new entries → BookGoesOn Bool.false old new entries before
 
 -- Answers that are put to an open session are further stretches after the whole log.
 abbrev pub AnswersExtendRuns : Type 0

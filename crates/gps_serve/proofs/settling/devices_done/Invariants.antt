@@ -2,7 +2,7 @@ use Rattle.std.proofs.Common.{◌≡◌, ◌≤◌, ◌+◌, true, false, ◌++�
 use Rattle.std.specs.Vec.{vec_len, vec_capacity}
 use Rattle.std.specs.Vec.Iter.{into_iter_items}
 use Rattle.serve_end_parts.specs.declared.done.DeviceDone.{DeviceDone}
-use Rattle.serve_end_settling.specs.Failing.{DeviceFailed, SomeFailed}
+use Rattle.serve_end_settling.specs.Failing.{DeviceFailed, AnyOf}
 use Rattle.serve_end_settling.specs.Runs.{EachRun, RunCause, source_facts}
 use Rattle.gps_serve.specs.Doors.{RanSoFar}
 use Rattle.gps_serve.specs.Runs.{DevicesSoFar, IsLeftOf}
@@ -17,7 +17,7 @@ invariant-devices g l = record {
   causes : EachRun (RunCause g.S.Source.faults) (into_iter_items l.run-iterator);
   ends : map (λ (d : DeviceDone g.row.S.Denot g.row.R.Denot). d.end) l.devices.items ++ into_iter_items l.ends ≡ l.fn.ends.items;
   left : length (into_iter_items l.ends) ≡ length (into_iter_items l.inlets);
-  failed : l.failed ≡ true → SomeFailed (DeviceFailed g.S.Source.faults) l.devices.items;
+  failed : l.failed ≡ true → AnyOf (DeviceFailed g.S.Source.faults) l.devices.items;
   untold : l.failed ≡ false → EachRun TellsNoFault l.devices.items;
   count : vec_len l.devices + length (into_iter_items l.run-iterator) ≡ vec_len l.fn.runs;
   room : vec_len l.fn.runs ≤ vec_capacity l.devices;

@@ -75,6 +75,8 @@ pub(crate) fn take_room<R>(
 ) -> Result<(), NoMemory>
     ensures items { inputs.new.items ≡ inputs.old.items }
     ensures room { OnOk result (vec_len inputs.new < vec_capacity inputs.new) }
+    ensures sessions { open_sessions.new.list.items ≡ open_sessions.old.list.items }
+    ensures sessions_room { OnOk result (vec_len open_sessions.new.list < vec_capacity open_sessions.new.list) }
 {
     inputs.reserve(1)?;
     open_sessions.reserve()

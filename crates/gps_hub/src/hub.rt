@@ -1,6 +1,6 @@
-ghost use Rattle.std.specs.Prelude.{◌≡◌, ◌<◌, ◌≤◌, ◌++◌, true, false, [], ◌∷◌, length, get_or, is_some, IfOk, IfErr, OnOk, OnErr, IfSome, IfNone, MatchOption, count_by};
+ghost use Rattle.std.specs.Prelude.{◌≡◌, ◌<◌, ◌≤◌, ◌++◌, true, false, [], ◌∷◌, length, get_or, slice_get, is_some, IfOk, IfErr, OnOk, OnErr, IfSome, IfNone, MatchOption, count_by};
 ghost use Rattle.std.specs.List.{All, list_all};
-ghost use Rattle.std.specs.Option.{option_to_list};
+ghost use Rattle.std.specs.Option.{option_and_then, option_to_list};
 ghost use Rattle.book_log.specs.Standing.{has_stopped};
 ghost use Rattle.book_sessions.specs.Roster.{was_watched};
 ghost use Rattle.hub_door.specs.Admissions.{SessionLanes, admitting, finished, link_of};
@@ -333,6 +333,8 @@ impl<J: HubNaming, R: Wait + Copy> Hub<J, R> {
     /// closed now, it leaves the list, and the last one takes its place.
     pub fn look(&mut self, place: usize) -> Option<Look>
         ensures session { IfSome result (λ look. look.session < length self.old.inputs) }
+        ensures closed { IfSome result (λ look. look.closed
+            ≡ is_some (option_and_then (λ member. member.session.closing) (slice_get self.old.book.sessions look.session))) }
         ensures unchanged { self.new ≡ self.old }
     {
         self.open_sessions.look(&self.book, place)

@@ -1,4 +1,5 @@
-ghost use Rattle.std.specs.Prelude.{◌<◌, IfSome, length};
+ghost use Rattle.std.specs.Prelude.{◌≡◌, ◌<◌, ◌++◌, ◌∷◌, [], IfSome, OnOk, is_some, length, slice_get, vec_len, vec_capacity};
+ghost use Rattle.std.specs.Option.{option_and_then};
 
 use gps_fixed::NoMemory;
 use gps_lane::Tx;
@@ -38,15 +39,20 @@ impl OpenSessions {
     }
 
     /// Takes room for one more.
-    pub(crate) fn reserve(&mut self) -> Result<(), NoMemory> {
+    pub(crate) fn reserve(&mut self) -> Result<(), NoMemory>
+        ensures list { self.new.list.items ≡ self.old.list.items }
+        ensures room { OnOk result (vec_len self.new.list < vec_capacity self.new.list) }
+    {
         self.list.reserve(1)?;
         Ok(())
     }
 
-    /// A new session. It is forgotten if no room was taken.
-    pub(crate) fn add(&mut self, session: u32) {
-        let one = OpenSession { session, items: 0 };
-        if self.list.push(one).is_err() {}
+    /// A new session, for which there is room.
+    pub(crate) fn add(&mut self, session: u32)
+        requires room { vec_len self.old.list < vec_capacity self.old.list }
+        ensures added { self.new.list.items ≡ self.old.list.items ++ record { session = session; items = 0 } ∷ [] }
+    {
+        self.list.push_reserved(OpenSession { session, items: 0 });
     }
 
     /// Looks at the session at a place of the list; none behind the last. If it is closed, the last one takes its place.
@@ -55,7 +61,9 @@ impl OpenSessions {
         book: &Book<Tx<Item, R>>,
         place: usize,
     ) -> Option<Look>
-        ensures { IfSome result (λ look. look.session < length book.now.sessions) }
+        ensures there { IfSome result (λ look. look.session < length book.now.sessions) }
+        ensures closed { IfSome result (λ look. look.closed
+            ≡ is_some (option_and_then (λ member. member.session.closing) (slice_get book.now.sessions look.session))) }
     {
         if place >= self.list.len() {
             return None;

@@ -1,5 +1,5 @@
 -- The rounds of a writer: what it gathers, and what it writes of that.
-use Rattle.std.proofs.Common.{◌≡◌, ℕ, List, [], ◌∷◌, ◌++◌, Option, Some, None, refl, sym, ◌∙◌, ap, append_assoc, append-nil}
+use Rattle.std.proofs.Common.{◌≡◌, ℕ, List, [], ◌∷◌, ◌++◌, Option, Some, None, refl, sym, ◌∙◌, ap, subst, append_assoc, append-nil}
 use Rattle.std.specs.List.{concat}
 use Rattle.std.specs.Option.{option_to_list}
 use Rattle.std.proofs.lemmas.List.Folds.{concat-append}
@@ -48,64 +48,94 @@ nothing_written got now = record { fresh = []; gets = sym (append-nil got); wrot
 got_on : (got mid now first second : List (List ℕ)) → mid ≡ got ++ first → now ≡ mid ++ second → now ≡ got ++ (first ++ second)
 got_on got mid now first second one two = two ∙ ap (λ l. l ++ second) one ∙ append_assoc got first second
 
--- what was gathered into an empty buffer
-bytes_of : (over : Option (List ℕ)) (empty joined piece : List ℕ) (got now : List (List ℕ)) (g : Gathers over empty joined got now)
-    → empty ≡ [] → piece ≡ joined → concat g.fresh ≡ piece ++ concat (option_to_list over)
-bytes_of over empty joined piece got now g none same =
-    sym (g.joins ∙ ap (λ l. l ++ concat g.fresh) none) ∙ ap (λ l. l ++ concat (option_to_list over)) (sym same)
+-- The bytes of the items that were got are written, but for those that stand in the buffer.
+pub record WrittenBut (joined : List ℕ) (got got' : List (List ℕ)) (before after : Option (List ℕ)) : Type 0 where
+  pub fresh : List (List ℕ)
+  pub gets : got' ≡ got ++ fresh
+  pub done : List ℕ
+  pub bytes : concat fresh ≡ done ++ joined
+  pub wrote : Goes (Appends done) before after
 
--- the buffer was written, and nothing else was gathered
-pub buffer_written : (empty joined piece : List ℕ) (got mid now : List (List ℕ)) (before between after : Option (List ℕ))
-    → empty ≡ [] → piece ≡ joined
-    → Writes Drained got mid before between → Gathers None empty joined mid now
-    → Goes (Appends piece) between after
+pub none_written : (joined : List ℕ) (got : List (List ℕ)) (now : Option (List ℕ)) → joined ≡ [] → WrittenBut joined got got now now
+none_written joined got now none = record { fresh = []; gets = sym (append-nil got); done = []; bytes = sym none; wrote = appends_none now }
+
+-- the buffer is empty
+pub all_written : (joined : List ℕ) (got now : List (List ℕ)) (before after : Option (List ℕ)) → joined ≡ [] → WrittenBut joined got now before after
     → Writes Drained got now before after
-buffer_written empty joined piece got mid now before between after none same w g one = record {
-  fresh = w.fresh ++ g.fresh;
-  gets = got_on got mid now w.fresh g.fresh w.gets g.gets;
-  wrote = rw (concat-append w.fresh g.fresh, bytes_of None empty joined piece mid now g none same, append-nil piece)
-      (appends_on (concat w.fresh) piece before between after w.wrote one);
+all_written joined got now before after none w = record {
+  fresh = w.fresh;
+  gets = w.gets;
+  wrote = subst (λ l. Goes (Appends l) before after) (sym (w.bytes ∙ ap (λ l. w.done ++ l) none ∙ append-nil w.done)) w.wrote;
 }
 
--- the buffer was written, and the item that found no room
-pub over_written : (item empty joined piece rest : List ℕ) (got mid now : List (List ℕ)) (before between after end : Option (List ℕ))
-    → empty ≡ [] → piece ≡ joined → rest ≡ item
-    → Writes Drained got mid before between → Gathers (Some item) empty joined mid now
-    → Goes (Appends piece) between after → Goes (Appends rest) after end
-    → Writes Drained got now before end
-over_written item empty joined piece rest got mid now before between after end none same is w g one two = record {
+-- what was got since, behind what was written
+bytes_of : (over : Option (List ℕ)) (pending joined piece : List ℕ) (got mid now : List (List ℕ)) (before between : Option (List ℕ))
+    (w : WrittenBut pending got mid before between) (g : Gathers over pending joined mid now) → piece ≡ joined
+    → concat (w.fresh ++ g.fresh) ≡ w.done ++ (piece ++ concat (option_to_list over))
+bytes_of over pending joined piece got mid now before between w g same =
+    concat-append w.fresh g.fresh ∙ ap (λ l. l ++ concat g.fresh) w.bytes ∙ append_assoc w.done pending (concat g.fresh) ∙ ap (λ l. w.done ++ l) (sym g.joins)
+    ∙ ap (λ l. w.done ++ (l ++ concat (option_to_list over))) (sym same)
+
+-- the buffer was written; the item that found no room is still to be
+pub buffer_written : (over : Option (List ℕ)) (pending joined piece left : List ℕ) (got mid now : List (List ℕ)) (before between after : Option (List ℕ))
+    → piece ≡ joined → left ≡ concat (option_to_list over)
+    → WrittenBut pending got mid before between → Gathers over pending joined mid now
+    → Goes (Appends piece) between after
+    → WrittenBut left got now before after
+buffer_written over pending joined piece left got mid now before between after same left_is w g one = record {
   fresh = w.fresh ++ g.fresh;
   gets = got_on got mid now w.fresh g.fresh w.gets g.gets;
-  wrote = rw (concat-append w.fresh g.fresh, bytes_of (Some item) empty joined piece mid now g none same, append-nil item, ← is)
-      (appends_on (concat w.fresh) (piece ++ rest) before between end w.wrote (appends_on piece rest between after end one two));
+  done = w.done ++ piece;
+  bytes =
+      bytes_of over pending joined piece got mid now before between w g same ∙ sym (append_assoc w.done piece (concat (option_to_list over)))
+      ∙ ap (λ l. (w.done ++ piece) ++ l) (sym left_is);
+  wrote = appends_on w.done piece before between after w.wrote one;
 }
 
 first_part : (piece more x y : List ℕ) → AppendsPart piece x y → AppendsPart (piece ++ more) x y
 first_part piece more x y p = (p.0, ((p.1.0.0 ++ more, ap (λ l. l ++ more) p.1.0.1 ∙ append_assoc p.0 p.1.0.0 more), p.1.1))
 
 -- a part of the buffer was written
-pub buffer_part_written : (over : Option (List ℕ)) (empty joined piece : List ℕ) (got mid now : List (List ℕ)) (before between after : Option (List ℕ))
-    → empty ≡ [] → piece ≡ joined
-    → Writes Drained got mid before between → Gathers over empty joined mid now
+pub buffer_part_written : (over : Option (List ℕ)) (pending joined piece : List ℕ) (got mid now : List (List ℕ)) (before between after : Option (List ℕ))
+    → piece ≡ joined
+    → WrittenBut pending got mid before between → Gathers over pending joined mid now
     → Goes (AppendsPart piece) between after
     → Writes WriteFault got now before after
-buffer_part_written over empty joined piece got mid now before between after none same w g one = record {
-  fresh = w.fresh ++ g.fresh;
-  gets = got_on got mid now w.fresh g.fresh w.gets g.gets;
-  wrote = rw (concat-append w.fresh g.fresh, bytes_of over empty joined piece mid now g none same)
-      (part_on (concat w.fresh) (piece ++ concat (option_to_list over)) before between after w.wrote
-      (goes_as (AppendsPart piece) (AppendsPart (piece ++ concat (option_to_list over))) between after (first_part piece (concat (option_to_list over))) one));
+buffer_part_written over pending joined piece got mid now before between after same w g one =
+    let more = concat (option_to_list over) in
+    record {
+      fresh = w.fresh ++ g.fresh;
+      gets = got_on got mid now w.fresh g.fresh w.gets g.gets;
+      wrote = subst (λ l. Goes (AppendsPart l) before after) (sym (bytes_of over pending joined piece got mid now before between w g same))
+          (part_on w.done (piece ++ more) before between after w.wrote
+          (goes_as (AppendsPart piece) (AppendsPart (piece ++ more)) between after (first_part piece more) one));
+    }
+
+-- an item that found no room was written
+pub over_written : (item piece left : List ℕ) (got now : List (List ℕ)) (before after end : Option (List ℕ)) → piece ≡ item → left ≡ []
+    → WrittenBut (concat (item ∷ [])) got now before after → Goes (Appends piece) after end
+    → WrittenBut left got now before end
+over_written item piece left got now before after end same none w one = record {
+  fresh = w.fresh;
+  gets = w.gets;
+  done = w.done ++ piece;
+  bytes =
+      w.bytes ∙ ap (λ l. w.done ++ l) (append-nil item ∙ sym same) ∙ sym (append-nil (w.done ++ piece)) ∙ ap (λ l. (w.done ++ piece) ++ l) (sym none);
+  wrote = appends_on w.done piece before after end w.wrote one;
 }
 
--- the buffer was written, and a part of the item that found no room
-pub over_part_written : (item empty joined piece rest : List ℕ) (got mid now : List (List ℕ)) (before between after end : Option (List ℕ))
-    → empty ≡ [] → piece ≡ joined → rest ≡ item
-    → Writes Drained got mid before between → Gathers (Some item) empty joined mid now
-    → Goes (Appends piece) between after → Goes (AppendsPart rest) after end
+-- a part of it was
+pub over_part_written : (item piece : List ℕ) (got now : List (List ℕ)) (before after end : Option (List ℕ)) → piece ≡ item
+    → WrittenBut (concat (item ∷ [])) got now before after → Goes (AppendsPart piece) after end
     → Writes WriteFault got now before end
-over_part_written item empty joined piece rest got mid now before between after end none same is w g one two = record {
-  fresh = w.fresh ++ g.fresh;
-  gets = got_on got mid now w.fresh g.fresh w.gets g.gets;
-  wrote = rw (concat-append w.fresh g.fresh, bytes_of (Some item) empty joined piece mid now g none same, append-nil item, ← is)
-      (part_on (concat w.fresh) (piece ++ rest) before between end w.wrote (part_on piece rest between after end one two));
+over_part_written item piece got now before after end same w one = record {
+  fresh = w.fresh;
+  gets = w.gets;
+  wrote = subst (λ l. Goes (AppendsPart l) before end) (sym (w.bytes ∙ ap (λ l. w.done ++ l) (append-nil item ∙ sym same)))
+      (part_on w.done piece before after end w.wrote one);
 }
+
+-- the buffer begins with it
+pub begun_with : (item joined : List ℕ) (got now : List (List ℕ)) (before after : Option (List ℕ)) → joined ≡ item
+    → WrittenBut (concat (item ∷ [])) got now before after → WrittenBut joined got now before after
+begun_with item joined got now before after is w = subst (λ l. WrittenBut l got now before after) (append-nil item ∙ sym is) w

@@ -1,4 +1,4 @@
-ghost use Rattle.std.specs.Prelude.{◌≡◌, ◌+◌, ◌*◌, ◌≤◌, ◌++◌, ◌==◌, ◌||◌, not, [], length, OnOk};
+ghost use Rattle.std.specs.Prelude.{◌≡◌, ◌+◌, ◌*◌, ◌≤◌, ◌<◌, ◌++◌, ◌==◌, ◌||◌, not, [], length, OnOk, OnErr};
 ghost use Rattle.std.specs.Option.{option_to_list};
 ghost use Rattle.shm_segment.specs.declared.view.Numbered.{Numbered};
 ghost use Rattle.serve_workers.specs.Watching.{Climbs, each_once, IsBeginning};
@@ -11,7 +11,7 @@ use shm_segment::Segment;
 use std::sync::Wait;
 
 /// Makes the given number of readings, and keeps the pairs that were taken with a new number: all that the monitor took, each number
-/// once. It makes fewer only when out of memory, and then keeps the first of these pairs.
+/// once. It makes fewer only when out of memory: then it keeps the pairs before the one for which there was no room.
 ///
 /// After a reading that gave nothing new it sleeps for a millisecond, or until its bell is rung, as long as that is not
 /// closed.
@@ -28,6 +28,7 @@ pub fn run_monitor<R: Wait>(
     requires empty { taken.old.items ≡ [] }
     ensures all { OnOk result (taken.new.items ≡ each_once monitor.new.taken) }
     ensures first { IsBeginning taken.new.items (each_once monitor.new.taken) }
+    ensures missing { OnErr result (length taken.new.items < length (each_once monitor.new.taken)) }
     ensures climbs { Climbs taken.new.items }
     ensures loads { OnOk result (length monitor.old.kept + 2 * tries ≤ length monitor.new.kept) }
     ensures segment { monitor.new.segment ≡ monitor.old.segment }

@@ -1,4 +1,4 @@
-ghost use Rattle.std.specs.Prelude.{◌≡◌, ◌<◌, ◌≤◌, [], ◌++◌, false, length};
+ghost use Rattle.std.specs.Prelude.{◌≡◌, ◌<◌, ◌≤◌, [], ◌++◌, true, false, length};
 ghost use Rattle.gps_outside.specs.Counts.{Rose};
 ghost use Rattle.gps_outside.specs.declared.sink.WriteStep.{WriteStep};
 ghost use Rattle.gps_outside.specs.Writes.{FitsPiece, Writes as WritesPiece, WritesAll};
@@ -20,8 +20,8 @@ pub enum WriterEnd {
     WriteFault,
 }
 
-/// The room for the items of one write.
-const ROOM: usize = 65_536;
+/// The room for the items of one write. Each session has it, so it is small.
+const ROOM: usize = 16_384;
 
 /// Writes a piece. Once the bell is closed, the sink is told before each write that what is still to be written is bounded.
 fn write_piece<K: Sink>(own: &Bell, sink: &mut K, piece: &[u8]) -> bool
@@ -79,8 +79,23 @@ fn gather<R: Wait + Copy>(rt: &R, items: &mut Rx<Item, R>, joined: &mut Vec<u8>)
     unreachable!()
 }
 
-/// Writes the items of a session until its bell is closed and none waits: all that wait in one write, as far as 64 KB
-/// hold them. It sleeps on its bell only after a round that found none.
+/// Begins the empty buffer with an item, unless it has no room for it.
+fn begin(joined: &mut Vec<u8>, item: &Item) -> bool
+    requires { joined.old.items ≡ [] }
+    ensures put { result ≡ true → joined.new.items ≡ item.now }
+    ensures empty { result ≡ false → joined.new.items ≡ [] }
+{
+    if joined.capacity() < item.bytes().len() {
+        return false;
+    }
+    match joined.extend_from_slice(item.bytes()) {
+        Ok(()) => true,
+        Err(_) => false,
+    }
+}
+
+/// Writes the items of a session until its bell is closed and none waits: all that wait in one write, as far as the buffer
+/// holds them. It sleeps on its bell only after a round that found none.
 fn write_on<K: Sink, R: Wait + Copy>(
     rt: &R,
     items: &mut Rx<Item, R>,
@@ -105,6 +120,9 @@ fn write_on<K: Sink, R: Wait + Copy>(
         joined.clear();
         match over {
             Some(item) => {
+                if begin(&mut joined, &item) {
+                    continue;
+                }
                 if !write_piece(own, sink, item.bytes()) {
                     return WriterEnd::WriteFault;
                 }
@@ -125,7 +143,7 @@ fn write_on<K: Sink, R: Wait + Copy>(
 /// Writes the items of a session until its bell is closed and none waits, or its sink fails, and says then that nothing
 /// follows, so that a reader of the same socket ends.
 ///
-/// It asks for 64 KB once, to join what waits; if they are refused, it writes item by item. Once its bell is closed, the sink is told that it
+/// It asks for 16 KB once, to join what waits; if they are refused, it writes item by item. Once its bell is closed, the sink is told that it
 /// ends soon, so that a client that takes little at a time does not hold it.
 pub fn write_items<K: Sink, R: Wait + Copy>(
     rt: &R,

@@ -1,12 +1,10 @@
-use Rattle.std.proofs.Common.{◌≡◌, ◌≤◌, []}
-use Rattle.serve_workers.specs.declared.writer.WriterEnd.TheVariants.{Drained}
-use Rattle.serve_workers.specs.Writing.{Writes}
+use Rattle.std.proofs.Common.{◌≡◌, ◌≤◌}
+use Rattle.serve_workers.proofs.Rounds.{WrittenBut}
 use Rattle.serve_workers.proofs.writer.write_on.Given as goal
 
 abbrev pub invariant-rounds : goal.invariant-rounds
 invariant-rounds g l = record {
-  writes : Writes Drained l.initial.items.got l.items.got (g.K.Sink.written l.initial.sink) (g.K.Sink.written l.sink);
+  writes : WrittenBut l.joined.items l.initial.items.got l.items.got (g.K.Sink.written l.initial.sink) (g.K.Sink.written l.sink);
   lane : l.items ≡ record l.initial.items { got = l.items.got };
   faults : g.K.Sink.faults l.initial.sink ≤ g.K.Sink.faults l.sink;
-  empty : l.joined.items ≡ [];
 }

@@ -18,7 +18,7 @@ use Rattle.serve_pieces.specs.declared.piece.Piece.TheVariants.{Bytes, Line, Inp
 use Rattle.serve_end_settling.specs.Runs.{SourceFacts}
 use Rattle.serve_workers.specs.Clocks.{MayGive}
 use Rattle.serve_workers.specs.Readings.{Each, HandsOn, IsDevicePiece}
-use Rattle.gps_serve.specs.AtEnd.{AtEnd, DaemonSettings, HandedBack, settings_in, settings_of, start_with}
+use Rattle.gps_serve.specs.AtEnd.{AtEnd, DaemonSettings, HandedBack, MemoryWasShort, settings_in, settings_of, start_with}
 use Rattle.gps_serve.specs.Facts.{WorldFacts}
 use Rattle.gps_serve.specs.Served.{BytesServed, DeviceServed}
 use Rattle.gps_serve.specs.Doors.{NoneLeft, Way}
@@ -83,6 +83,7 @@ module _ {G S K R : Type 0} (told : DaemonSettings) (facts : WorldFacts G S K) (
     gate = at.gate;
     gate_is = at.gate_is;
     door = at.door;
+    short = at.short;
   }
 
   -- the clock tells what the world told of it
@@ -97,6 +98,16 @@ module _ {G S K R : Type 0} (told : DaemonSettings) (facts : WorldFacts G S K) (
       → (0 < length taken) ⊎ (0 < facts.gates.quiets g) ⊎ (0 < facts.gates.faults g) ⊎ NoneLeft None (facts.gates.links g)
   untold_asked links taken g was =
       elim was [ inl some ↦ inl some | inr (inl quiet) ↦ inr (inl quiet) | inr (inr (inl fault)) ↦ inr (inr (inl fault)) | inr (inr (inr none)) ↦ inr (inr (inr tt)) ]
+
+  untold_short : (links left : Option (List (Way S K))) → MemoryWasShort links left back b → MemoryWasShort None left back b
+  untold_short links left short = elim short [
+    | inl device ↦ inl device
+    | inr (inl reader) ↦ inr (inl reader)
+    | inr (inr (inl session)) ↦ inr (inr (inl session))
+    | inr (inr (inr (inl input))) ↦ inr (inr (inr (inl input)))
+    | inr (inr (inr (inr (inl monitor)))) ↦ inr (inr (inr (inr (inl monitor))))
+    | inr (inr (inr (inr (inr link)))) ↦ inr (inr (inr (inr (inr (record { taken = link.taken; passed = tt; more = link.more })))))
+  ]
 
   untold_links : (may : Option (List Moment)) (links : Option (List (Way S K))) → AtEnd (start_with told may links) facts back b
       → AtEnd (start_with told may None) facts back b
@@ -128,6 +139,7 @@ module _ {G S K R : Type 0} (told : DaemonSettings) (facts : WorldFacts G S K) (
       asked = untold_asked links at.door.taken at.gate at.door.asked;
       closed = λ (e : at.done ≡ true). elim (at.door.closed e) [ inl none ↦ inl tt | inr fault ↦ inr fault ];
     };
+    short = λ (e : back.no_memory ≡ true). untold_short links (facts.gates.links at.gate) (at.short e);
   }
 
   -- the door tells what the world told of it

@@ -24,7 +24,7 @@ use Rattle.serve_threads.specs.declared.monitors.MonitorStart.{MonitorStart}
 use Rattle.serve_threads.specs.Segments.{segments_of}
 use Rattle.gps_serve.specs.declared.starts.DeviceStart.{DeviceStart}
 use Rattle.serve_threads.specs.declared.session.SessionLink.{SessionLink}
-use Rattle.gps_serve.specs.AtEnd.{AtEnd, HandedBack, settings_of, start_with}
+use Rattle.gps_serve.specs.AtEnd.{AtEnd, HandedBack, MemoryWasShort, settings_of, start_with}
 use Rattle.gps_serve.specs.Facts.{WorldFacts}
 use Rattle.gps_serve.specs.Served.{DeviceServed, GateServed, MonitorServed, watched_units}
 use Rattle.gps_serve.specs.Doors.{Way, lanes_of}
@@ -104,9 +104,10 @@ pub at_end_of : {G S K R : Type 0} (terms : Terms) (queue tries : ℕ) (may : Op
     → b'' ≡ b' → AllZip (MonitorServed tries no_memory) (watched_units tries b'.units) back.monitors
     → map (λ (m : MonitorDone). m.unit) back.monitors ≡ range_with_len 0 (length back.monitors) → (back.no_memory ≡ false → no_memory ≡ false)
     → back.gate ≡ Some gate → GateServed facts links back.full back.no_memory seat.done back.sessions gate
+    → (back.no_memory ≡ true → MemoryWasShort links (facts.gates.links gate) back b)
     → AtEnd (start_with (settings_of terms queue tries) may links) facts back b''
 at_end_of {G} {S} {K} {R} terms queue tries may links facts back no_memory seat ways gate b b' b'' inlets inputs ends same hub admitted lanes keeps
-    rests zeros closed stopped served ends_are is sessions_are is' monitors_are numbers so gate_is door =
+    rests zeros closed stopped served ends_are is sessions_are is' monitors_are numbers so gate_is door short =
     let segments : map segment_of b.units ≡ terms.segments = ap (λ (t : Terms). t.segments) same in
     subst (λ (x : BookView). AtEnd (start_with (settings_of terms queue tries) may links) facts back x) (sym (is' ∙ is)) (
     record {
@@ -132,6 +133,7 @@ at_end_of {G} {S} {K} {R} terms queue tries may links facts back no_memory seat 
       gate = gate;
       gate_is = gate_is;
       door = door;
+      short = short;
     }
     )
 

@@ -1,11 +1,11 @@
 -- If a device was lost by the fault of a source, a reader of it says so, and the status is 3.
-use Rattle.std.proofs.Common.{◌≡◌, ◌↔◌, ◌⊎◌, inl, inr, ℕ, Bool, true, false, ◌||◌, zero, suc, List, [], ◌∷◌, ◌++◌, Option, Some, None, option_map, refl, sym, ◌∙◌, ap, subst, arith}
-use Rattle.std.specs.List.{All}
+use Rattle.std.proofs.Common.{◌≡◌, ◌↔◌, ◌⊎◌, inl, inr, ℕ, Bool, true, false, ◌||◌, zero, suc, List, [], ◌∷◌, ◌++◌, map, Option, Some, None, is_some, option_map, refl, sym, ◌∙◌, ap, subst, arith}
+use Rattle.std.specs.List.{All, list_all}
 use Rattle.gps_fixed.specs.Moment.{Moment}
 use Rattle.gps_lane.specs.Ends.{Putting, Taking}
 use Rattle.hub_promise.specs.declared.ends.DeviceEnd.{DeviceEnd}
-use Rattle.hub_promise.specs.declared.ends.DeviceEnd.TheVariants.{ReadFault}
-use Rattle.hub_promise.specs.Given.{end_of, ending_of}
+use Rattle.hub_promise.specs.declared.ends.DeviceEnd.TheVariants.{Ended, ReadFault, NoMemory as LostNoMemory}
+use Rattle.hub_promise.specs.Given.{end_of, ending_of, is_end}
 use Rattle.hub_promise.specs.Parts.{InletsView}
 use Rattle.serve_end_parts.specs.declared.done.DeviceDone.{DeviceDone}
 use Rattle.serve_pieces.specs.declared.piece.Ending.{Ending}
@@ -20,9 +20,10 @@ use Rattle.serve_end_settling.proofs.Causes.{each_run_more}
 use Rattle.gps_serve.specs.declared.starts.EdgeStart.{EdgeStart}
 use Rattle.gps_serve.specs.Runs.{DeviceReady}
 use Rattle.gps_serve.specs.Starts.{IsFreshEdge, edge_start_of}
-use Rattle.gps_serve.specs.Statuses.{TellsFault, TellsNoFault, WasLostByFault}
+use Rattle.gps_serve.specs.Lost.{WasLostOutOfMemory}
+use Rattle.gps_serve.specs.Statuses.{HasStopped, TellsFault, TellsNoFault, WasLostByFault}
 use Rattle.gps_serve.specs.Whole.{EdgesWhole, IsWhole}
-use Rattle.gps_serve.proofs.Lost.{neither}
+use Rattle.gps_serve.proofs.Lost.{neither, one_false}
 use Rattle.gps_serve.proofs.Whole.{bytes_told, lines_told}
 
 not_said : {Says : Type 0} (failed : Bool) → ((failed ≡ true) ↔ Says) → failed ≡ false → Says → ⊥
@@ -113,6 +114,30 @@ none_lost may facts (device ∷ devices) untold whole lost = elim lost [
   | inl this ↦ not_lost may facts device untold.0 (whole zero device (omega arith)) this
   | inr later ↦ none_lost may facts devices untold.1 (λ k d there. whole (suc k) d (omega (arith, there))) later
 ]
+
+-- a device that has stopped and has not ended was lost out of memory, if no lane tells of a failed source
+lost_short : {S R : Type 0} (may : Option (List Moment)) (facts : SourceFacts S) (device : DeviceDone S R) (end : Option DeviceEnd) → device.end ≡ end
+    → TellsNoFault device → IsWhole may facts device → HasStopped device.end → is_end device.end ≡ false → WasLostOutOfMemory device
+lost_short may facts device None is untold whole stopped unended =
+    let none : is_some device.end ≡ false = ap is_some is in
+    absurd (cc (none, stopped))
+lost_short may facts device (Some Ended) is untold whole stopped unended =
+    let ended : is_end device.end ≡ true = ap is_end is in
+    absurd (cc (ended, unended))
+lost_short may facts device (Some ReadFault) is untold whole stopped unended = absurd (not_lost may facts device untold whole is)
+lost_short may facts device (Some LostNoMemory) is untold whole stopped unended = is
+
+pub some_lost : {S R : Type 0} (may : Option (List Moment)) (facts : SourceFacts S) (devices : List (DeviceDone S R)) → EachRun TellsNoFault devices
+    → All (IsWhole may facts) devices → All (λ (d : DeviceDone S R). HasStopped d.end) devices
+    → list_all is_end (map (λ (d : DeviceDone S R). d.end) devices) ≡ false → AnyOf WasLostOutOfMemory devices
+some_lost may facts [] untold whole stopped unended = absurd (cc)
+some_lost {S} {R} may facts (device ∷ devices) untold whole stopped unended =
+    elim (one_false (is_end device.end) (list_all is_end (map (λ (d : DeviceDone S R). d.end) devices)) unended) [
+      | inl this ↦ inl (lost_short may facts device device.end refl untold.0 (whole zero device (omega arith)) (stopped zero device (omega arith)) this)
+      | inr later ↦
+          inr (some_lost may facts devices untold.1 (λ k d there. whole (suc k) d (omega (arith, there)))
+          (λ k d there. stopped (suc k) d (omega (arith, there))) later)
+    ]
 
 -- of the causes of a status a device that was lost by a fault is the first
 pub first_of : {S R : Type 0} (may : Option (List Moment)) (facts : SourceFacts S) (devices : List (DeviceDone S R)) (failed : Bool) (status : ℕ)

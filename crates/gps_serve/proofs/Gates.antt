@@ -17,7 +17,7 @@ use Rattle.gps_serve.specs.AtEnd.{AreOfQueue}
 use Rattle.gps_serve.specs.Facts.{WorldFacts}
 use Rattle.gps_serve.specs.Served.{GateServed, ServesLink}
 use Rattle.gps_serve.specs.Doors.{DoorNow, IsNewLink, Tended, Way, door_now, lanes_of, way_of}
-use Rattle.gps_serve.specs.Lost.{IsNotCut, IsNotLost, NoneLost}
+use Rattle.gps_serve.specs.Lost.{IsNotCut, IsNotLost, LinkIsUncounted, NoneLost}
 use Rattle.gps_serve.specs.Readies.{IsLeftOfLink}
 use Rattle.gps_serve.proofs.Devices.{zip_length}
 use Rattle.gps_serve.proofs.Taking.{links_served}
@@ -44,7 +44,7 @@ gate_served {G} {S} {K} {R} facts queue told gate full no_memory lacks seat runs
     record {
       taken = tended.tends.taken;
       passed = takes.passed;
-      few = subst (λ n. n ≤ length tended.tends.taken) same takes.few;
+      few = subst (λ n. n + full ≤ length tended.tends.taken) same takes.few;
       count = λ (e : lacks ≡ false) (f : full < 2 ^ 64 - 1). takes.count (so e) f ∙ ap (λ n. n + full) same;
       none_early = λ (f : length sessions < 64). takes.full (subst (λ n. n < 64) (sym same) f);
       each = λ (e : length tended.tends.taken ≡ length sessions).
@@ -52,6 +52,26 @@ gate_served {G} {S} {K} {R} facts queue told gate full no_memory lacks seat runs
           (links_served sources sinks tended.links runs sessions tended.seated.unused tended.ran are);
       asked = elim tended.tends.asked [ inl never ↦ absurd (cc never) | inr was ↦ was ];
       closed = tended.tends.closed;
+    }
+
+-- the door was out of memory as a link was dropped
+pub link_uncounted : {G S K R : Type 0} (facts : WorldFacts G S K) (queue : ℕ) (told : Option (List (Way S K))) (gate : G) (full : ℕ) (no_memory : Bool) (seat : Admissions)
+    (runs : List (LinkDone S K R)) (sessions : List (SessionDone S K R))
+    → Tended (IsNewLink facts.sources.content facts.sources.faults facts.sources.quiets facts.sinks.written facts.sinks.faults)
+    (SessionRuns facts.sources.content facts.sources.faults facts.sources.quiets facts.sinks.written facts.sinks.faults) queue told
+    (door_now (facts.gates.links gate) (facts.gates.faults gate) (facts.gates.quiets gate) full no_memory) seat runs
+    → AllZip (IsLeftOfLink facts.sources facts.sinks) runs sessions → no_memory ≡ true → LinkIsUncounted told (facts.gates.links gate) (length sessions) full
+link_uncounted {G} {S} {K} {R} facts queue told gate full no_memory seat runs sessions tended are short =
+    let sources = facts.sources in
+    let sinks = facts.sinks in
+    let ran = zip_length (SessionRuns sources.content sources.faults sources.quiets sinks.written sinks.faults) tended.links runs tended.ran in
+    let left = zip_length (IsLeftOfLink sources sinks) runs sessions are in
+    let ways = map_length way_of tended.links in
+    let same : length (map way_of tended.links) ≡ length sessions = omega (arith, ran, left, ways) in
+    record {
+      taken = tended.tends.taken;
+      passed = tended.tends.takes.passed;
+      more = subst (λ n. n + full < length tended.tends.taken) same (tended.tends.takes.uncounted short);
     }
 
 module _ {S K R : Type 0} (queue : ℕ) where

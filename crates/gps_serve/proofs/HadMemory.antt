@@ -1,5 +1,5 @@
--- Unless the daemon was out of memory, no lane tells of a reader that was.
-use Rattle.std.proofs.Common.{◌≡◌, ℕ, ◌||◌, true, false, zero, suc, List, [], ◌∷◌, Option, Some, None, option_map, sym, ◌∙◌, ap, subst, arith}
+-- A lane tells of a reader that was out of memory, and of none unless the daemon was.
+use Rattle.std.proofs.Common.{◌≡◌, inl, inr, ℕ, ◌||◌, true, false, zero, suc, List, [], ◌∷◌, Option, Some, None, option_map, refl, sym, ◌∙◌, ap, subst, arith}
 use Rattle.std.specs.List.{All, AllZip, list_any}
 use Rattle.gps_fixed.specs.Moment.{Moment}
 use Rattle.book_sessions.specs.MemberView.{MemberView}
@@ -9,20 +9,21 @@ use Rattle.hub_promise.specs.Parts.{InletsView}
 use Rattle.serve_end_parts.specs.declared.done.DeviceDone.{DeviceDone}
 use Rattle.serve_end_parts.specs.declared.done.SessionDone.{SessionDone}
 use Rattle.serve_pieces.specs.declared.piece.Ending.{Ending}
-use Rattle.serve_pieces.specs.declared.piece.Ending.TheVariants.{NoMemory}
+use Rattle.serve_pieces.specs.declared.piece.Ending.TheVariants.{End, Failed, NoMemory}
 use Rattle.serve_pieces.specs.declared.piece.Piece.{Piece}
 use Rattle.serve_threads.specs.declared.reading.ReaderDone.{ReaderDone}
 use Rattle.serve_threads.specs.declared.session.LinkDone.{LinkDone}
 use Rattle.serve_end_settling.specs.declared.device.DeviceRun.{DeviceRun}
+use Rattle.serve_end_settling.specs.Failing.{AnyOf}
 use Rattle.serve_end_settling.specs.Lanes.{tx_of}
 use Rattle.serve_end_settling.specs.Runs.{EdgesRan, SourceFacts}
 use Rattle.gps_serve.specs.declared.starts.EdgeStart.{EdgeStart}
 use Rattle.gps_serve.specs.Facts.{SinkFacts}
-use Rattle.gps_serve.specs.Lost.{DeviceHadMemory, ReadersHadMemory, SessionHadMemory, TellsShort, is_short, lines_lack, link_lacks, run_lacks}
+use Rattle.gps_serve.specs.Lost.{DeviceHadMemory, DeviceTellsShort, ReadersHadMemory, SessionHadMemory, SessionTellsShort, TellsShort, is_short, lines_lack, link_lacks, run_lacks}
 use Rattle.gps_serve.specs.Readies.{AreReady, IsLeftOfLink, SessionReady}
 use Rattle.gps_serve.specs.Runs.{DeviceReady, IsLeftOf}
 use Rattle.gps_serve.specs.Starts.{IsFreshEdge, edge_start_of}
-use Rattle.gps_serve.proofs.Lost.{neither}
+use Rattle.gps_serve.proofs.Lost.{either, neither}
 use Rattle.gps_serve.proofs.Whole.{bytes_told, input_told, lines_told}
 
 -- a reader that had memory did not end out of memory
@@ -97,6 +98,73 @@ sessions_had sources sinks (a ∷ sessions) (x ∷ inputs) (run ∷ runs) (done 
     session_had sources sinks a x run done ready.0 left.0 (neither (link_lacks run) (list_any link_lacks runs) none).0
 sessions_had sources sinks (a ∷ sessions) (x ∷ inputs) (run ∷ runs) (done ∷ dones) ready left none (suc k) d there =
     sessions_had sources sinks sessions inputs runs dones ready.1 left.1 (neither (link_lacks run) (list_any link_lacks runs) none).1 k d (omega arith)
+
+is_short_by : (ending : Option Ending) → is_short ending ≡ true → ending ≡ Some NoMemory
+is_short_by None short = absurd (cc)
+is_short_by (Some End) short = absurd (cc)
+is_short_by (Some Failed) short = absurd (cc)
+is_short_by (Some NoMemory) short = refl
+
+lines_tell_short : {S R : Type 0} (facts : SourceFacts S) (start : Option (EdgeStart S R)) (first : Option (Taking Piece)) (reader : Option (ReaderDone S R))
+    → IsFreshEdge facts start first → EdgesRan facts (option_map edge_start_of start) reader → lines_lack reader ≡ true → TellsShort (tx_of reader)
+lines_tell_short facts start first None fresh ran short = absurd (cc)
+lines_tell_short facts None first (Some reader) fresh ran short = absurd ran
+lines_tell_short facts (Some start) None (Some reader) fresh ran short = absurd fresh
+lines_tell_short facts (Some start) (Some first) (Some reader) fresh ran short =
+    lines_told reader.ending start.lines.put reader.pieces.put (facts.content start.source) (facts.content reader.source) ran.hands fresh.0.put
+    ∙ is_short_by reader.ending short
+
+-- a reader that was out of memory says so in its lane
+device_tells_short : {S R : Type 0} (may : Option (List Moment)) (facts : SourceFacts S) (x : InletsView) (run : DeviceRun S R) (device : DeviceDone S R)
+    → DeviceReady may facts x run → IsLeftOf run device → run_lacks run ≡ true → DeviceTellsShort device
+device_tells_short may facts x run device ready left some =
+    let start = ready.start in
+    elim (either (is_short run.bytes.ending) (lines_lack run.edges) some) [
+      | inl short ↦ inl (
+          ap (λ (tx : Putting Piece). ending_of tx.put) left.bytes_tx
+          ∙ bytes_told may run.bytes.ending start.bytes.put run.bytes.pieces.put (facts.content start.source) (facts.content run.bytes.source)
+          ready.ran.bytes.hands ready.fresh.bytes.put
+          ∙ is_short_by run.bytes.ending short
+          )
+      | inr short ↦ inr (subst TellsShort (sym left.edges_tx)
+          (lines_tell_short facts ready.start.edges ready.first.edges run.edges ready.fresh.edges ready.ran.edges short))
+    ]
+
+-- of some device
+pub devices_tell_short : {S R : Type 0} (may : Option (List Moment)) (facts : SourceFacts S) (inlets : List InletsView) (runs : List (DeviceRun S R))
+    (devices : List (DeviceDone S R)) → AllZip (DeviceReady may facts) inlets runs → AllZip IsLeftOf runs devices → list_any run_lacks runs ≡ true
+    → AnyOf DeviceTellsShort devices
+devices_tell_short may facts inlets [] devices ready left some = absurd (cc)
+devices_tell_short may facts [] (run ∷ runs) devices ready left some = absurd ready
+devices_tell_short may facts (x ∷ inlets) (run ∷ runs) [] ready left some = absurd left
+devices_tell_short may facts (x ∷ inlets) (run ∷ runs) (device ∷ devices) ready left some = elim (either (run_lacks run) (list_any run_lacks runs) some) [
+  | inl this ↦ inl (device_tells_short may facts x run device ready.0 left.0 this)
+  | inr later ↦ inr (devices_tell_short may facts inlets runs devices ready.1 left.1 later)
+]
+
+session_tells_short : {S K R : Type 0} (sources : SourceFacts S) (sinks : SinkFacts K) (a : MemberView) (x : Taking Piece) (run : LinkDone S K R)
+    (done : SessionDone S K R) → SessionReady sources sinks a x run → IsLeftOfLink sources sinks run done → link_lacks run ≡ true → SessionTellsShort done
+session_tells_short sources sinks a x run done ready left short =
+    let link = ready.link in
+    ap (λ (tx : Putting Piece). ending_of tx.put) left.input
+    ∙ input_told run.reader.ending link.pieces.put run.reader.pieces.put (sources.content link.source) (sources.content run.reader.source)
+    ready.ran.reads.hands ready.unused.1
+    ∙ is_short_by run.reader.ending short
+
+-- of some session
+pub sessions_tell_short : {S K R : Type 0} (sources : SourceFacts S) (sinks : SinkFacts K) (sessions : List MemberView) (inputs : List (Taking Piece))
+    (runs : List (LinkDone S K R)) (dones : List (SessionDone S K R)) → AreReady sources sinks sessions inputs runs
+    → AllZip (IsLeftOfLink sources sinks) runs dones → list_any link_lacks runs ≡ true → AnyOf SessionTellsShort dones
+sessions_tell_short sources sinks sessions inputs [] dones ready left some = absurd (cc)
+sessions_tell_short sources sinks sessions inputs (run ∷ runs) [] ready left some = absurd left
+sessions_tell_short sources sinks [] [] (run ∷ runs) (done ∷ dones) ready left some = absurd ready
+sessions_tell_short sources sinks [] (x ∷ inputs) (run ∷ runs) (done ∷ dones) ready left some = absurd ready
+sessions_tell_short sources sinks (a ∷ sessions) [] (run ∷ runs) (done ∷ dones) ready left some = absurd ready
+sessions_tell_short sources sinks (a ∷ sessions) (x ∷ inputs) (run ∷ runs) (done ∷ dones) ready left some =
+    elim (either (link_lacks run) (list_any link_lacks runs) some) [
+      | inl this ↦ inl (session_tells_short sources sinks a x run done ready.0 left.0 this)
+      | inr later ↦ inr (sessions_tell_short sources sinks sessions inputs runs dones ready.1 left.1 later)
+    ]
 
 -- of no device and no session
 pub none_read : {S K R : Type 0} (devices : List (DeviceDone S R)) (sessions : List (SessionDone S K R)) → devices ≡ [] → sessions ≡ []

@@ -1,32 +1,70 @@
--- Unless it was out of memory, no device was lost and no session closed for that.
-use Rattle.std.proofs.Common.{◌≡◌, ◌<◌, ◌≤◌, ◌+◌, ◌||◌, inl, inr, ℕ, Bool, true, false, zero, suc, List, [], ◌∷◌, length, get_or, slice_get, Option, Some, None, refl, sym, ◌∙◌, ap, subst, arith}
+-- When it was out of memory: then alone a device was lost, or a session closed, for that.
+use Rattle.std.proofs.Common.{◌≡◌, ◌<◌, ◌≤◌, ◌+◌, ◌||◌, ◌&&◌, ◌⊎◌, inl, inr, ℕ, Bool, true, false, zero, suc, List, [], ◌∷◌, length, map, get_or, slice_get, Option, Some, None, refl, sym, ◌∙◌, ap, subst, arith}
 use Rattle.std.specs.Prelude.{not}
 use Rattle.std.specs.List.{All, list_any}
 use Rattle.std.specs.Option.{option_and_then}
 use Rattle.std.proofs.lemmas.Bool.{cases_lt}
 use Rattle.book_sessions.specs.MemberView.{MemberView}
 use Rattle.hub_promise.specs.declared.ends.DeviceEnd.{DeviceEnd}
-use Rattle.gps_serve.specs.Lost.{IsNotCut, IsNotLost, is_cut, is_lost}
+use Rattle.hub_promise.specs.declared.ends.DeviceEnd.TheVariants.{Ended, ReadFault, NoMemory as LostNoMemory}
+use Rattle.serve_end_parts.specs.declared.done.DeviceDone.{DeviceDone}
+use Rattle.serve_end_settling.specs.Failing.{AnyOf}
+use Rattle.gps_serve.specs.Lost.{IsNotCut, IsNotLost, WasCut, WasLostOutOfMemory, is_cut, is_lost}
 
 -- if neither of two holds, each does not
 pub neither : (a b : Bool) → (a || b) ≡ false → (a ≡ false) × (b ≡ false)
 neither true b e = absurd (cc)
 neither false b e = (refl, e)
 
+-- if one of two holds, the first does or the second
+pub either : (a b : Bool) → (a || b) ≡ true → (a ≡ true) ⊎ (b ≡ true)
+either true b e = inl refl
+either false b e = inr e
+
+-- if not both hold, one of them does not
+pub one_false : (a b : Bool) → (a && b) ≡ false → (a ≡ false) ⊎ (b ≡ false)
+one_false true b e = inr e
+one_false false b e = inl refl
+
+is_false : (b : Bool) → not b ≡ true → b ≡ false
+is_false true e = absurd (cc)
+is_false false e = refl
+
 is_true : (b : Bool) → not b ≡ false → b ≡ true
 is_true true e = refl
 is_true false e = absurd (cc)
 
--- if nothing of these was met, none of them was, and all was whole
-module _ (before lost cut threads whole by_book met since all : Bool) where
-  pub none_met : by_book ≡ (lost || cut) → met ≡ (by_book || threads) → since ≡ (met || not whole) → all ≡ (before || since) → all ≡ false
-      → (before ≡ false) × (lost ≡ false) × (cut ≡ false) × (whole ≡ true) × (threads ≡ false)
-  none_met book_is met_is since_is all_is e =
-      let outer = neither before since (sym all_is ∙ e) in
-      let inner = neither met (not whole) (sym since_is ∙ outer.1) in
-      let both = neither by_book threads (sym met_is ∙ inner.0) in
-      let each = neither lost cut (sym book_is ∙ both.0) in
-      (outer.0, each.0, each.1, is_true whole inner.1, both.1)
+-- if nothing was lacked, no device was lost and no session was cut
+pub none_of_book : (threads lost cut by_book all : Bool) → by_book ≡ (lost || cut) → all ≡ (threads || by_book) → all ≡ false → (lost ≡ false) × (cut ≡ false)
+none_of_book threads lost cut by_book all book_is all_is e = neither lost cut (sym book_is ∙ (neither threads by_book (sym all_is ∙ e)).1)
+
+-- if no thread lacks anything, neither does the door's, nor a reader, and each monitor made all its readings
+pub none_of_threads : (door devices sessions whole readers threads all : Bool) → readers ≡ (devices || sessions) → threads ≡ (readers || not whole)
+    → all ≡ (door || threads) → all ≡ false → (door ≡ false) × (devices ≡ false) × (sessions ≡ false) × (whole ≡ true)
+none_of_threads door devices sessions whole readers threads all readers_is threads_is all_is e =
+    let outer = neither door threads (sym all_is ∙ e) in
+    let inner = neither readers (not whole) (sym threads_is ∙ outer.1) in
+    let each = neither devices sessions (sym readers_is ∙ inner.0) in
+    (outer.0, each.0, each.1, is_true whole inner.1)
+
+-- if a thread lacks something, the door's does, or a reader, or a monitor did not make all its readings
+pub some_of_threads : (door devices sessions whole readers threads all : Bool) → readers ≡ (devices || sessions) → threads ≡ (readers || not whole)
+    → all ≡ (door || threads) → all ≡ true → (door ≡ true) ⊎ (devices ≡ true) ⊎ (sessions ≡ true) ⊎ (whole ≡ false)
+some_of_threads door devices sessions whole readers threads all readers_is threads_is all_is e = elim (either door threads (sym all_is ∙ e)) [
+  | inl here ↦ inl here
+  | inr some ↦ elim (either readers (not whole) (sym threads_is ∙ some)) [
+    | inl reader ↦ elim (either devices sessions (sym readers_is ∙ reader)) [ inl device ↦ inr (inl device) | inr session ↦ inr (inr (inl session)) ]
+    | inr monitor ↦ inr (inr (inr (is_false whole monitor)))
+  ]
+]
+
+-- if the daemon lacks memory, that was seen, or neither a source failed nor has each device ended
+pub some_lacks : (no_memory read_fault ended lacks : Bool) → lacks ≡ (no_memory || (not read_fault && not ended)) → lacks ≡ true
+    → (no_memory ≡ true) ⊎ ((read_fault ≡ false) × (ended ≡ false))
+some_lacks true read_fault ended lacks is e = inl refl
+some_lacks false true ended lacks is e = absurd (cc (is, e))
+some_lacks false false true lacks is e = absurd (cc (is, e))
+some_lacks false false false lacks is e = inr (refl, refl)
 
 pub none_lost : (ends : List (Option DeviceEnd)) → list_any is_lost ends ≡ false → All IsNotLost ends
 none_lost [] none k d there lost = absurd (omega arith)
@@ -36,6 +74,12 @@ none_lost (end ∷ ends) none zero d there lost =
     absurd (cc (so, not))
 none_lost (end ∷ ends) none (suc k) d there lost =
     none_lost ends (neither (is_lost end) (list_any is_lost ends) none).1 k d (omega arith) lost
+
+lost_by : (end : Option DeviceEnd) → is_lost end ≡ true → end ≡ Some LostNoMemory
+lost_by None lost = absurd (cc)
+lost_by (Some Ended) lost = absurd (cc)
+lost_by (Some ReadFault) lost = absurd (cc)
+lost_by (Some LostNoMemory) lost = refl
 
 closing_at : (sessions : List MemberView) (k : ℕ) (a : MemberView) → k < length sessions
     → option_and_then (λ (one : MemberView). one.session.closing) (slice_get sessions k) ≡ (get_or sessions k a).session.closing
@@ -67,6 +111,27 @@ none_more sessions n before none k a within there =
           let same : k ≡ n = omega (arith, within, more) in
           not_cut sessions k a there (subst (λ m. is_cut (option_and_then (λ (one : MemberView). one.session.closing) (slice_get sessions m)) ≡ false) (sym same) none)
     ]
+
+-- the session of this number was cut
+pub cut_at : (sessions : List MemberView) (n : ℕ) → is_cut (option_and_then (λ (one : MemberView). one.session.closing) (slice_get sessions n)) ≡ true
+    → AnyOf WasCut sessions
+cut_at [] n cut = absurd (cc)
+cut_at (one ∷ sessions) zero cut = inl cut
+cut_at (one ∷ sessions) (suc n) cut = inr (cut_at sessions n cut)
+
+-- a device was lost for it
+pub lost_by_memory : {S R : Type 0} (devices : List (DeviceDone S R)) (ends : List (Option DeviceEnd)) → map (λ (d : DeviceDone S R). d.end) devices ≡ ends
+    → list_any is_lost ends ≡ true → AnyOf WasLostOutOfMemory devices
+lost_by_memory [] [] are lost = absurd (cc)
+lost_by_memory [] (end ∷ ends) are lost = absurd (cc)
+lost_by_memory (device ∷ devices) [] are lost = absurd (cc)
+lost_by_memory (device ∷ devices) (end ∷ ends) are lost = elim (either (is_lost end) (list_any is_lost ends) lost) [
+  | inl this ↦ inl (
+      let here : device.end ≡ end = cc are in
+      here ∙ lost_by end this
+      )
+  | inr later ↦ inr (lost_by_memory devices ends (cc are) later)
+]
 
 -- all of them
 pub none_cut : (sessions : List MemberView) (n : ℕ) → length sessions ≤ n → NoneCut n sessions → All (λ (a : MemberView). IsNotCut a.session.closing) sessions

@@ -1,5 +1,5 @@
 -- What is left of the monitors, put together one after another.
-use Rattle.std.proofs.Common.{◌≡◌, ℕ, ◌<◌, ◌≤◌, ◌+◌, ◌*◌, Bool, true, false, ◌&&◌, List, [], ◌∷◌, ◌++◌, map, length, get_or, ◌==◌, if◌then◌else◌, refl, sym, ◌∙◌, ap, subst, append_assoc, arith}
+use Rattle.std.proofs.Common.{◌≡◌, ℕ, ◌<◌, ◌≤◌, ◌+◌, ◌*◌, inl, inr, Bool, true, false, ◌&&◌, List, [], ◌∷◌, ◌++◌, map, length, get_or, ◌==◌, if◌then◌else◌, refl, sym, ◌∙◌, ap, subst, append_assoc, arith}
 use Rattle.std.proofs.lemmas.List.{append-nil, length-append, map-append}
 use Rattle.std.specs.Arc.{arc_value}
 use Rattle.std.specs.Global.{Vec}
@@ -7,6 +7,7 @@ use Rattle.std.specs.List.{AllZip, list_all, range_with_len}
 use Rattle.book_units.specs.Units.{UnitView, new_unit, segment_of}
 use Rattle.report_book.specs.BookView.{BookView}
 use Rattle.serve_end_parts.specs.declared.done.MonitorDone.{MonitorDone}
+use Rattle.serve_end_settling.specs.Failing.{AnyOf}
 use Rattle.serve_end_settling.specs.Units.{Confirms}
 use Rattle.serve_threads.specs.declared.monitors.ReadingsDone.{ReadingsDone}
 use Rattle.serve_threads.specs.declared.monitors.MonitorStart.{MonitorStart}
@@ -17,11 +18,13 @@ use Rattle.shm_monitor.specs.MonitorView.{MonitorView}
 use Rattle.shm_segment.specs.declared.view.Load.{Load}
 use Rattle.shm_segment.specs.declared.view.Numbered.{Numbered}
 use Rattle.shm_segment.specs.Seats.{SegmentId}
+use Rattle.gps_serve.specs.Lost.{MissesSample}
 use Rattle.gps_serve.specs.Served.{MonitorServed, watched_units}
-use Rattle.gps_serve.specs.Readies.{IsNextMonitor, MonitorReady, MonitorsSoFar}
+use Rattle.gps_serve.specs.Readies.{IsLeftOfWatch, IsNextMonitor, MonitorReady, MonitorsSoFar}
 use Rattle.gps_serve.specs.Statuses.{EachWhole}
 use Rattle.gps_serve.specs.Works.{WatchedBy, monitored}
 use Rattle.gps_serve.proofs.Devices.{zip_length}
+use Rattle.gps_serve.proofs.Lost.{one_false}
 use Rattle.gps_serve.proofs.Sessions.{range_more}
 use Rattle.gps_serve.proofs.Zips.{zip_more}
 
@@ -154,6 +157,29 @@ pub monitors_all : (tries : ℕ) (no_memory : Bool) (units : List UnitView) (wat
 monitors_all tries no_memory units watched unit done so few =
     all_of tries no_memory so.gone so.rest units watched unit done so.split so.count so.served so.ready few
 
+-- what is left of it has its pairs
+pub left_of_watch : (u : UnitView) (watch : ReadingsDone) (done : MonitorDone) → done.taken ≡ watch.taken → Confirms u watch.monitor done.monitor done.taken.items
+    → IsLeftOfWatch watch done
+left_of_watch u watch done same confirms = record { kept = same; taken = ap (λ (m : MonitorView). m.taken) confirms.told }
+
+misses_sample : (segment : SegmentId) (tries : ℕ) (watch : ReadingsDone) (done : MonitorDone) → MonitorRan segment tries watch.whole watch.monitor watch.taken.items
+    → IsLeftOfWatch watch done → watch.whole ≡ false → MissesSample done
+misses_sample segment tries watch done ran left none =
+    subst (λ (v : Vec Numbered). length v.items < length (each_once done.monitor.taken)) (sym left.kept)
+    (subst (λ (l : List Numbered). length watch.taken.items < length (each_once l)) (sym left.taken) (ran.missing none))
+
+-- if a monitor did not make all its readings, one lacks a sample
+pub some_misses : (tries : ℕ) (watchers : List MonitorStart) (watched : List ReadingsDone) (done : List MonitorDone) → AllZip (WatchedBy tries) watchers watched
+    → AllZip IsLeftOfWatch watched done → list_all (λ (watch : ReadingsDone). watch.whole) watched ≡ false → AnyOf MissesSample done
+some_misses tries watchers [] done by left none = absurd (cc)
+some_misses tries [] (watch ∷ watched) done by left none = absurd by
+some_misses tries (start ∷ watchers) (watch ∷ watched) [] by left none = absurd left
+some_misses tries (start ∷ watchers) (watch ∷ watched) (monitor ∷ done) by left none =
+    elim (one_false watch.whole (list_all (λ (w : ReadingsDone). w.whole) watched) none) [
+      | inl this ↦ inl (misses_sample (arc_value watch.segment) tries watch monitor by.0.watched left.0 this)
+      | inr later ↦ inr (some_misses tries watchers watched done by.1 left.1 later)
+    ]
+
 -- the unit's monitor reads its segment
 pub segment_there : (tries : ℕ) (no_memory : Bool) (units : List UnitView) (unit : ℕ) (watch : ReadingsDone)
     → ((free : UnitView) → MonitorReady tries no_memory (get_or units unit free) watch) → (free : UnitView) → arc_value watch.segment ≡ segment_of (get_or units unit free)
@@ -188,6 +214,14 @@ some_left tries no_memory units watched unit done so there =
     let same = zip_length (MonitorReady tries no_memory) so.rest watched so.ready in
     let size : length units ≡ length so.gone + length so.rest = ap length so.split ∙ length-append so.gone so.rest in
     omega (arith, same, size, so.count, there)
+
+-- if no unit is left, no monitor is
+pub none_left : (tries : ℕ) (no_memory : Bool) (units : List UnitView) (watched : List ReadingsDone) (unit : ℕ) (done : List MonitorDone)
+    → MonitorsSoFar tries no_memory units watched unit done → length units ≤ unit → length watched ≡ 0
+none_left tries no_memory units watched unit done so few =
+    let same = zip_length (MonitorReady tries no_memory) so.rest watched so.ready in
+    let size : length units ≡ length so.gone + length so.rest = ap length so.split ∙ length-append so.gone so.rest in
+    omega (arith, same, size, so.count, few)
 
 next_if : (none : Bool) (tries : ℕ) (no_memory : Bool) (units : List UnitView) (unit : ℕ) (watch : ReadingsDone)
     → IsNextMonitor tries no_memory (if none then [] else units) unit watch → IsNextMonitor tries no_memory units unit watch

@@ -54,7 +54,8 @@ module _ {S K : Type 0} (told : Option (List (Way S K))) where
       subst (λ l. Taken told y l taken) (sym same) (
       record {
         passed = subst (λ l. Goes (PassLinks l) told y.left) (append-nil taken) (passed_on taken [] told x.left y.left so.passed passed);
-        few = so.few;
+        few = let few = so.few in omega (arith, few, full);
+        uncounted = λ (e : y.no_memory ≡ true). let before = so.uncounted (sym memory ∙ e) in omega (arith, before, full);
         count = λ (e : y.no_memory ≡ false) (f : y.full < 2 ^ 64 - 1). so.count (sym memory ∙ e) (subst (λ n. n < 2 ^ 64 - 1) full f) ∙ ap (λ n. length links + n) (sym full);
         full = λ (f : length links < 64). full ∙ so.full f;
         each = so.each;
@@ -72,7 +73,8 @@ module _ {S K : Type 0} (told : Option (List (Way S K))) where
             let grown : length links' ≡ length links + 1 = ap length seated.0 ∙ len_one links way in
             record {
               passed = on;
-              few = let few = so.few in omega (arith, few, more, grown);
+              few = let few = so.few in let full = seated.1 in omega (arith, few, more, grown, full);
+              uncounted = λ (e : y.no_memory ≡ true). let before = so.uncounted (sym seated.2 ∙ e) in let full = seated.1 in omega (arith, before, more, grown, full);
               count = λ (e : y.no_memory ≡ false) (f : y.full < 2 ^ 64 - 1).
                   let full = seated.1 in
                   let before = so.count (sym seated.2 ∙ e) (subst (λ n. n < 2 ^ 64 - 1) full f) in
@@ -85,7 +87,11 @@ module _ {S K : Type 0} (told : Option (List (Way S K))) where
             let same : length links' ≡ length links = ap length crowded.0 in
             record {
               passed = on;
-              few = let few = so.few in omega (arith, few, more, same);
+              few = let few = so.few in let full : y.full ≡ one_more x.full = crowded.1 in omega (arith, few, more, same, full);
+              uncounted = λ (e : y.no_memory ≡ true).
+                  let full : y.full ≡ one_more x.full = crowded.1 in
+                  let before = so.uncounted (sym crowded.2 ∙ e) in
+                  omega (arith, before, more, same, full);
               count = λ (e : y.no_memory ≡ false) (f : y.full < 2 ^ 64 - 1).
                   let full : y.full ≡ one_more x.full = crowded.1 in
                   let fits : x.full + 1 ≡ y.full = omega (arith, f, full) in
@@ -98,7 +104,8 @@ module _ {S K : Type 0} (told : Option (List (Way S K))) where
             let same : length links' ≡ length links = ap length lacked.0 in
             record {
               passed = on;
-              few = let few = so.few in omega (arith, few, more, same);
+              few = let few = so.few in let full = lacked.1 in omega (arith, few, more, same, full);
+              uncounted = λ (e : y.no_memory ≡ true). let few = so.few in let full = lacked.1 in omega (arith, few, more, same, full);
               count = λ (e : y.no_memory ≡ false) (f : y.full < 2 ^ 64 - 1). absurd (cc (e, lacked.2));
               full = λ (f : length links' < 64). lacked.1 ∙ so.full (omega (arith, f, same));
               each = λ (e : length (taken ++ way ∷ []) ≡ length links'). let few = so.few in absurd (omega (arith, e, more, same, few));
@@ -161,12 +168,13 @@ module _ {S K : Type 0} (told : Option (List (Way S K))) where
   }
 
   -- before it is asked
-  pub tends_none : (x : DoorNow S K) (done : Bool) → x.left ≡ told → x.full ≡ 0 → done ≡ false → Tends told x [] done true
-  tends_none x done left full open_still = record {
+  pub tends_none : (x : DoorNow S K) (done : Bool) → x.left ≡ told → x.full ≡ 0 → x.no_memory ≡ false → done ≡ false → Tends told x [] done true
+  tends_none x done left full had open_still = record {
     taken = [];
     takes = record {
       passed = subst (λ l. Goes (PassLinks []) told l) (sym left) (begun told);
-      few = omega arith;
+      few = let none : x.full ≡ 0 = full in omega (arith, none);
+      uncounted = λ (e : x.no_memory ≡ true). absurd (cc (e, had));
       count = λ (e : x.no_memory ≡ false) (f : x.full < 2 ^ 64 - 1). let none : x.full ≡ 0 = full in omega (arith, none);
       full = λ (f : 0 < 64). full;
       each = λ (e : 0 ≡ 0). refl;

@@ -10,9 +10,9 @@ use Rattle.gps_outside.specs.ReadSteps.{TakesAll}
 use Rattle.gps_outside.proofs.Going.{goes_as}
 use Rattle.hub_promise.specs.declared.ends.DeviceEnd.{DeviceEnd}
 use Rattle.hub_promise.specs.declared.ends.DeviceEnd.TheVariants.{Ended, NoMemory as LostNoMemory}
-use Rattle.hub_promise.specs.DaemonHub.{DeviceFits}
+use Rattle.hub_promise.specs.DaemonHub.{DaemonHub, DeviceFits}
 use Rattle.hub_promise.specs.Given.{edge_ending, end_by, end_of, ending_of, got_of}
-use Rattle.hub_promise.specs.Parts.{InletsView}
+use Rattle.hub_promise.specs.Parts.{InletsView, Parts}
 use Rattle.report_book.specs.BookView.{BookView}
 use Rattle.serve_end_parts.specs.declared.done.DeviceDone.{DeviceDone}
 use Rattle.serve_pieces.specs.Carried.{device_part, input_part}
@@ -25,7 +25,7 @@ use Rattle.serve_end_settling.specs.Runs.{SourceFacts}
 use Rattle.serve_end_settling.proofs.Endings.{devices_tell_last, edges_tell_last, settled}
 use Rattle.serve_workers.specs.EdgeLines.{HandsLines, TookLines, line_pieces}
 use Rattle.serve_workers.specs.Readings.{Each, HandsOn, IsDevicePiece, IsInputPiece, Took, last_piece}
-use Rattle.gps_serve.specs.AtEnd.{AtEnd, DaemonStart, HandedBack}
+use Rattle.gps_serve.specs.AtEnd.{AtEnd, DaemonStart, HandedBack, parts_of}
 use Rattle.gps_serve.specs.Facts.{WorldFacts}
 use Rattle.gps_serve.specs.Served.{BytesServed, DeviceServed, EdgesServed, LaneServed, LinesServed}
 use Rattle.gps_serve.specs.Whole.{BytesWhole, CameWhole, EdgesWhole, IsOver, IsWhole, LeavesNone, LinesWhole}
@@ -217,15 +217,22 @@ module _ {S R : Type 0} (may : Option (List Moment)) (facts : SourceFacts S) whe
   all_whole (x ∷ inlets) (device ∷ devices) served tell (suc k) d there =
       all_whole inlets devices served.1 (λ j y end within. tell (suc j) y end (omega arith)) k d (omega arith)
 
+-- of the parts of a hub
+pub whole_by : {S R : Type 0} (may : Option (List Moment)) (facts : SourceFacts S) (p : Parts) (devices : List (DeviceDone S R)) → DaemonHub p
+    → AllZip (DeviceServed may facts) p.inlets devices → map (λ (d : DeviceDone S R). d.end) devices ≡ p.ends → All (IsWhole may facts) devices
+whole_by {S} {R} may facts p devices hub served ends_are =
+    let count : length p.inlets ≡ length p.book.names = hub.1.count in
+    let ends = map (λ (d : DeviceDone S R). d.end) devices in
+    all_whole may facts p.inlets devices served
+    (λ k x end there. tell_ends (hub.0 ++ p.book.log.log) k (get_or p.inlets k x) (get_or ends k end)
+    (subst (λ (l : List (Option DeviceEnd)). DeviceFits (hub.0 ++ p.book.log.log) k (get_or p.inlets k x) (get_or l k end)) (sym ends_are)
+    (hub.1.devices k x end (omega (arith, there, count)))))
+
 pub whole_at_end : {G S K R : Type 0} (start : DaemonStart S K) (facts : WorldFacts G S K) (back : HandedBack G S K R) (book : Option BookView)
     → IfSome book (AtEnd start facts back) → IsSome book → All (IsWhole start.may facts.sources) back.devices
 whole_at_end start facts back None ends some = absurd (cc)
 whole_at_end {G} {S} {K} {R} start facts back (Some b) ends some =
-    let hub = ends.hub.1 in
-    let count : length ends.inlets ≡ length b.names = hub.count in
-    all_whole start.may facts.sources ends.inlets back.devices ends.devices_are
-    (λ k x end there. tell_ends (ends.hub.0 ++ b.log.log) k (get_or ends.inlets k x) (get_or (map (λ (d : DeviceDone S R). d.end) back.devices) k end)
-    (hub.devices k x end (omega (arith, there, count))))
+    whole_by start.may facts.sources (parts_of b ends.inlets back ends.done start.told.wait) back.devices ends.hub ends.devices_are refl
 
 -- a device that has ended did so as both of its sources came to their ends
 pub both_end : (bytes edges : Ending) (end : Option DeviceEnd) → end ≡ Some (end_of bytes edges) → end ≡ Some Ended → (bytes ≡ End) × (edges ≡ End)

@@ -1,5 +1,5 @@
 -- What a daemon begins with, and what it hands back: its book, and what is left of its devices, sessions, monitors and door, which agree with each other.
-use Rattle.std.specs.Prelude.{◌≡◌, ℕ, Bool, List, length, map, Option, Some}
+use Rattle.std.specs.Prelude.{◌≡◌, ◌⊎◌, ℕ, Bool, true, List, length, map, Option, Some}
 use Rattle.std.specs.List.{All, AllZip, range_with_len}
 use Rattle.gps_fixed.specs.Moment.{Moment}
 use Rattle.book_sessions.specs.MemberView.{MemberView}
@@ -11,7 +11,9 @@ use Rattle.serve_end_parts.specs.declared.plan.Plan.{Plan}
 use Rattle.hub_promise.specs.DaemonHub.{DaemonHub}
 use Rattle.hub_promise.specs.Keeping.{IsClosed}
 use Rattle.hub_promise.specs.Parts.{InletsView, Parts, Terms}
+use Rattle.serve_end_settling.specs.Failing.{AnyOf}
 use Rattle.gps_serve.specs.Doors.{Way}
+use Rattle.gps_serve.specs.Lost.{DeviceTellsShort, LinkIsUncounted, MissesSample, SessionTellsShort, WasCut, WasLostOutOfMemory}
 use Rattle.gps_serve.specs.Statuses.{HasStopped}
 use Rattle.gps_serve.specs.Units.{UnitServed}
 use Rattle.gps_serve.specs.Facts.{WorldFacts}
@@ -65,6 +67,14 @@ abbrev pub handed_back : {W R S K C G : Type 0} → Served W R S K C G → Hande
 handed_back served =
     back_with served.devices.items served.sessions.items served.monitors.items served.gate served.full served.no_memory
 
+-- Why a daemon says that it was out of memory: a device was lost for that, a reader of a device says so, a session was closed for that, a reader of a
+-- session says so, a monitor could not keep a sample, or a link was dropped for it. `told` are the links that the door held before, `left` those that it
+-- still has.
+abbrev pub MemoryWasShort : {G S K R : Type 0} → Option (List (Way S K)) → Option (List (Way S K)) → HandedBack G S K R → BookView → Type 0
+MemoryWasShort told left back book =
+    AnyOf WasLostOutOfMemory back.devices ⊎ AnyOf DeviceTellsShort back.devices ⊎ AnyOf WasCut book.sessions ⊎ AnyOf SessionTellsShort back.sessions
+    ⊎ AnyOf MissesSample back.monitors ⊎ LinkIsUncounted told left (length back.sessions) back.full
+
 -- how many items may wait for each session
 abbrev pub AreOfQueue : ℕ → List MemberView → Type 0
 AreOfQueue queue sessions = All (λ (a : MemberView). a.session.cap ≡ queue) sessions
@@ -82,7 +92,8 @@ parts_of {G} {S} {K} {R} book inlets back done wait = record {
 
 -- What the hub knows holds of the book, of the devices' lanes as the hub left them, of how each device ended, of the sessions' lanes, and of the
 -- door. By the lanes that are handed back, what came into the hub is what was taken from the sources; what a session wrote begins what the book gave
--- it. Each device has stopped, each session is closed, and each unit's samples are all published, unless its count is spent.
+-- it. Each device has stopped, each session is closed, and each unit's samples are all published, unless its count is spent. The daemon says that it
+-- was out of memory only if that shows (`MemoryWasShort`).
 pub record AtEnd {G S K R : Type 0} (start : DaemonStart S K) (facts : WorldFacts G S K) (back : HandedBack G S K R) (book : BookView) : Type 0 where
   pub names : book.names ≡ start.told.names
   pub limit : book.log.limit ≡ start.told.limit
@@ -102,3 +113,4 @@ pub record AtEnd {G S K R : Type 0} (start : DaemonStart S K) (facts : WorldFact
   pub gate : G
   pub gate_is : back.gate ≡ Some gate
   pub door : GateServed facts start.links back.full back.no_memory done back.sessions gate
+  pub short : back.no_memory ≡ true → MemoryWasShort start.links (facts.gates.links gate) back book

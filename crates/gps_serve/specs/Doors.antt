@@ -79,10 +79,12 @@ abbrev pub WasAsked : {S K : Type 0} → Option (List (Way S K)) → List (Way S
 WasAsked told taken now = (0 < length taken) ⊎ (0 < now.quiets) ⊎ (0 < now.faults) ⊎ NoneLeft told now.left
 
 -- The links that were taken are the next of those that the door had, in order. Each is that of a session, or was dropped: out of memory, or
--- because too many sessions were there, and then at least 64 were admitted. If none was dropped, the k-th is that of session k.
+-- because too many sessions were there, and then at least 64 were admitted. It was out of memory only if a link was dropped for that. If none was
+-- dropped, the k-th is that of session k.
 pub record Taken {S K : Type 0} (told : Option (List (Way S K))) (now : DoorNow S K) (sessions : List (Way S K)) (taken : List (Way S K)) : Type 0 where
   pub passed : Goes (PassLinks taken) told now.left
-  pub few : length sessions ≤ length taken
+  pub few : length sessions + now.full ≤ length taken
+  pub uncounted : now.no_memory ≡ true → length sessions + now.full < length taken
   pub count : now.no_memory ≡ false → now.full < 2 ^ 64 - 1 → length taken ≡ length sessions + now.full
   pub full : length sessions < 64 → now.full ≡ 0
   pub each : length taken ≡ length sessions → sessions ≡ taken

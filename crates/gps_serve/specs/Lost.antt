@@ -1,13 +1,17 @@
--- Which devices were lost, which sessions closed, and which readers ended, because the daemon was out of memory.
-use Rattle.std.specs.Prelude.{◌≡◌, ◌||◌, ℕ, Bool, true, false, List, Option, Some, None}
+-- Which devices were lost, which sessions closed, which readers ended, what a monitor lacks, and which links were dropped, because the daemon was out of
+-- memory.
+use Rattle.std.specs.Prelude.{◌≡◌, ◌||◌, ◌⊎◌, ◌+◌, ◌<◌, ℕ, Bool, true, false, List, length, Option, Some, None}
 use Rattle.std.specs.List.{All}
 use Rattle.book_sessions.specs.MemberView.{MemberView}
 use Rattle.gps_lane.specs.Ends.{Putting}
+use Rattle.gps_outside.specs.Links.{PassLinks}
+use Rattle.gps_outside.specs.Told.{Goes}
 use Rattle.hub_promise.specs.declared.ends.DeviceEnd.{DeviceEnd}
 use Rattle.hub_promise.specs.declared.ends.DeviceEnd.TheVariants.{Ended, ReadFault, NoMemory as LostNoMemory}
 use Rattle.hub_promise.specs.Given.{ending_of}
 use Rattle.report_book.specs.BookView.{BookView}
 use Rattle.serve_end_parts.specs.declared.done.DeviceDone.{DeviceDone}
+use Rattle.serve_end_parts.specs.declared.done.MonitorDone.{MonitorDone}
 use Rattle.serve_end_parts.specs.declared.done.SessionDone.{SessionDone}
 use Rattle.serve_end_settling.specs.declared.device.DeviceRun.{DeviceRun}
 use Rattle.serve_pieces.specs.declared.piece.Ending.{Ending}
@@ -17,6 +21,8 @@ use Rattle.serve_threads.specs.declared.reading.ReaderDone.{ReaderDone}
 use Rattle.serve_threads.specs.declared.session.LinkDone.{LinkDone}
 use Rattle.session_core.specs.declared.mark.Close.{Close}
 use Rattle.session_core.specs.declared.mark.Close.TheVariants as closed
+use Rattle.serve_workers.specs.Watching.{each_once}
+use Rattle.gps_serve.specs.Doors.{Way}
 
 -- a device that ended so was not lost because it was out of memory
 abbrev pub IsNotLost : Option DeviceEnd → Type 0
@@ -87,3 +93,30 @@ pub record SessionHadMemory {S K R : Type 0} (session : SessionDone S K R) : Typ
 pub record ReadersHadMemory {S K R : Type 0} (devices : List (DeviceDone S R)) (sessions : List (SessionDone S K R)) : Type 0 where
   pub devices_had : All DeviceHadMemory devices
   pub sessions_had : All SessionHadMemory sessions
+
+-- the device was lost because the daemon was out of memory
+abbrev pub WasLostOutOfMemory : {S R : Type 0} → DeviceDone S R → Type 0
+WasLostOutOfMemory device = device.end ≡ Some LostNoMemory
+
+-- the session was closed for that
+abbrev pub WasCut : MemberView → Type 0
+WasCut a = is_cut a.session.closing ≡ true
+
+-- a reader of the device says that it was out of memory
+abbrev pub DeviceTellsShort : {S R : Type 0} → DeviceDone S R → Type 0
+DeviceTellsShort device = TellsShort (Some device.bytes_tx) ⊎ TellsShort device.edges_tx
+
+-- or the reader of the session's input
+abbrev pub SessionTellsShort : {S K R : Type 0} → SessionDone S K R → Type 0
+SessionTellsShort session = TellsShort (Some session.input_tx)
+
+-- the monitor took a sample that is missing from those that it kept
+abbrev pub MissesSample : MonitorDone → Type 0
+MissesSample done = length done.taken.items < length (each_once done.monitor.taken)
+
+-- The door gave a link that became no session, and is not counted among those that were dropped because too many sessions were there. If the door does not
+-- tell its links, this says nothing: any may stand for those that it gave.
+pub record LinkIsUncounted {S K : Type 0} (told left : Option (List (Way S K))) (sessions full : ℕ) : Type 0 where
+  pub taken : List (Way S K)
+  pub passed : Goes (PassLinks taken) told left
+  pub more : sessions + full < length taken

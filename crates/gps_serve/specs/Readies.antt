@@ -85,6 +85,11 @@ pub record MonitorReady (tries : ℕ) (no_memory : Bool) (u : UnitView) (watch :
   pub watched : MonitorRan (segment_of u) tries watch.whole watch.monitor watch.taken.items
   pub whole : no_memory ≡ false → watch.whole ≡ true
 
+-- what is left of a monitor has all that it kept and all that it took
+pub record IsLeftOfWatch (watch : ReadingsDone) (done : MonitorDone) : Type 0 where
+  pub kept : done.taken ≡ watch.taken
+  pub taken : done.monitor.taken ≡ watch.monitor.taken
+
 pub record MonitorsSoFar (tries : ℕ) (no_memory : Bool) (units : List UnitView) (watched : List ReadingsDone) (unit : ℕ) (done : List MonitorDone) : Type 0 where
   pub gone : List UnitView
   pub rest : List UnitView

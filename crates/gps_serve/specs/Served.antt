@@ -126,15 +126,15 @@ pub record ServesLink {S K R : Type 0} (sources : SourceFacts S) (sinks : SinkFa
   pub writes : Writes (writer_end done.end) [] done.items_rx.got (sinks.written way.1) (sinks.written done.sink)
   pub failed : done.end ≡ WriteFault → Rose (sinks.faults way.1) (sinks.faults done.sink)
 
--- What is left of the door. The links that were taken are the next of those that it told, and no fewer than the sessions; unless it was out of memory
--- and the count of dropped ones did not reach its greatest value, they are as many as the sessions and those that were dropped; and none was dropped
--- because too many were there before 64 were admitted. If none was dropped, session k has the k-th. It was asked; and it is said to have closed or
+-- What is left of the door. The links that were taken are the next of those that it told. They are at least as many as the sessions and `full` together,
+-- and exactly as many unless the daemon was out of memory or `full` is at its greatest value; `full` counts the links that were dropped because too many
+-- sessions were there, and is 0 before 64 were admitted. If none was dropped, session k has the k-th. The door was asked; and it is said to have closed or
 -- failed only if no link is left or its faults rose.
 pub record GateServed {G S K R : Type 0} (facts : WorldFacts G S K) (told : Option (List (Way S K))) (full : ℕ) (no_memory done : Bool)
     (sessions : List (SessionDone S K R)) (gate : G) : Type 0 where
   pub taken : List (Way S K)
   pub passed : Goes (PassLinks taken) told (facts.gates.links gate)
-  pub few : length sessions ≤ length taken
+  pub few : length sessions + full ≤ length taken
   pub count : no_memory ≡ false → full < 2 ^ 64 - 1 → length taken ≡ length sessions + full
   pub none_early : length sessions < 64 → full ≡ 0
   pub each : length taken ≡ length sessions → AllZip (ServesLink facts.sources facts.sinks) taken sessions

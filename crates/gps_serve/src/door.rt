@@ -1,4 +1,4 @@
-ghost use Rattle.std.specs.Prelude.{◌≡◌, ◌≤◌, ◌<◌, ◌+◌, ◌⊎◌, ◌++◌, ◌∷◌, ℕ, List, Option, [], length, IfOk, IfSome, OnOk, true, false, map};
+ghost use Rattle.std.specs.Prelude.{◌≡◌, ◌≤◌, ◌<◌, ◌+◌, ◌⊎◌, ◌++◌, ◌∷◌, ℕ, List, Option, [], length, IfOk, IfSome, OnOk, true, false, not, map};
 ghost use Rattle.std.specs.List.{AllZip};
 ghost use Rattle.std.specs.Vec.{vec_len, vec_capacity};
 ghost use Rattle.gps_outside.specs.Counts.{Rose};
@@ -8,7 +8,7 @@ ghost use Rattle.gps_serve.specs.Doors.{AreSeated, Deals, FailsBy, HaveLanes, Is
 
 use crate::attended::Attended;
 use crate::floor::Floor;
-use crate::places::{Places, SharedBells, make_places};
+use crate::places::{Places, ThreadBells, make_places};
 use crate::seated::{Seated, Sessions};
 use gps_fixed::NoMemory;
 use gps_hub::{DoorSeat, HubNaming};
@@ -106,20 +106,43 @@ impl<S: Source, K: Sink, G: Door<In = S, Out = K>, J: HubNaming, R: Wait + Copy>
         Ok(())
     }
 
-    /// A session is seated, for which there is room.
-    fn seat(&mut self, session: Seated<S, K, R>)
+    /// Starts the threads of a session that was admitted, and seats it, for which there is room.
+    fn start<'s, E>(
+        &mut self,
+        rt: R,
+        alloc: Global,
+        scope: &'s Scope<'s, E>,
+        pump: &'s Bell,
+        link: SessionLink<S, K, R>,
+        bells: ThreadBells,
+    )
+    where
+        S: Send + 's,
+        K: Send + 's,
+        R: Threads + Send + Sync + 's,
+        requires open { link.pieces.is_open ≡ true }
         requires seated { vec_len self.old.sessions.seated < vec_capacity self.old.sessions.seated }
         requires live { vec_len self.old.sessions.live < vec_capacity self.old.sessions.live }
         requires runs { vec_len self.old.sessions.seated < vec_capacity self.old.sessions.runs }
-        requires done { vec_len self.old.sessions.seated < vec_capacity self.old.room }
+        requires done_room { vec_len self.old.sessions.seated < vec_capacity self.old.room }
         ensures gate { self.new.gate ≡ self.old.gate }
         ensures seat { self.new.seat ≡ self.old.seat }
         ensures failed { self.new.failed ≡ self.old.failed }
         ensures full { self.new.full ≡ self.old.full }
         ensures no_memory { self.new.no_memory ≡ self.old.no_memory }
-        ensures seated { self.new.sessions.seated.items ≡ self.old.sessions.seated.items ++ session ∷ [] }
+        ensures links { links_at self.new.sessions.seated.items ≡ links_at self.old.sessions.seated.items ++ link ∷ [] }
     {
-        self.sessions.add(session);
+        let ThreadBells {
+            door,
+            reader,
+            writer,
+        } = bells;
+        let shown = Snapshot::of(&link);
+        let work = start_session(rt, alloc, scope, link, reader, writer, &door, pump);
+        self.sessions.add(Seated {
+            attended: Attended::new(shown, work),
+            bells: door,
+        });
     }
 
     /// A link came: a session is admitted with it, or it is dropped.
@@ -168,14 +191,9 @@ impl<S: Source, K: Sink, G: Door<In = S, Out = K>, J: HubNaming, R: Wait + Copy>
             items,
             pieces,
             input,
-            bells: shared,
-        } = places;
-        let SharedBells {
             pump,
-            door,
-            reader,
-            writer,
-        } = shared;
+            bells: own,
+        } = places;
         let admitted = floor.lock(&rt).admit(&mut self.seat, outlet, input, pump);
         match admitted {
             Ok(_) => {
@@ -186,21 +204,7 @@ impl<S: Source, K: Sink, G: Door<In = S, Out = K>, J: HubNaming, R: Wait + Copy>
                     pieces,
                     items,
                 };
-                let shown = Snapshot::of(&link);
-                let work = start_session(
-                    rt,
-                    alloc,
-                    scope,
-                    link,
-                    reader,
-                    writer,
-                    &door,
-                    &bells.pump,
-                );
-                self.seat(Seated {
-                    attended: Attended::new(shown, work),
-                    bells: door,
-                });
+                self.start(rt, alloc, scope, &bells.pump, link, own);
             }
             Err(BookFault::TooManySessions { live: _, opened: _ }) => {
                 self.full = self.full.saturating_add(1);
@@ -217,6 +221,7 @@ impl<S: Source, K: Sink, G: Door<In = S, Out = K>, J: HubNaming, R: Wait + Copy>
         ensures full { self.new.full ≡ self.old.full }
         ensures no_memory { self.new.no_memory ≡ self.old.no_memory }
         ensures links { self.new.seat.links ≡ self.old.seat.links }
+        ensures done { self.new.seat.done ≡ true }
     {
         floor.lock(rt).hub.door_done(&mut self.seat);
         pump.ring();
@@ -239,11 +244,13 @@ impl<S: Source, K: Sink, G: Door<In = S, Out = K>, J: HubNaming, R: Wait + Copy>
         R: Threads + Send + Sync + 's,
         requires low { 1 ≤ queue }
         requires high { queue ≤ 65536 }
+        requires open { self.old.seat.done ≡ false }
         requires seated { AreSeated (IsNewLink S.content S.faults S.quiets K.written K.faults) queue (links_at self.old.sessions.seated.items) self.old.seat }
         ensures seated { AreSeated (IsNewLink S.content S.faults S.quiets K.written K.faults) queue (links_at self.new.sessions.seated.items) self.new.seat }
         ensures faults_stay { G.faults self.old.gate ≤ G.faults self.new.gate }
         ensures failed { self.new.failed ≡ true → (self.old.failed ≡ true) ⊎ Rose (G.faults self.old.gate) (G.faults self.new.gate) }
         ensures still { self.new.failed ≡ false → (self.old.failed ≡ false) × (G.faults self.new.gate ≡ G.faults self.old.gate) }
+        ensures done { self.new.seat.done ≡ not result }
         ensures tends { (told : Option (List (Way S K)))
             → Tends told (door_now (G.links self.old.gate) (G.faults self.old.gate) (G.quiets self.old.gate) self.old.full self.old.no_memory)
             (map way_of (links_at self.old.sessions.seated.items)) self.old.seat.done true
@@ -290,8 +297,10 @@ impl<S: Source, K: Sink, G: Door<In = S, Out = K>, J: HubNaming, R: Wait + Copy>
         R: Threads + Send + Sync + 's,
         requires low { 1 ≤ queue }
         requires high { queue ≤ 65536 }
+        requires open { to_ask ≡ true → self.old.seat.done ≡ false }
         requires seated { AreSeated (IsNewLink S.content S.faults S.quiets K.written K.faults) queue (links_at self.old.sessions.seated.items) self.old.seat }
         ensures seated { AreSeated (IsNewLink S.content S.faults S.quiets K.written K.faults) queue (links_at self.new.sessions.seated.items) self.new.seat }
+        ensures open { result ≡ true → self.new.seat.done ≡ false }
         ensures fails { (first : ℕ) → FailsBy self.old.failed first (G.faults self.old.gate) → FailsBy self.new.failed first (G.faults self.new.gate) }
         ensures tends { (told : Option (List (Way S K)))
             → Tends told (door_now (G.links self.old.gate) (G.faults self.old.gate) (G.quiets self.old.gate) self.old.full self.old.no_memory)
@@ -344,8 +353,10 @@ impl<S: Source, K: Sink, G: Door<In = S, Out = K>, J: HubNaming, R: Wait + Copy>
         R: Threads + Send + Sync + 's,
         requires low { 1 ≤ queue }
         requires high { queue ≤ 65536 }
+        requires open { to_ask ≡ true → self.old.seat.done ≡ false }
         requires seated { AreSeated (IsNewLink S.content S.faults S.quiets K.written K.faults) queue (links_at self.old.sessions.seated.items) self.old.seat }
         ensures seated { AreSeated (IsNewLink S.content S.faults S.quiets K.written K.faults) queue (links_at self.new.sessions.seated.items) self.new.seat }
+        ensures open { result ≡ true → self.new.seat.done ≡ false }
         ensures fails { (first : ℕ) → FailsBy self.old.failed first (G.faults self.old.gate) → FailsBy self.new.failed first (G.faults self.new.gate) }
         ensures tends { (told : Option (List (Way S K)))
             → Tends told (door_now (G.links self.old.gate) (G.faults self.old.gate) (G.quiets self.old.gate) self.old.full self.old.no_memory)

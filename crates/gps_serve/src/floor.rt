@@ -16,11 +16,14 @@ use serve_threads::SessionBells;
 use session_core::Item;
 use std::sync::{Arc, Wait};
 
-/// A burst takes a piece of each device in turn, until it has this many or more. The lock is held for a burst, so it is short.
+/// The most pieces of devices that a burst takes. The lock is held for a burst, so it is short.
 const PIECES_A_BURST: u32 = 4;
 
+/// The most looks at a device in a burst: eight devices at most are looked at for each piece.
+const DEVICE_LOOKS: u32 = 8 * PIECES_A_BURST;
+
 /// More sessions than may have news at once.
-const LOOKS: u32 = 200_000;
+const SESSION_LOOKS: u32 = 200_000;
 
 /// The steps of 128 samples. One burst brings no more to a unit: it takes 2,048 bytes of a device, and a time needs sixteen.
 const STEPS: u16 = 1_664;
@@ -48,13 +51,14 @@ enum Taken {
     Part,
 }
 
-/// What stands behind the lock: the hub, how many devices and units it has, the bells of each session, and whether the book refused a piece of
-/// a device. Such a device is lost, and its readers may still read.
+/// What stands behind the lock: the hub, how many devices and units it has, the device to look at next, the bells of each session, and whether
+/// the book refused a piece of a device. Such a device is lost, and its readers may still read.
 #[derive(Drop)]
 pub(crate) struct Floor<J: HubNaming, R: Wait + Copy> {
     pub(crate) hub: Hub<J, R>,
     pub(crate) devices: u8,
     pub(crate) units: u8,
+    pub(crate) next: u8,
     pub(crate) sessions: Vec<Arc<SessionBells>>,
     pub(crate) has_refused: bool,
     pub(crate) ghost devices_are: { devices ≡ length J.terms.names },
@@ -77,27 +81,29 @@ impl<J: HubNaming, R: Wait + Copy> Floor<J, R> {
         }
     }
 
-    /// Takes a piece of each device that has one, and gives their number.
-    fn feed_each(&mut self) -> u32 {
-        let mut fed = 0u32;
-        for device in 0..self.devices {
-            if self.feed(device) {
-                fed = fed.saturating_add(1);
-            }
-        }
+    /// Looks at the next device, round robin: whether a piece was taken of it.
+    fn feed_next(&mut self) -> bool {
+        let fed = self.feed(self.next);
+        let next = self.next.saturating_add(1);
+        self.next = if next < self.devices { next } else { 0 };
         fed
     }
 
-    /// Takes pieces of the devices, as many as a burst takes.
+    /// Takes pieces of the devices, round robin, as many as a burst takes. It begins with the device after the one at which the last burst ended.
     fn feed_all(&mut self) -> Taken {
         let mut fed = 0u32;
-        for _ in 0..PIECES_A_BURST {
-            let more = self.feed_each();
-            fed = fed.saturating_add(more);
+        let mut idle = 0u8;
+        for _ in 0..DEVICE_LOOKS {
+            if self.feed_next() {
+                fed = fed.saturating_add(1);
+                idle = 0;
+            } else {
+                idle = idle.saturating_add(1);
+            }
             if fed >= PIECES_A_BURST {
                 return Taken::Part;
             }
-            if more == 0 {
+            if idle >= self.devices {
                 break;
             }
         }
@@ -132,7 +138,7 @@ impl<J: HubNaming, R: Wait + Copy> Floor<J, R> {
     fn attend_all(&mut self) -> bool {
         let mut fed = false;
         let mut k = 0usize;
-        for _ in 0..LOOKS {
+        for _ in 0..SESSION_LOOKS {
             let Some(look) = self.hub.look(k) else {
                 break;
             };

@@ -11,10 +11,9 @@ use std::sync::{Arc, Wait};
 /// How many pieces a reader's lane holds.
 pub(crate) const PIECES: u32 = 64;
 
-/// The bells of a session, once for each who rings them or sleeps on them.
+/// The bells of a session: once for the door worker, which rings them, and once for each thread of the session, which sleeps on them.
 #[derive(Drop)]
-pub(crate) struct SharedBells {
-    pub(crate) pump: Arc<SessionBells>,
+pub(crate) struct ThreadBells {
     pub(crate) door: Arc<SessionBells>,
     pub(crate) reader: Arc<SessionBells>,
     pub(crate) writer: Arc<SessionBells>,
@@ -27,16 +26,16 @@ pub(crate) struct Places<R> {
     pub(crate) items: Rx<Item, R>,
     pub(crate) pieces: Tx<Piece, R>,
     pub(crate) input: Rx<Piece, R>,
-    pub(crate) bells: SharedBells,
+    /// The bells once more, for the pump.
+    pub(crate) pump: Arc<SessionBells>,
+    pub(crate) bells: ThreadBells,
 }
 
-fn session_bells(alloc: Global) -> Result<SharedBells, NoMemory> {
-    let pump = Arc::new(alloc, SessionBells::new())?;
-    let door = Arc::try_clone(&pump)?;
-    let reader = Arc::try_clone(&pump)?;
-    let writer = Arc::try_clone(&pump)?;
-    Ok(SharedBells {
-        pump,
+fn thread_bells(pump: &Arc<SessionBells>) -> Result<ThreadBells, NoMemory> {
+    let door = Arc::try_clone(pump)?;
+    let reader = Arc::try_clone(pump)?;
+    let writer = Arc::try_clone(pump)?;
+    Ok(ThreadBells {
         door,
         reader,
         writer,
@@ -58,12 +57,14 @@ pub(crate) fn make_places<R: Wait + Copy>(
 {
     let (outlet, items) = lane(rt, alloc, queue)?;
     let (pieces, input) = lane(rt, alloc, PIECES)?;
-    let bells = session_bells(alloc)?;
+    let pump = Arc::new(alloc, SessionBells::new())?;
+    let bells = thread_bells(&pump)?;
     Ok(Places {
         outlet,
         items,
         pieces,
         input,
+        pump,
         bells,
     })
 }

@@ -1,3 +1,5 @@
+ghost use Rattle.std.specs.Prelude.{◌≡◌, ◌≤◌, ◌<◌, ◌+◌, ◌*◌, ◌⊎◌};
+
 use crate::floor::{Burst, Floor};
 use gps_hub::HubNaming;
 use gps_lane::Bell;
@@ -12,7 +14,11 @@ const MOST_HELD: u32 = 7;
 const PLACES_A_BURST: u32 = 1_024;
 
 /// How many bursts may be held for sessions with queues of this length, so that what they bring finds room.
-fn most_held(queue: u32) -> u32 {
+fn most_held(queue: u32) -> u32
+    ensures most { result ≤ 7 }
+    ensures room { 1024 * result ≤ queue }
+    ensures longest { (result ≡ 7) ⊎ (queue < 1024 * (result + 1)) }
+{
     let held = queue / PLACES_A_BURST;
     if held < MOST_HELD { held } else { MOST_HELD }
 }

@@ -1,10 +1,12 @@
-ghost use Rattle.std.specs.Prelude.{◌≡◌, ◌≤◌, [], length, IfOk};
-ghost use Rattle.std.specs.List.{AllZip};
+ghost use Rattle.std.specs.Prelude.{◌≡◌, ◌≤◌, ◌⊎◌, [], true, false, length, IfOk};
+ghost use Rattle.std.specs.List.{AllZip, list_all, list_any};
 ghost use Rattle.std.specs.Vec.{vec_len, vec_capacity};
 ghost use Rattle.serve_end_settling.specs.Runs.{RunCause, EachRun, source_facts};
 ghost use Rattle.gps_serve.specs.Facts.{gate_facts, sink_facts};
+ghost use Rattle.gps_serve.specs.Lost.{link_lacks, run_lacks};
 ghost use Rattle.gps_serve.specs.Runs.{RanOn};
 ghost use Rattle.gps_serve.specs.Scopes.{CausesIf, CountsIf, FailsIf, RanIf, TendedIf, WatchedIf};
+ghost use Rattle.gps_serve.specs.Statuses.{EachWhole};
 ghost use Rattle.gps_serve.specs.Works.{JoinsDevice, JoinsWatcher, ReadersAre, WatchedBy, WatchesFor};
 
 use crate::door::{DoorBegin, DoorDone};
@@ -13,6 +15,7 @@ use crate::floor::Floor;
 use crate::pump::{publish, pump};
 use crate::readers::{DeviceWork, join_readers, start_readers};
 use crate::starts::DeviceStart;
+use crate::status::{are_whole, device_lacks, either, session_lacks};
 use crate::waker::{Waker, wake_readers};
 use gps_fixed::NoMemory;
 use gps_hub::HubNaming;
@@ -68,6 +71,31 @@ pub(crate) struct Ended<
     pub(crate) runs: Vec<DeviceRun<S, R>>,
     pub(crate) watched: Vec<ReadingsDone>,
     pub(crate) door: DoorDone<S, K, G, J, R>,
+}
+
+impl<S: Source, K: Sink, G: Door<In = S, Out = K>, J: HubNaming, R: Wait + Copy> Ended<
+    S,
+    K,
+    G,
+    J,
+    R,
+> {
+    /// Whether a thread was out of memory: the door's at an admission, a reader, or a monitor, which then misses a sample that it took.
+    pub(crate) fn threads_lack(&self) -> bool
+        ensures whole { result ≡ false → EachWhole self.now.watched.items }
+        ensures door { result ≡ false → self.now.door.no_memory ≡ false }
+        ensures runs { result ≡ false → list_any run_lacks self.now.runs.items ≡ false }
+        ensures links { result ≡ false → list_any link_lacks self.now.door.runs.items ≡ false }
+        ensures cause { result ≡ true → (self.now.door.no_memory ≡ true) ⊎ (list_any run_lacks self.now.runs.items ≡ true)
+            ⊎ (list_any link_lacks self.now.door.runs.items ≡ true) ⊎ (list_all (λ watch. watch.whole) self.now.watched.items ≡ false) }
+    {
+        let readers = either(
+            device_lacks(self.runs.as_slice()),
+            session_lacks(self.door.runs.as_slice()),
+        );
+        let threads = either(readers, !are_whole(self.watched.as_slice()));
+        either(self.door.no_memory, threads)
+    }
 }
 
 /// Room for the given number of elements.

@@ -66,6 +66,8 @@ fn nothing<W: World, R: Wait + Copy>(alloc: Global, world: W, stop: Stop) -> Ser
     ensures first { AnyOf WasLostByFault result.devices.items → result.status ≡ 3 }
     ensures untold { (result.status ≡ 3) ⊎ All TellsNoFault result.devices.items }
     ensures door { SourceFailed W.Gate.faults result.gate → (result.status ≡ 3) ⊎ (result.status ≡ 8) }
+    ensures input { stop ≡ Stop.Input → result.status ≡ 3 }
+    ensures listen { stop ≡ Stop.Listen → result.status ≡ 8 }
     ensures lacked { stop ≡ Stop.NoMemory → result.status ≡ 7 }
     ensures readers { ReadersHadMemory result.devices.items result.sessions.items }
     ensures each { ((result.status ≡ 3) × (stop ≡ Stop.Input)) ⊎ ((result.status ≡ 8) × (stop ≡ Stop.Listen)) ⊎ (result.status ≡ 7) }
@@ -118,14 +120,22 @@ fn publish_all<J: HubNaming, R: Wait + Copy>(rt: &R, floor: Floor<J, R>) -> Floo
     unreachable!()
 }
 
-/// Takes what is left in the lanes, and publishes what waits then.
-fn shut<J: HubNaming, R: Wait + Copy>(rt: &R, floor: Floor<J, R>) -> Floor<J, R>
-    ensures closed { All IsClosed result.hub.book.sessions }
-    ensures stopped { All HasStopped result.hub.ends }
-    ensures rest { AreAtRest (length J.terms.segments) result.hub.book.units }
+/// Takes what is left in the lanes, publishes what waits then, and hands back the hub.
+fn shut<J: HubNaming, R: Wait + Copy>(rt: &R, floor: Floor<J, R>) -> Hub<J, R>
+    ensures closed { All IsClosed result.book.sessions }
+    ensures stopped { All HasStopped result.ends }
+    ensures rest { AreAtRest (length J.terms.segments) result.book.units }
 {
     let floor = close(rt, floor);
-    publish_all(rt, floor)
+    let Floor {
+        hub,
+        devices: _,
+        units: _,
+        next: _,
+        sessions: _,
+        has_refused: _,
+    } = publish_all(rt, floor);
+    hub
 }
 
 /// Room for what is put together at the end.
@@ -195,6 +205,7 @@ fn gather<W: World, J: HubNaming, D: Dials, R: Wait + Copy>(
     ensures at_end { IfSome result.book (AtEnd (start_with (settings_of J.terms numbers.queue numbers.tries) D.may (W.Gate.links first.value))
         (world_facts W.In.Source W.Out.Sink W.Gate.Door) (handed_back result)) }
 {
+    let by_threads = ended.threads_lack();
     let Ended {
         runs,
         watched,
@@ -206,7 +217,7 @@ fn gather<W: World, J: HubNaming, D: Dials, R: Wait + Copy>(
         runs: session_runs,
         room,
         full,
-        no_memory,
+        no_memory: _,
         failed,
     } = door;
     let Parted {
@@ -217,14 +228,7 @@ fn gather<W: World, J: HubNaming, D: Dials, R: Wait + Copy>(
     } = hub.part(seat);
     book.show();
     let DoneRooms { devices, monitors } = rooms;
-    let no_memory = lacked(
-        no_memory,
-        &book,
-        runs.as_slice(),
-        session_runs.as_slice(),
-        watched.as_slice(),
-        ends.as_slice(),
-    );
+    let no_memory = lacked(by_threads, &book, ends.as_slice());
     let ended = all_ended(ends.as_slice());
     let DevicesDone {
         devices,
@@ -261,6 +265,7 @@ fn floor_of<J: HubNaming, R: Wait + Copy>(alloc: Global, hub: Hub<J, R>, devices
         hub,
         devices,
         units: 2 * devices,
+        next: 0,
         sessions: Vec::new(alloc),
         has_refused: false,
     }
@@ -288,7 +293,6 @@ fn begin_of<S: Source, K: Sink, G: Door<In = S, Out = K>, J: HubNaming, R: Wait 
     }
 }
 
-#[tactic(auto, using(crate::proofs::Causes::gate_cause))]
 fn run<
     J: HubNaming + Send + Sync,
     D: Dials + Send + Sync,
@@ -373,13 +377,7 @@ fn run<
     ) else {
         return nothing(alloc, world, Stop::NoMemory);
     };
-    let Floor {
-        hub,
-        devices: _,
-        units: _,
-        sessions: _,
-        has_refused: _,
-    } = shut(&rt, floor.into_inner());
+    let hub = shut(&rt, floor.into_inner());
     gather::<W, J, D, R>(&rt, hub, ended, rooms, world, numbers, first)
 }
 

@@ -9,7 +9,7 @@ ghost use Rattle.serve_end_settling.specs.Lanes.{tx_of};
 ghost use Rattle.serve_end_settling.specs.Runs.{RunCause, EachRun, source_facts};
 ghost use Rattle.gps_serve.specs.Facts.{sink_facts};
 ghost use Rattle.gps_serve.specs.Served.{DeviceServed, MonitorServed, OutletServed, watched_units};
-ghost use Rattle.gps_serve.specs.Readies.{AllServed, AreReady, InputLeft, IsLeftOfLink, MonitorReady, SessionReady};
+ghost use Rattle.gps_serve.specs.Readies.{AllServed, AreReady, InputLeft, IsLeftOfLink, IsLeftOfWatch, MonitorReady, SessionReady};
 ghost use Rattle.gps_serve.specs.Runs.{DeviceReady, IsLeftOf};
 ghost use Rattle.gps_serve.specs.Statuses.{TellsNoFault};
 
@@ -170,6 +170,7 @@ fn compared<R: Wait + Copy>(
     requires ready { (free : UnitView) → MonitorReady tries no_memory (get_or book.old.units unit free) watch }
     ensures book { book.new ≡ book.old }
     ensures unit { result.unit ≡ unit }
+    ensures left { IsLeftOfWatch watch result }
     ensures served { (free : UnitView) → MonitorServed tries no_memory (get_or book.old.units unit free) result }
 {
     monitor_done(book, unit, watch)
@@ -191,6 +192,7 @@ pub(crate) fn monitors_done<R: Wait + Copy>(
     ensures book { book.new ≡ book.old }
     ensures numbers { map (λ monitor. monitor.unit) result.items ≡ range_with_len 0 (length result.items) }
     ensures served { AllZip (MonitorServed tries no_memory) (watched_units tries book.old.units) result.items }
+    ensures left { AllZip IsLeftOfWatch watched.items result.items }
 {
     let mut done = room;
     let count = watched.len() as u8;

@@ -1,8 +1,9 @@
 ghost use Rattle.std.specs.Prelude.{◌≡◌, ◌⊎◌, ◌||◌, true, false};
 ghost use Rattle.std.specs.List.{All, list_all, list_any};
 ghost use Rattle.hub_promise.specs.Given.{is_end};
-ghost use Rattle.gps_serve.specs.Lost.{IsNotCut, IsNotLost, is_cut, is_lost, is_short, lines_lack, link_lacks, run_lacks};
-ghost use Rattle.gps_serve.specs.Statuses.{EachWhole, lacks_memory};
+ghost use Rattle.serve_end_settling.specs.Failing.{AnyOf};
+ghost use Rattle.gps_serve.specs.Lost.{IsNotCut, IsNotLost, WasCut, is_cut, is_lost, is_short, lines_lack, link_lacks, run_lacks};
+ghost use Rattle.gps_serve.specs.Statuses.{lacks_memory};
 
 use gps_hub::{DeviceEnd, Ending};
 use gps_lane::Tx;
@@ -93,7 +94,7 @@ fn run_lacks<S: Source, R: Wait + Copy>(run: &DeviceRun<S, R>) -> bool
 }
 
 /// Whether a reader of any device did so.
-fn device_lacks<S: Source, R: Wait + Copy>(runs: &[DeviceRun<S, R>]) -> bool
+pub(crate) fn device_lacks<S: Source, R: Wait + Copy>(runs: &[DeviceRun<S, R>]) -> bool
     ensures { result ≡ list_any run_lacks runs.now }
 {
     runs.iter().any(|run| run_lacks(run))
@@ -114,15 +115,14 @@ fn is_lost(end: Option<DeviceEnd>) -> bool
 }
 
 /// Whether any device was lost because it was out of memory.
-#[tactic(auto, using(crate::proofs::Lost::none_lost))]
 fn ends_lack(ends: &[Option<DeviceEnd>]) -> bool
-    ensures kept { result ≡ false → All IsNotLost ends.now }
+    ensures { result ≡ list_any is_lost ends.now }
 {
     ends.iter().any(|end| is_lost(*end))
 }
 
 /// Whether the reader of any session ended because it was out of memory.
-fn session_lacks<S: Source, K: Sink, R: Wait + Copy>(runs: &[LinkDone<S, K, R>]) -> bool
+pub(crate) fn session_lacks<S: Source, K: Sink, R: Wait + Copy>(runs: &[LinkDone<S, K, R>]) -> bool
     ensures { result ≡ list_any link_lacks runs.now }
 {
     runs.iter().any(|run| is_short(run.reader.ending))
@@ -141,6 +141,7 @@ fn is_cut(closing: Option<(u64, Close)>) -> bool
 /// Whether the book closed a session because it was out of memory.
 fn book_lacks<R: Wait + Copy>(book: &Book<Tx<Item, R>>) -> bool
     ensures kept { result ≡ false → All (λ session. IsNotCut session.session.closing) book.now.sessions }
+    ensures cut { result ≡ true → AnyOf WasCut book.now.sessions }
 {
     let mut lacks = false;
     'sessions: for session in 0..book.opened() {
@@ -150,31 +151,23 @@ fn book_lacks<R: Wait + Copy>(book: &Book<Tx<Item, R>>) -> bool
 }
 
 /// Whether each monitor made all its readings, as it does unless it is out of memory.
-fn are_whole(watched: &[ReadingsDone]) -> bool
+pub(crate) fn are_whole(watched: &[ReadingsDone]) -> bool
     ensures { result ≡ list_all (λ watch. watch.whole) watched.now }
 {
     watched.iter().all(|watch| watch.whole)
 }
 
-/// Whether it was out of memory: at an admission, in a thread, or in the book for a session or a device.
-pub(crate) fn lacked<S: Source, K: Sink, R: Wait + Copy>(
-    before: bool,
+/// Whether the daemon was out of memory: a thread, or the book for a device or a session.
+pub(crate) fn lacked<R: Wait + Copy>(
+    by_threads: bool,
     book: &Book<Tx<Item, R>>,
-    runs: &[DeviceRun<S, R>],
-    session_runs: &[LinkDone<S, K, R>],
-    watched: &[ReadingsDone],
     ends: &[Option<DeviceEnd>],
 ) -> bool
-    ensures whole { result ≡ false → EachWhole watched.now }
-    ensures before { result ≡ false → before ≡ false }
+    ensures threads { result ≡ false → by_threads ≡ false }
     ensures devices { result ≡ false → All IsNotLost ends.now }
     ensures sessions { result ≡ false → All (λ session. IsNotCut session.session.closing) book.now.sessions }
-    ensures runs { result ≡ false → list_any run_lacks runs.now ≡ false }
-    ensures links { result ≡ false → list_any link_lacks session_runs.now ≡ false }
+    ensures cause { result ≡ true → (by_threads ≡ true) ⊎ (list_any is_lost ends.now ≡ true) ⊎ AnyOf WasCut book.now.sessions }
 {
     let by_book = either(ends_lack(ends), book_lacks(book));
-    let by_threads = either(device_lacks(runs), session_lacks(session_runs));
-    let met = either(by_book, by_threads);
-    let since = either(met, !are_whole(watched));
-    either(before, since)
+    either(by_threads, by_book)
 }

@@ -16,8 +16,8 @@ impl<W: World> Waker for W {
     }
 }
 
-/// Wakes the readers of devices that were lost while they were read. Where there is none no pipe is touched: its next writer may wait there for
-/// the next daemon.
+/// Wakes the readers of devices that were lost while they were read. If no device was, no pipe is touched: its next writer may wait there for the
+/// next daemon.
 pub(crate) fn wake_readers<V: Waker, J: HubNaming, R: Wait + Copy>(
     rt: &R,
     floor: &Mutex<Floor<J, R>>,

@@ -13,7 +13,8 @@ asks-init g c =
     record {
       seated = same_links _ _ _ _ c.args.begin.seat c.args.begin.seat (seated_none _ _ c.args.begin.seat c.args.begin.new) (ap links_at c.none.ensures) refl;
       tends = subst (λ ways. Tends told now ways done true) (sym (ap (λ seated. map way_of (links_at seated)) c.none.ensures))
-          (tends_none told now done refl refl c.args.begin.not_done);
+          (tends_none told now done refl refl refl c.args.begin.not_done);
+      unclosed = λ _. c.args.begin.not_done;
       fails = fails_none _;
     }
 
@@ -21,6 +22,7 @@ pub asks-preserved : goal.asks-preserved
 asks-preserved g c = record {
   seated = c.step-to_ask.ensures.seated;
   tends = tends_any _ _ _ _ _ (c.step-to_ask.ensures.tends _ c.asks.invariant.tends);
+  unclosed = c.step-to_ask.ensures.open;
   fails = c.step-to_ask.ensures.fails _ c.asks.invariant.fails;
 }
 

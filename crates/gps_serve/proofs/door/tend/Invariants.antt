@@ -1,4 +1,4 @@
-use Rattle.std.proofs.Common.{map}
+use Rattle.std.proofs.Common.{◌≡◌, map, false, true}
 use Rattle.gps_serve.specs.Doors.{AreSeated, FailsBy, IsNewLink, Tends, door_now, links_at, way_of}
 use Rattle.gps_serve.proofs.door.tend.Given as goal
 
@@ -9,5 +9,6 @@ invariant-asks g l = record {
   tends : Tends (g.G.Door.links l.fn.begin.gate)
       (door_now (g.G.Door.links l.doorman.gate) (g.G.Door.faults l.doorman.gate) (g.G.Door.quiets l.doorman.gate) l.doorman.full l.doorman.no_memory)
       (map way_of (links_at l.doorman.sessions.seated.items)) l.doorman.seat.done l.to_ask;
+  unclosed : l.to_ask ≡ true → l.doorman.seat.done ≡ false;
   fails : FailsBy l.doorman.failed (g.G.Door.faults l.fn.begin.gate) (g.G.Door.faults l.doorman.gate);
 }

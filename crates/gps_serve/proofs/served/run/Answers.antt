@@ -7,7 +7,7 @@ use Rattle.gps_serve.specs.AtEnd.{AtEnd, handed_back, settings_of, start_with}
 use Rattle.gps_serve.specs.Facts.{world_facts}
 use Rattle.gps_serve.specs.Runs.{RanOn}
 use Rattle.gps_serve.specs.Units.{CountFromZero}
-use Rattle.gps_serve.proofs.Causes.{gate_sound}
+use Rattle.gps_serve.proofs.Causes.{gate_cause, gate_sound}
 use Rattle.gps_serve.proofs.Taking.{devices_read}
 use Rattle.gps_serve.proofs.Dials.{may_give}
 use Rattle.gps_serve.proofs.Ends.{devices_ran_on, segments_count, watchers_ran_on}
@@ -42,6 +42,10 @@ gather-requires-clause-monitors g c κs within =
 
 pub gather-requires-clause-from : goal.gather-requires-clause-from
 gather-requires-clause-from g c κs within = subst CountFromZero (ap (λ (t : Terms). t.segments) (sym c.requires.terms)) c.requires.from
+
+pub gather-requires-clause-cause : goal.gather-requires-clause-cause
+gather-requires-clause-cause g c κs within e =
+    gate_cause c.in-Some.ended.door.failed (g.W.Gate.Door.faults c.in-Ok-set_up.setup.door.gate) (g.W.Gate.Door.faults c.in-Some.ended.door.gate) c.in-Some.ensures.fails e
 
 pub gather-requires-clause-sound : goal.gather-requires-clause-sound
 gather-requires-clause-sound g c κs within =

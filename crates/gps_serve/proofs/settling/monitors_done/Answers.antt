@@ -3,7 +3,9 @@ use Rattle.std.specs.List.{AllZip}
 use Rattle.report_book.specs.BookView.{BookView}
 use Rattle.serve_end_parts.specs.declared.done.MonitorDone.{MonitorDone}
 use Rattle.gps_serve.specs.Served.{MonitorServed, watched_units}
-use Rattle.gps_serve.proofs.Monitors.{few_monitors, monitors_all, monitors_begin, monitors_count, next_monitor, next_served, numbers_all, numbers_more, same_book, some_left}
+use Rattle.gps_serve.specs.Readies.{IsLeftOfWatch}
+use Rattle.gps_serve.proofs.Zips.{ran_begin, ran_end, ran_next}
+use Rattle.gps_serve.proofs.Monitors.{few_monitors, monitors_all, monitors_begin, monitors_count, next_monitor, next_served, none_left, numbers_all, numbers_more, same_book, some_left}
 use Rattle.gps_serve.proofs.settling.monitors_done.Goals as goal
 
 pub overflow_cast-count : goal.overflow_cast-count
@@ -20,6 +22,7 @@ units-init g c =
     let empty = c.requires.empty in
     record {
       so_far = monitors_begin _ _ _ _ _ _ c.requires.ready watched c.requires.none;
+      left_of = ran_begin IsLeftOfWatch _ _ _ watched c.requires.none;
       numbers = ap (map (λ (m : MonitorDone). m.unit)) c.requires.none;
       book = refl;
       all = c.len-count.ensures ∙ c.args.watched.ok.0 ∙ monitors_count c.args.tries c.args.no_memory c.args.book.now.units c.args.watched.items c.requires.ready;
@@ -45,6 +48,7 @@ pub units-preserved : goal.units-preserved
 units-preserved g c = record {
   so_far = same_book _ _ c.units.book c.compared.new.book _ _ _ c.compared.ensures.book
       (next_served _ _ _ _ _ _ _ _ _ _ c.units.invariant.so_far c.next_of-watch.ensures c.compared.ensures.served c.push_reserved.ensures.items);
+  left_of = ran_next IsLeftOfWatch _ _ _ _ _ _ _ c.units.invariant.left_of c.next_of-watch.ensures c.compared.ensures.left c.push_reserved.ensures.items;
   numbers = numbers_more _ _ _ _ c.units.invariant.numbers c.compared.ensures.unit c.push_reserved.ensures.items;
   book = c.compared.ensures.book ∙ c.units.invariant.book;
   all = c.units.invariant.all ∙ ap (λ (b : BookView). length (watched_units c.args.tries b.units)) (sym c.compared.ensures.book);
@@ -60,6 +64,9 @@ returns-clause-served g c =
     let P : BookView → Type 0 = λ b. AllZip (MonitorServed c.args.tries c.args.no_memory) (watched_units c.args.tries b.units) c.units.done.items in
     let test = c.units-test.false in
     subst P c.units.invariant.book (monitors_all _ _ _ _ _ _ c.units.invariant.so_far (omega (arith, test, c.units.invariant.all)))
+
+pub returns-clause-left : goal.returns-clause-left
+returns-clause-left g c = ran_end _ _ _ _ c.units.invariant.left_of (none_left _ _ _ _ _ _ c.units.invariant.so_far (let test = c.units-test.false in omega (arith, test, c.units.invariant.all)))
 
 pub returns-clause-numbers : goal.returns-clause-numbers
 returns-clause-numbers g c = let test = c.units-test.false in numbers_all _ _ _ _ _ _ c.units.invariant.so_far c.units.invariant.numbers

@@ -4,12 +4,14 @@ use Rattle.std.specs.Vec.{vec_len, vec_capacity}
 use Rattle.std.specs.Vec.Iter.{into_iter_items}
 use Rattle.serve_end_parts.specs.declared.done.MonitorDone.{MonitorDone}
 use Rattle.gps_serve.specs.Served.{watched_units}
-use Rattle.gps_serve.specs.Readies.{MonitorsSoFar}
+use Rattle.gps_serve.specs.Doors.{RanSoFar}
+use Rattle.gps_serve.specs.Readies.{IsLeftOfWatch, MonitorsSoFar}
 use Rattle.gps_serve.proofs.settling.monitors_done.Given as goal
 
 abbrev pub invariant-units : goal.invariant-units
 invariant-units g l = record {
   so_far : MonitorsSoFar l.fn.tries l.fn.no_memory (watched_units l.fn.tries l.book.units) (into_iter_items l.watched) l.unit l.done.items;
+  left_of : RanSoFar IsLeftOfWatch l.fn.watched.items (into_iter_items l.watched) l.done.items;
   numbers : map (λ (m : MonitorDone). m.unit) l.done.items ≡ range_with_len 0 l.unit;
   book : l.book ≡ l.initial.book;
   all : l.count ≡ length (watched_units l.fn.tries l.book.units);

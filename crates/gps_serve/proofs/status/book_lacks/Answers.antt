@@ -1,7 +1,10 @@
-use Rattle.std.proofs.Common.{◌∙◌, ◌≡◌, false, ap, sym, arith}
+use Rattle.std.proofs.Common.{◌∙◌, ◌≡◌, inl, inr, true, false, ap, sym, arith, rules}
 use Rattle.gps_serve.specs.Lost.{is_cut}
-use Rattle.gps_serve.proofs.Lost.{neither, none_cut, none_more}
+use Rattle.gps_serve.proofs.Lost.{cut_at, either, neither, none_before, none_cut, none_more}
 use Rattle.gps_serve.proofs.status.book_lacks.Goals as goal
+
+pub sessions-init : goal.sessions-init
+sessions-init g c = record { all = search rules; kept = λ e. none_before _; cut = λ (e : false ≡ true). absurd cc }
 
 pub sessions-preserved : goal.sessions-preserved
 sessions-preserved g c = record {
@@ -9,6 +12,10 @@ sessions-preserved g c = record {
   kept = λ (e : c.either-lacks.result ≡ false).
       let none = neither _ _ (sym c.either-lacks.ensures ∙ e) in
       none_more _ _ (c.sessions.invariant.kept none.0) (ap is_cut (sym c.closing.ensures) ∙ sym c.is_cut.ensures ∙ none.1);
+  cut = λ (e : c.either-lacks.result ≡ true). elim (either _ _ (sym c.either-lacks.ensures ∙ e)) [
+    | inl before ↦ c.sessions.invariant.cut before
+    | inr now ↦ cut_at _ _ (ap is_cut (sym c.closing.ensures) ∙ sym c.is_cut.ensures ∙ now)
+  ];
 }
 
 pub returns : goal.returns
@@ -16,4 +23,5 @@ returns g c = record {
   kept = λ (e : c.sessions.lacks ≡ false).
       let test = c.sessions-test.false in
       none_cut _ _ (omega (arith, test, c.sessions.invariant.all)) (c.sessions.invariant.kept e);
+  cut = c.sessions.invariant.cut;
 }

@@ -19,14 +19,14 @@ options of serve:
   --listen HOST:PORT   where clients connect; port 0 takes a free one (127.0.0.1:2947)
   --queue N            lines that may wait for a client, 1 to 65536 (4096)
   --history N          bytes and edges of one generation of the history, 1 to 33554432 (16777216)
-  --wait N             read no device before this many clients watch, 0 to 64 (0)
+  --wait N             clients that must have watched before what devices send is handed on, 0 to 64 (0)
   --monitor N          readings of each monitor of a segment, 0 to 1000000 (0)
 
 words of serve, 1 to 16 of at most 8 devices:
   NAME=file:PATH       a receiver at a file, a FIFO or a terminal (set it raw first: stty -F PATH raw -echo)
   NAME=tcp:HOST:PORT   a receiver behind TCP
   NAME=gpsd:HOST:PORT  another daemon, gpsd or gpsrelay: the packets of its devices
-  NAME=edges:PATH      the pulse edges of the device NAME, behind its own word
+  NAME=edges:PATH      the pulse edges of the device NAME, after its own word
 
 options of the other commands:
   decode, pseudo: --history N   bytes that are read at most, 1 to 33554432 (16777216)

@@ -5,3 +5,4 @@ pub mod Texts
 pub mod Outcomes
 pub mod Decode
 pub mod Served
+pub mod Closing

@@ -1,6 +1,10 @@
-//! The program `gpsrelay`: a daemon that serves satellite receivers to any number of clients after gpsd, and commands that read what a
+//! The program `gpsrelay`: a daemon after gpsd that serves satellite receivers to up to 64 clients at a time, and commands that read what a
 //! receiver or a recorded script sends on standard input.
 #![tactic(auto)]
+
+ghost use Rattle.std.specs.Prelude.{◌≤◌};
+ghost use Rattle.serve_end_parts.specs.Lines.{text_of};
+ghost use Rattle.gpsrelay.specs.Closing.{WritesClosing};
 
 mod decode;
 mod outcome;
@@ -18,7 +22,7 @@ mod telling_source;
 mod texts;
 
 use gps_fixed::NoMemory;
-use gps_outside::{RealClock, RealSink, write_all};
+use gps_outside::{RealClock, RealSink, RealSource, Sink, write_all};
 use gps_serve::{DeviceEnd, Served};
 use gps_words::{WordsFault, asked};
 use gps_world::World;
@@ -63,8 +67,9 @@ fn words_of_call(rt: &HostRuntime) -> Result<Vec<String>, WordsFault> {
 /// Does what the words ask for, over the real streams and the machine's clock, and says how it ended.
 fn run_outside(rt: HostRuntime, words: &[String]) -> Result<u8, NoMemory> {
     let is_shown = rt.stderr().is_terminal() && !rt.stdout().is_terminal();
-    let mut source = CountedInput::new(rt, rt.alloc(), rt.stdin(), is_shown)?;
-    let mut sink = CountedOutput::new(rt.stdout());
+    let input = RealSource::of_input(rt, rt.alloc(), rt.stdin())?;
+    let mut source = CountedInput::new(rt, input, is_shown);
+    let mut sink = CountedOutput::new(RealSink::of_output(rt.stdout()));
     let mut clock = RealClock::new(rt);
     let status = run::run(rt.alloc(), words, &mut source, &mut sink, &mut clock);
     source.end_progress();
@@ -76,12 +81,16 @@ fn run_outside(rt: HostRuntime, words: &[String]) -> Result<u8, NoMemory> {
     Ok(status)
 }
 
-/// Writes the closing lines of a run of the daemon, and gives its status.
-fn close<W: World, R: Wait + Copy>(
+/// Writes the closing lines of a run of the daemon, and gives its status: that of the run, if they are written.
+fn close<W: World, K: Sink, R: Wait + Copy>(
     alloc: Global,
     served: &Served<W, R>,
-    sink: &mut RealSink,
-) -> u8 {
+    sink: &mut K,
+) -> u8
+    ensures closes { WritesClosing served.now.status (text_of served.now.book served.now.sessions.items served.now.monitors.items) result
+        (K.written sink.old) (K.written sink.new) (K.faults sink.old) (K.faults sink.new) }
+    ensures faults_stay { K.faults sink.old ≤ K.faults sink.new }
+{
     match served.lines(alloc) {
         Ok(lines) => {
             if write_all(sink, lines.as_slice()) {

@@ -3,6 +3,7 @@
 
 use crate::streams::{CountedInput, CountedOutput};
 use gps_help::{Cause, HELP, RELEASE, Refusal, USAGE, refused};
+use gps_outside::{Sink, Source};
 use gps_words::CommandLine;
 use std::alloc::Global;
 use std::io::Eprint;
@@ -46,7 +47,7 @@ pub fn say<R: Eprint>(rt: &R, what: &str) {
     let _ = eprintln!(rt; "gpsrelay: {what}");
 }
 
-fn tell_read_fault<R: Eprint>(rt: &R, input: &CountedInput<R>) {
+fn tell_read_fault<S: Source, R: Eprint>(rt: &R, input: &CountedInput<S, R>) {
     if input.failed() {
         say(
             rt,
@@ -93,11 +94,11 @@ fn tell_bad_line<R: Eprint>(rt: &R, command: &CommandLine, number: u64) {
 }
 
 /// Says that bytes came in which nothing was found.
-fn tell_nothing_found<R: Eprint>(
+fn tell_nothing_found<S: Source, K: Sink, R: Eprint>(
     rt: &R,
     command: &CommandLine,
-    input: &CountedInput<R>,
-    output: &CountedOutput,
+    input: &CountedInput<S, R>,
+    output: &CountedOutput<K>,
 ) {
     let bytes = input.bytes();
     if bytes == 0 || output.bytes() > 0 {
@@ -111,12 +112,12 @@ fn tell_nothing_found<R: Eprint>(
 }
 
 /// Says how a command ended, if there is something to say.
-pub fn tell_end<R: Eprint>(
+pub fn tell_end<S: Source, K: Sink, R: Eprint>(
     rt: &R,
     command: &CommandLine,
     status: u8,
-    input: &CountedInput<R>,
-    output: &CountedOutput,
+    input: &CountedInput<S, R>,
+    output: &CountedOutput<K>,
 ) {
     match status {
         0 => tell_nothing_found(rt, command, input, output),

@@ -1,50 +1,41 @@
-//! Standard input and output as the commands use them, round the real ones: they count, so that it can be said on standard error why a command
-//! ended.
+//! Standard input and output as the commands use them. They wrap a source or a sink, report its contents and counts, and hand on its answers. They
+//! count, so that it can be said on standard error why a command ended.
 
 ghost use Rattle.std.specs.Prelude.{◌≡◌, ◌≤◌, length};
 
 use crate::progress::Progress;
-use gps_fixed::NoMemory;
-use gps_outside::{ReadStep, RealSink, RealSource, Sink, Source, WriteStep};
-use std::alloc::Global;
-use std::fs::File;
-use std::io::{Eprint, Stdin, Stdout};
-use std::net::{Net, TcpStream};
-use std::rt::Files;
+use gps_outside::{ReadStep, Sink, Source, WriteStep};
+use std::io::Eprint;
 use std::time;
 
 /// Standard input, which counts its bytes, knows whether a read failed, and may show how far it has come.
 #[derive(Drop)]
-pub struct CountedInput<R> {
-    source: RealSource<R>,
+pub struct CountedInput<S: Source, R> {
+    source: S,
     bytes: u64,
     failed: bool,
     progress: Option<Progress<R>>,
 }
 
-impl<R: Drop + Copy> CountedInput<R> {
-    pub fn new(
-        machine: R,
-        alloc: Global,
-        input: Stdin,
-        is_shown: bool,
-    ) -> Result<CountedInput<R>, NoMemory> {
-        let source = RealSource::of_input(machine, alloc, input)?;
+impl<S: Source, R: Copy> CountedInput<S, R> {
+    pub fn new(machine: R, source: S, is_shown: bool) -> CountedInput<S, R>
+        ensures { result.source ≡ source }
+    {
         let progress = if is_shown {
             Some(Progress::new(machine))
         } else {
             None
         };
-        Ok(CountedInput {
+        CountedInput {
             source,
             bytes: 0,
             failed: false,
             progress,
-        })
+        }
     }
 }
 
-impl<R: Eprint + time::Clock + Copy> CountedInput<R> {
+impl<S: Source, R: Eprint + time::Clock + Copy> CountedInput<S, R> {
     /// Nothing more is read.
     pub fn end_progress(&self) {
         if let Some(progress) = &self.progress {
@@ -53,7 +44,7 @@ impl<R: Eprint + time::Clock + Copy> CountedInput<R> {
     }
 }
 
-impl<R> CountedInput<R> {
+impl<S: Source, R> CountedInput<S, R> {
     /// How many bytes came.
     pub fn bytes(&self) -> u64 {
         self.bytes
@@ -65,17 +56,14 @@ impl<R> CountedInput<R> {
     }
 }
 
-impl<R: Eprint + Files<File = File> + Net<Stream = TcpStream> + time::Clock + Copy + Drop> Source
-    for CountedInput<R> {
-    ghost use Rattle.std.specs.Prelude.{None};
+impl<S: Source, R: Eprint + time::Clock + Copy + Drop> Source for CountedInput<S, R> {
+    ghost faults = { λ s. S.faults s.source };
 
-    ghost faults = { λ s. s.source.faults };
+    ghost quiets = { λ s. S.quiets s.source };
 
-    ghost quiets = { λ s. s.source.quiets };
+    ghost content = { λ s. S.content s.source };
 
-    ghost content = { λ _. None };
-
-    ghost keeps_at_fault = { λ _. Unit {0} };
+    ghost keeps_at_fault = { λ s. S.keeps_at_fault s.source };
 
     fn read(&mut self, buf: &mut [u8]) -> ReadStep {
         let step = self.source.read(buf);
@@ -123,16 +111,18 @@ fn last_number(text: &[u8]) -> u64 {
 
 /// Standard output, which counts its bytes and keeps the number that it was last given.
 #[derive(Drop)]
-pub struct CountedOutput {
-    sink: RealSink,
+pub struct CountedOutput<K: Sink> {
+    sink: K,
     bytes: u64,
     number: u64,
 }
 
-impl CountedOutput {
-    pub fn new(output: Stdout) -> CountedOutput {
+impl<K: Sink> CountedOutput<K> {
+    pub fn new(sink: K) -> CountedOutput<K>
+        ensures { result.sink ≡ sink }
+    {
         CountedOutput {
-            sink: RealSink::of_output(output),
+            sink,
             bytes: 0,
             number: 0,
         }
@@ -149,12 +139,10 @@ impl CountedOutput {
     }
 }
 
-impl Sink for CountedOutput {
-    ghost use Rattle.std.specs.Prelude.{None};
+impl<K: Sink> Sink for CountedOutput<K> {
+    ghost faults = { λ s. K.faults s.sink };
 
-    ghost faults = { λ s. s.sink };
-
-    ghost written = { λ _. None };
+    ghost written = { λ s. K.written s.sink };
 
     fn write(&mut self, piece: &[u8]) -> WriteStep {
         let step = self.sink.write(piece);
@@ -163,6 +151,10 @@ impl Sink for CountedOutput {
             self.number = last_number(&piece[n.saturating_sub(TAIL)..n]);
         }
         step
+    }
+
+    fn end_soon(&mut self) {
+        self.sink.end_soon();
     }
 
     fn finish(&mut self) {

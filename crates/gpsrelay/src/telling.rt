@@ -10,7 +10,7 @@ use crate::telling_door::TellingDoor;
 use crate::telling_source::TellingSource;
 use gps_fixed::Bytes;
 use gps_outside::{LinkSink, RealClock};
-use gps_world::{HeldPipes, Opened, Place, RealWorld, World};
+use gps_world::{HeldPipes, Opened, Place, RealInput, RealWorld, World};
 use std::alloc::Global;
 use std::fs::File;
 use std::io::Eprint;
@@ -61,7 +61,7 @@ where
 {
     ghost use Rattle.std.specs.Prelude.{None};
 
-    type In = TellingSource<R>;
+    type In = TellingSource<RealInput<R>, R>;
 
     type Out = LinkSink<R>;
 
@@ -81,7 +81,7 @@ where
 
     ghost stamps = { λ _. None };
 
-    fn input(&mut self, place: Place) -> Opened<TellingSource<R>> {
+    fn input(&mut self, place: Place) -> Opened<TellingSource<RealInput<R>, R>> {
         let told = copy_of(&place);
         match self.world.input(place) {
             Opened::Ready(source) => {

@@ -140,7 +140,7 @@ impl<R: Eprint + time::Clock + Copy> TellingDoor<R> {
 }
 
 impl<R: Eprint + Files<File = File> + Net<Stream = TcpStream> + time::Clock + Copy> TellingDoor<R> {
-    fn link(&mut self, source: RealInput<R>) -> TellingSource<R>
+    fn link(&mut self, source: RealInput<R>) -> TellingSource<RealInput<R>, R>
         ensures door { self.new.door ≡ self.old.door }
         ensures source { result.source ≡ source }
     {
@@ -155,7 +155,7 @@ where
 {
     ghost use Rattle.std.specs.Prelude.{None};
 
-    type In = TellingSource<R>;
+    type In = TellingSource<RealInput<R>, R>;
 
     type Out = LinkSink<R>;
 
@@ -165,7 +165,7 @@ where
 
     ghost links = { λ _. None };
 
-    fn accept(&mut self) -> DoorStep<TellingSource<R>, LinkSink<R>> {
+    fn accept(&mut self) -> DoorStep<TellingSource<RealInput<R>, R>, LinkSink<R>> {
         self.look_back();
         match self.door.accept() {
             DoorStep::Link(source, sink) => DoorStep::Link(self.link(source), sink),

@@ -3,9 +3,9 @@ ghost use Rattle.std.specs.Prelude.{◌≡◌};
 use crate::place_text::PlaceText;
 use crate::system::{DaemonReason, Reason};
 use gps_outside::{Awaited, ReadStep, Source};
-use gps_world::{Place, RealInput};
+use gps_world::{DaemonFault, Place, RealInput};
 use std::fs::File;
-use std::io::Eprint;
+use std::io::{self, Eprint};
 use std::net::{Net, TcpStream};
 use std::rt::Files;
 use std::sync::Arc;
@@ -14,6 +14,35 @@ use std::time::{self, Duration};
 
 /// How many seconds a device is silent before that is said.
 const SILENCE: u64 = 60;
+
+/// A source that knows what it waits for and why it failed.
+pub trait KnowsWhy: Source {
+    /// What its next read waits for, if anything.
+    fn awaited(&self) -> Option<Awaited>;
+
+    /// Why its last read failed, as the system says it.
+    fn fault(&self) -> Option<io::Error>;
+
+    /// Why its last read failed, if it is another daemon.
+    fn daemon_fault(&self) -> Option<DaemonFault>;
+}
+
+impl<R> KnowsWhy for RealInput<R>
+where
+    R: Files<File = File> + Net<Stream = TcpStream> + time::Clock + Copy,
+{
+    fn awaited(&self) -> Option<Awaited> {
+        RealInput::awaited(self)
+    }
+
+    fn fault(&self) -> Option<io::Error> {
+        RealInput::fault(self)
+    }
+
+    fn daemon_fault(&self) -> Option<DaemonFault> {
+        RealInput::daemon_fault(self)
+    }
+}
 
 /// Says, when it is dropped, that a link was dropped before anything of it was read.
 pub struct Ticket {
@@ -51,18 +80,18 @@ struct Subject {
 }
 
 /// A source that says, of a device, when it ends or fails, once, and when it is silent for a minute and speaks again. That of a link says
-/// nothing.
+/// nothing. It reports the contents and counts of the source within, and hands on its answers.
 #[derive(Drop)]
-pub struct TellingSource<R: Files<File = File> + Net<Stream = TcpStream> + time::Clock + Copy> {
+pub struct TellingSource<S: KnowsWhy, R> {
     rt: R,
-    source: RealInput<R>,
+    source: S,
     subject: Option<Subject>,
     ticket: Option<Ticket>,
 }
 
-impl<R: Files<File = File> + Net<Stream = TcpStream> + time::Clock + Copy> TellingSource<R> {
+impl<S: KnowsWhy, R> TellingSource<S, R> {
     /// The source of a device.
-    pub fn of_device(rt: R, source: RealInput<R>, place: Option<Place>) -> TellingSource<R>
+    pub fn of_device(rt: R, source: S, place: Option<Place>) -> TellingSource<S, R>
         ensures { result.source ≡ source }
     {
         let subject = match place {
@@ -83,7 +112,7 @@ impl<R: Files<File = File> + Net<Stream = TcpStream> + time::Clock + Copy> Telli
     }
 
     /// The source of a link.
-    pub fn of_link(rt: R, source: RealInput<R>, ticket: Option<Ticket>) -> TellingSource<R>
+    pub fn of_link(rt: R, source: S, ticket: Option<Ticket>) -> TellingSource<S, R>
         ensures { result.source ≡ source }
     {
         TellingSource {
@@ -95,9 +124,7 @@ impl<R: Files<File = File> + Net<Stream = TcpStream> + time::Clock + Copy> Telli
     }
 }
 
-impl<R: Eprint + Files<File = File> + Net<Stream = TcpStream> + time::Clock + Copy> TellingSource<
-    R,
-> {
+impl<S: KnowsWhy, R: Eprint + time::Clock> TellingSource<S, R> {
     /// Bytes came.
     fn heard(&mut self)
         ensures { self.new.source ≡ self.old.source }
@@ -189,19 +216,14 @@ impl<R: Eprint + Files<File = File> + Net<Stream = TcpStream> + time::Clock + Co
     }
 }
 
-impl<R> Source for TellingSource<R>
-where
-    R: Eprint + Files<File = File> + Net<Stream = TcpStream> + time::Clock + Copy,
-{
-    ghost use Rattle.std.specs.Prelude.{None};
+impl<S: KnowsWhy, R: Eprint + time::Clock + Drop> Source for TellingSource<S, R> {
+    ghost faults = { λ s. S.faults s.source };
 
-    ghost faults = { λ s. s.source.faults };
+    ghost quiets = { λ s. S.quiets s.source };
 
-    ghost quiets = { λ s. s.source.quiets };
+    ghost content = { λ s. S.content s.source };
 
-    ghost content = { λ _. None };
-
-    ghost keeps_at_fault = { λ _. Unit {0} };
+    ghost keeps_at_fault = { λ s. S.keeps_at_fault s.source };
 
     fn read(&mut self, buf: &mut [u8]) -> ReadStep {
         if let Some(ticket) = self.ticket.take() {

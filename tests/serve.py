@@ -114,7 +114,7 @@ def bad_clients():
 
 
 def crowd():
-    """The 65th client, and many that come and go. Of each that has gone its lanes stay until the daemon ends, so their size is kept small."""
+    """The 65th client, and many that come and go. Of each that has gone little stays until the daemon ends."""
     daemon, device = started("--queue", "64")
     clients = [daemon.client() for _ in range(64)]
     for client in clients:

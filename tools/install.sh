@@ -3,7 +3,7 @@
 #
 # Use: tools/install.sh [--prefix DIR] [--remove]       DIR is /usr/local unless told otherwise
 #
-# If nothing is built yet, it builds first, which proves everything: half an hour on four processors, over an hour on two.
+# If nothing is built yet, it builds first, which proves the program: some 40 minutes on four processors, some 75 on two.
 # A package sets DESTDIR: files go to $DESTDIR$DIR, and name $DIR. PROGRAM names another build than that of this checkout.
 set -eu
 
@@ -69,7 +69,7 @@ FILES
 
 build() {
     command -v rt >/dev/null || { echo "install.sh: nothing is built, and the toolchain's command rt is not on the PATH" >&2; exit 1; }
-    echo "Nothing is built yet. Proving and building: half an hour on four processors, over an hour on two ..."
+    echo "Nothing is built yet. Proving and building: some 40 minutes on four processors, some 75 on two ..."
     (cd "$top/crates/gpsrelay" && rt run -- decode </dev/null)
 }
 

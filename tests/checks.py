@@ -1,7 +1,10 @@
 """Checks that are counted: a script prints one line for each and ends with 1 if one failed. And a port that is free."""
+import random
 import socket
+import threading
 
 failures = []
+starting = threading.Lock()  # a child holds what is open until it runs its program: no port is tried in that time
 
 
 def check(name, wanted, found):
@@ -18,9 +21,14 @@ def within(name, good, found):
 
 
 def free_port():
-    with socket.socket() as it:
-        it.bind(("127.0.0.1", 0))
-        return it.getsockname()[1]
+    """A port that nobody has. Linux gives connections ports from 32768 on, so none of these takes it before it is listened at."""
+    while True:
+        with starting, socket.socket() as it:
+            try:
+                it.bind(("127.0.0.1", random.randint(10_000, 32_000)))
+            except OSError:
+                continue
+            return it.getsockname()[1]
 
 
 def exit_status():

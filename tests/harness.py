@@ -25,7 +25,7 @@ import tempfile
 import threading
 import time
 
-from checks import check, exit_status, free_port, run_parts, within
+from checks import check, exit_status, free_port, run_parts, starting, within
 from packets import BEGIN, PLACE, clock_of, frame, gga, nav_eoe, nav_pvt, rmc, second, sentence
 
 __all__ = ["check", "exit_status", "run_parts", "within", "BEGIN", "PLACE", "clock_of", "frame", "gga", "nav_eoe", "nav_pvt", "rmc", "second",
@@ -265,8 +265,9 @@ class Daemon:
         self.port = port or free_port()
         self.address = listen or f"127.0.0.1:{self.port}"
         self.errors = tempfile.TemporaryFile()
-        self.process = subprocess.Popen(self.call(program, words), stdin=subprocess.DEVNULL, stdout=subprocess.PIPE, stderr=self.errors,
-                                        preexec_fn=limited(kilobytes, files), env={**os.environ, **(environment or {})}, cwd=folder)
+        with starting:
+            self.process = subprocess.Popen(self.call(program, words), stdin=subprocess.DEVNULL, stdout=subprocess.PIPE, stderr=self.errors,
+                                            preexec_fn=limited(kilobytes, files), env={**os.environ, **(environment or {})}, cwd=folder)
         self.place, self.has_listened = f"/proc/{self.process.pid}", False
         atexit.register(self.stop)  # whatever breaks the script, no daemon is left
 

@@ -1,5 +1,5 @@
 -- What each call owes, over plain fields.
-use Rattle.std.proofs.Common.{◌≡◌, ◌≤◌, ◌<◌, ◌+◌, ◌*◌, ◌&&◌, ℕ, zero, suc, Bool, true, false, refl, sym, ap, ◌∙◌, subst, List, [], ◌∷◌, length, get_or, Option, Some, None, is_some, unwrap_or, cond, map, max, nat_lt, arith}
+use Rattle.std.proofs.Common.{◌≡◌, ◌≤◌, ◌<◌, ◌+◌, ◌*◌, ◌&&◌, ℕ, zero, suc, Bool, true, false, refl, sym, ap, ◌∙◌, subst, List, [], ◌∷◌, length, get_or, Option, Some, None, is_some, cond, map, max, nat_lt, arith}
 use Rattle.std.specs.List.{filter}
 use Rattle.std.proofs.Math.ListN.{set}
 use Rattle.std.proofs.Math.Seq.{map-set_same}
@@ -19,7 +19,7 @@ use Rattle.book_log.specs.Standing.{DeviceStateView, DeviceStatesView, has_stopp
 use Rattle.book_log.specs.DeviceLogView.{LogHolds, DeviceLogView, running, runs, stopped_of, next_generation, turned_if, turns_at}
 use Rattle.book_log.specs.Steps.{ChangesAt, EndsAt, GoesAll, LosesAt, TakesSymbols, TakesAt}
 use Rattle.book_log.specs.Pieces.{LogView, Keeps}
-use Rattle.book_log.specs.Turning.{Called, IsNext, IsReady, log_of, shown}
+use Rattle.book_log.specs.Turning.{Called, IsNext, IsReady, generation_after, log_of, shown}
 use Rattle.book_log.proofs.Histories.{symbols_got}
 use Rattle.book_log.proofs.LoggedSteps.{added, began, few_run, ready_log, turned_if_holds}
 use Rattle.book_log.proofs.SummarySteps.{edged_all, ended_all, fed_all, lost_all}
@@ -105,13 +105,13 @@ piece_long at [] = refl
 piece_long at (byte ∷ bytes) = ap (λ n. suc n) (piece_long at bytes)
 
 -- a call that adds symbols, if a new generation begins before them if one is due
-pub called : (old : DeviceLogView) (devices present : DeviceStatesView) (limit number later : ℕ) (was current : Generation) (next : Option Generation) (reserved log : LogView) (turns : Bool)
+pub called : (old : DeviceLogView) (devices present : DeviceStatesView) (limit number later : ℕ) (was current : Generation) (next : Option DeviceStatesView) (reserved log : LogView) (turns : Bool)
     (entries : List Entry) (reports : List Report) (more bytes count : ℕ)
     → LogHolds (shown devices limit number was) → shown devices limit number was ≡ old
     → 0 < more → more ≤ 512 → symbols_in entries ≡ more → turns ≡ turns_at (shown devices limit number was) more → IsNext turns devices next
     → IsReady (length devices.lines) bytes (log_of next reserved) → reserved.entries ≡ was.log.entries
     → GoesAll devices present entries reports → running present ≡ running devices → length reports ≤ 2056 + more
-    → current ≡ unwrap_or next (record was { log = reserved }) → later ≡ cond (is_some next) (next_generation number) number
+    → current ≡ generation_after next (record was { log = reserved }) → later ≡ cond (is_some next) (next_generation number) number
     → Keeps current.log log entries → count ≡ length reports
     → Called (turned_if (turns_at old more) old)
     (shown present limit later (record { opening = current.opening; log = log; length = current.length + count; symbols = current.symbols + more })) entries reports log.room
@@ -157,13 +157,13 @@ took_symbols olds news d symbols stamp reports within was changes =
     let next = changes.next in still_runs olds news d next within was changes.news_are ((changes.changes next).1.stage ∙ was next)
 
 -- `feed`
-pub fed_called : (old : DeviceLogView) (devices present : DeviceStatesView) (limit number later : ℕ) (was current : Generation) (next : Option Generation) (reserved log : LogView) (turns : Bool)
+pub fed_called : (old : DeviceLogView) (devices present : DeviceStatesView) (limit number later : ℕ) (was current : Generation) (next : Option DeviceStatesView) (reserved log : LogView) (turns : Bool)
     (d : ℕ) (at : Moment) (bytes : List ℕ) (reports : List Report) (count : ℕ)
     → LogHolds (shown devices limit number was) → shown devices limit number was ≡ old → get_or (stopped_of old.present) d true ≡ false
     → 0 < length bytes → length bytes ≤ 512 → turns ≡ turns_at (shown devices limit number was) (length bytes) → IsNext turns devices next
     → IsReady (length devices.lines) (length bytes) (log_of next reserved) → reserved.entries ≡ was.log.entries
     → TakesAt devices present d (piece at bytes) (Some at) reports
-    → current ≡ unwrap_or next (record was { log = reserved }) → later ≡ cond (is_some next) (next_generation number) number
+    → current ≡ generation_after next (record was { log = reserved }) → later ≡ cond (is_some next) (next_generation number) number
     → Keeps current.log log (fed d at bytes) → count ≡ length reports
     → Called (turned_if (turns_at old (length bytes)) old)
     (shown present limit later (record { opening = current.opening; log = log; length = current.length + count; symbols = current.symbols + length bytes })) (fed d at bytes) reports log.room
@@ -191,13 +191,13 @@ took_stopped old devices present limit number was d symbols stamp reports seen r
     (took_symbols devices.lines present.lines d symbols stamp reports there.0 there.1 takes.lines_are).0 ∙ ap (λ b. stopped_of b.present) seen
 
 -- `edge`
-pub edged_called : (old : DeviceLogView) (devices present : DeviceStatesView) (limit number later : ℕ) (was current : Generation) (next : Option Generation) (reserved log : LogView) (turns : Bool)
+pub edged_called : (old : DeviceLogView) (devices present : DeviceStatesView) (limit number later : ℕ) (was current : Generation) (next : Option DeviceStatesView) (reserved log : LogView) (turns : Bool)
     (d : ℕ) (edge : Edge) (reports : List Report) (count : ℕ)
     → LogHolds (shown devices limit number was) → shown devices limit number was ≡ old → get_or (stopped_of old.present) d true ≡ false
     → turns ≡ turns_at (shown devices limit number was) 1 → IsNext turns devices next
     → IsReady (length devices.lines) 0 (log_of next reserved) → reserved.entries ≡ was.log.entries
     → TakesAt devices present d (EdgeSymbol edge ∷ []) None reports
-    → current ≡ unwrap_or next (record was { log = reserved }) → later ≡ cond (is_some next) (next_generation number) number
+    → current ≡ generation_after next (record was { log = reserved }) → later ≡ cond (is_some next) (next_generation number) number
     → Keeps current.log log (edged d edge) → count ≡ length reports
     → Called (turned_if (turns_at old 1) old)
     (shown present limit later (record { opening = current.opening; log = log; length = current.length + count; symbols = current.symbols + 1 })) (edged d edge) reports log.room

@@ -1,5 +1,5 @@
 -- What always holds of a book's devices and log goes on by entries, and by a turn.
-use Rattle.std.proofs.Common.{◌≡◌, ◌<◌, ◌≤◌, ◌+◌, ◌*◌, ℕ, Bool, true, false, refl, sym, ap, ◌∙◌, subst, List, [], ◌∷◌, ◌++◌, get_or, length, Option, Some, None, is_some, unwrap_or, append-nil, append_assoc, cond, max, arith, length-append}
+use Rattle.std.proofs.Common.{◌≡◌, ◌<◌, ◌≤◌, ◌+◌, ◌*◌, ℕ, Bool, true, false, refl, sym, ap, ◌∙◌, subst, List, [], ◌∷◌, ◌++◌, get_or, length, Option, Some, None, is_some, append-nil, append_assoc, cond, max, arith, length-append}
 use Rattle.std.specs.List.{filter}
 use Rattle.gps_report.specs.declared.report.Report.{Report}
 use Rattle.book_log.specs.declared.generation.Generation.{Generation}
@@ -9,7 +9,7 @@ use Rattle.device_core.specs.Standing.{StandsFor as DeviceStands}
 use Rattle.book_log.specs.Standing.{DeviceStateView, StandsFor, DeviceStatesView, DevicesGoOn}
 use Rattle.book_log.specs.DeviceLogView.{LogAdds, LogHolds, DeviceLogView, FollowsLog, next_generation, running, runs, turned, turned_if}
 use Rattle.book_log.specs.Steps.{GoesAll}
-use Rattle.book_log.specs.Turning.{Begins, IsNext, IsReady, log_of, shown}
+use Rattle.book_log.specs.Turning.{IsNext, IsReady, generation_after, log_of, shown}
 use Rattle.book_log.proofs.Histories.{history-append, stream-append, symbols_in-append}
 use Rattle.book_log.proofs.SummarySteps.{all_stand_still}
 
@@ -98,22 +98,21 @@ turned_if_holds true b h = turned_holds b h
 turned_if_holds false b h = h
 
 -- what is seen behind `prepared` and `begin`
-pub began : (turns : Bool) (now : DeviceStatesView) (limit number later : ℕ) (old current : Generation) (next : Option Generation)
-    → IsNext turns now next → current ≡ unwrap_or next old → later ≡ cond (is_some next) (next_generation number) number
+pub began : (turns : Bool) (now : DeviceStatesView) (limit number later : ℕ) (old current : Generation) (next : Option DeviceStatesView)
+    → IsNext turns now next → current ≡ generation_after next old → later ≡ cond (is_some next) (next_generation number) number
     → shown now limit later current ≡ turned_if turns (shown now limit number old)
-began true now limit number later old current None is_next is_current is_number = elim is_next [ ]
-began false now limit number later old current (Some g) is_next is_current is_number = elim is_next [ ]
+began true now limit number later old current None is_next is_current is_number = cc is_next
+began false now limit number later old current (Some opening) is_next is_current is_number = cc is_next
 began false now limit number later old current None is_next is_current is_number =
     ap (λ n. shown now limit n current) is_number ∙ ap (shown now limit number) is_current
-began true now limit number later old current (Some g) is_next is_current is_number =
+began true now limit number later old current (Some opening) is_next is_current is_number =
     ap (λ n. shown now limit n current) is_number ∙ ap (shown now limit (next_generation number)) is_current
-    ∙ same_used_id now limit (next_generation number) g is_next
+    ∙ ap (λ o. record { opening = o; present = now; log = []; length = 0; symbols = 0; limit = limit; generation = next_generation number }) opens
   where
-    same_used_id : (now : DeviceStatesView) (limit number : ℕ) (g : Generation) → Begins now g
-        → shown now limit number g ≡ record { opening = now; present = now; log = []; length = 0; symbols = 0; limit = limit; generation = number }
-    same_used_id now limit number g begins = cc (begins.opening, begins.entries, begins.places, begins.symbols)
+    opens : opening ≡ now
+    opens = cc is_next
 
-pub ready_log : (count bytes : ℕ) (old current : Generation) (next : Option Generation) → IsReady count bytes (log_of next old.log) → current ≡ unwrap_or next old
+pub ready_log : (count bytes : ℕ) (old current : Generation) (next : Option DeviceStatesView) → IsReady count bytes (log_of next old.log) → current ≡ generation_after next old
     → IsReady count bytes current.log
 ready_log count bytes old current None ready is = subst (λ g. IsReady count bytes g.log) (sym is) ready
-ready_log count bytes old current (Some g) ready is = subst (λ g. IsReady count bytes g.log) (sym is) ready
+ready_log count bytes old current (Some opening) ready is = subst (λ g. IsReady count bytes g.log) (sym is) ready

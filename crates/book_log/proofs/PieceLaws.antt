@@ -1,5 +1,5 @@
 -- A log by its pieces, with one more.
-use Rattle.std.proofs.Common.{◌≡◌, ◌≤◌, ◌<◌, ◌+◌, ◌-◌, ℕ, refl, sym, ap, ◌∙◌, subst, List, [], ◌∷◌, ◌++◌, get_or, length, drop, take, append_assoc, append-nil, arith, length-append, length-drop, take_all}
+use Rattle.std.proofs.Common.{◌≡◌, ◌≤◌, ◌<◌, ◌+◌, ℕ, refl, sym, ap, ◌∙◌, List, [], ◌∷◌, ◌++◌, get_or, length, drop, take, append_assoc, append-nil, arith, length-append, length-drop, take_all}
 use Rattle.std.proofs.Math.ListN.{set}
 use Rattle.std.proofs.lemmas.List.{drop-append-le, length-set, length-take, take-append-drop, take-append-le, take_more, take_more_set}
 use Rattle.gps_fixed.specs.Moment.{Moment}

@@ -5,11 +5,17 @@ use Rattle.book_log.specs.declared.log.LogEvent.TheVariants.{Fed, Edged, Ended, 
 use Rattle.book_log.specs.Entries.{Entry, edged, ended, fed, lost}
 use Rattle.gps_fixed.specs.Moment.{Moment}
 
--- the entries, and for how many further events and bytes there is room
+-- the entries, for how many further events and bytes there is room, and how many of both it would hold if it were empty
 pub record LogView : Type 0 where
   pub entries : List Entry
   pub room : ℕ
   pub spare : ℕ
+  pub most_events : ℕ
+  pub most_bytes : ℕ
+
+-- a log without its entries, with all of its room
+abbrev pub emptied : LogView → LogView
+emptied log = record { entries = []; room = log.most_events; spare = log.most_bytes; most_events = log.most_events; most_bytes = log.most_bytes }
 
 -- how many of the joined bytes are of an event
 abbrev pub bytes_of : LogEvent → ℕ

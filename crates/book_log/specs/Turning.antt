@@ -1,34 +1,30 @@
 -- A generation with its log by pieces, and what a turn makes ready. Steps, which no public clause speaks of.
-use Rattle.std.specs.Prelude.{◌≡◌, ◌≤◌, ◌+◌, ℕ, Bool, true, false, List, [], Option, Some, None}
+use Rattle.std.specs.Prelude.{◌≡◌, ◌≤◌, ◌+◌, ℕ, Bool, List, Option, Some, None, cond}
 use Rattle.book_log.specs.declared.generation.Generation.{Generation}
 use Rattle.book_log.specs.Standing.{DeviceStatesView}
 use Rattle.gps_report.specs.declared.report.Report.{Report}
 use Rattle.book_log.specs.Entries.{Entry}
 use Rattle.book_log.specs.DeviceLogView.{LogAdds, LogHolds, DeviceLogView, running}
-use Rattle.book_log.specs.Pieces.{LogView}
+use Rattle.book_log.specs.Pieces.{LogView, emptied}
 
 -- what is seen of a book's devices and log
 abbrev pub shown : DeviceStatesView → ℕ → ℕ → Generation → DeviceLogView
 shown present limit number g =
     record { opening = g.opening; present = present; log = g.log.entries; length = g.length; symbols = g.symbols; limit = limit; generation = number }
 
--- a generation that begins with the devices as they are
-pub record Begins (now : DeviceStatesView) (g : Generation) : Type 0 where
-  pub opening : g.opening ≡ now
-  pub entries : g.log.entries ≡ []
-  pub places : g.length ≡ 0
-  pub symbols : g.symbols ≡ 0
+-- there is an opening of a next generation exactly if one is due: the devices as they are
+abbrev pub IsNext : Bool → DeviceStatesView → Option DeviceStatesView → Type 0
+IsNext turns now next = next ≡ cond turns (Some now) None
 
--- there is a next generation exactly if one is due
-abbrev pub IsNext : Bool → DeviceStatesView → Option Generation → Type 0
-IsNext true now (Some g) = Begins now g
-IsNext true now None = ⊥
-IsNext false now (Some g) = ⊥
-IsNext false now None = Unit {0}
-
-abbrev pub log_of : Option Generation → LogView → LogView
-log_of (Some g) log = g.log
+-- the log to which a call's entries go
+abbrev pub log_of : Option DeviceStatesView → LogView → LogView
+log_of (Some opening) log = emptied log
 log_of None log = log
+
+-- the generation that follows, if there is an opening of one: its log is the one before it without the entries
+abbrev pub generation_after : Option DeviceStatesView → Generation → Generation
+generation_after (Some opening) g = record { opening = opening; log = emptied g.log; length = 0; symbols = 0 }
+generation_after None g = g
 
 -- room for `count` events and one more, and for bytes
 pub record IsReady (count bytes : ℕ) (log : LogView) : Type 0 where

@@ -1,7 +1,7 @@
 ghost use Rattle.std.specs.Prelude.{◌≡◌, ◌≤◌, ◌<◌, ◌+◌, ◌++◌, true, false, [], IfOk, OnOk, length};
 ghost use Rattle.std.specs.Vec.{vec_len, vec_capacity};
 ghost use Rattle.book_log.specs.Entries.{edged, ended, fed, lost};
-ghost use Rattle.book_log.specs.Pieces.{Keeps, LengthensLast};
+ghost use Rattle.book_log.specs.Pieces.{Keeps, LengthensLast, emptied};
 
 use gps_fixed::{NoMemory, Stamp};
 use gps_report::{Edge, EdgeKind};
@@ -44,6 +44,8 @@ impl Model for Log {
       entries = entries_of l.events.items l.bytes.items;
       room = vec_capacity l.events - vec_len l.events;
       spare = vec_capacity l.bytes - vec_len l.bytes;
+      most_events = vec_capacity l.events;
+      most_bytes = vec_capacity l.bytes;
     } };
 
     ghost invariant = { λ l. byte_count l.events.items ≡ length l.bytes.items };
@@ -115,6 +117,30 @@ impl Log {
         self.events.reserve(events)?;
         self.bytes.reserve(bytes)?;
         Ok(())
+    }
+
+    /// Makes room so that the log could hold the given numbers of events and bytes if it were empty.
+    pub fn reserve_emptied(&mut self, events: usize, bytes: usize) -> Result<(), NoMemory>
+        ensures entries { self.new.entries ≡ self.old.entries }
+        ensures kept { self.old.room ≤ self.new.room }
+        ensures events { OnOk result (events ≤ self.new.most_events) }
+        ensures bytes { OnOk result (bytes ≤ self.new.most_bytes) }
+    {
+        if self.events.capacity() < events {
+            self.events.reserve(events)?;
+        }
+        if self.bytes.capacity() < bytes {
+            self.bytes.reserve(bytes)?;
+        }
+        Ok(())
+    }
+
+    /// Forgets all entries, and keeps the room: a log that was full goes on without a call of the system for memory.
+    pub fn clear(&mut self)
+        ensures { self.new ≡ emptied self.old }
+    {
+        self.events.clear();
+        self.bytes.clear();
     }
 
     /// Adds a piece of bytes, for which there is room. Takes no memory.

@@ -1,4 +1,3 @@
-use Rattle.std.proofs.Common.{arith}
 use Rattle.book_log.proofs.CallSteps.{ended_called, ended_few, ended_room, ended_stopped}
 use Rattle.book_log.proofs.Owned.{own_ones}
 use Rattle.book_log.proofs.device_log.DeviceLog.end_device.Goals as goal

@@ -1,4 +1,3 @@
-use Rattle.std.proofs.Common.{arith}
 use Rattle.book_log.proofs.CallSteps.{fed_called, fed_few, took_stopped}
 use Rattle.book_log.proofs.Owned.{own_ones}
 use Rattle.book_log.proofs.device_log.DeviceLog.feed.Goals as goal

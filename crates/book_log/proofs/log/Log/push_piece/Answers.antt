@@ -11,7 +11,7 @@ returns-then-lengthens c =
     let events = c.lengthens.new.events in
     let bytes = c.extend_reserved.new.bytes in
     let joined : LengthensLast c.args.device (length c.args.bytes.now) c.args.at c.self.inside.events.items events.items = search rules in
-    let new : LogView = record { entries = entries_of events.items bytes.items; room = vec_capacity events - vec_len events; spare = vec_capacity bytes - vec_len bytes } in
+    let new : LogView = record { entries = entries_of events.items bytes.items; room = vec_capacity events - vec_len events; spare = vec_capacity bytes - vec_len bytes; most_events = vec_capacity events; most_bytes = vec_capacity bytes } in
     let P : LogView → Type 0 = λ v. Keeps v new (fed c.args.device c.args.at c.args.bytes.now) in
     subst P c.self.view_is (record {
       entries_are = ap (entries_of events.items) c.extend_reserved.ensures.items

@@ -7,6 +7,7 @@ ghost use Rattle.hub_door.specs.Admissions.{admitting, finished, link_of};
 ghost use Rattle.gps_serve.specs.Statuses.{HasStopped};
 ghost use Rattle.gps_serve.specs.Units.{AreAtRest, IsAtRestIn};
 
+use crate::rings::{Call, Rings};
 use crate::status::either;
 use gps_hub::{DoorSeat, Hub, HubNaming, Look, Pumped};
 use gps_lane::{Rx, Tx};
@@ -16,8 +17,8 @@ use serve_threads::SessionBells;
 use session_core::Item;
 use std::sync::{Arc, Wait};
 
-/// The most pieces of devices that a burst takes. The lock is held for a burst, so it is short.
-const PIECES_A_BURST: u32 = 4;
+/// The most pieces of devices that a burst takes. The lock is held for a burst, so it is short: at 64 clients most of it is their lanes.
+const PIECES_A_BURST: u32 = 2;
 
 /// The most looks at a device in a burst: eight devices at most are looked at for each piece.
 const DEVICE_LOOKS: u32 = 8 * PIECES_A_BURST;
@@ -25,7 +26,7 @@ const DEVICE_LOOKS: u32 = 8 * PIECES_A_BURST;
 /// More sessions than may have news at once.
 const SESSION_LOOKS: u32 = 200_000;
 
-/// The steps of 128 samples. One burst brings no more to a unit: it takes 2,048 bytes of a device, and a time needs sixteen.
+/// The steps of 128 samples. One burst brings no more to a unit: it takes 1,024 bytes of a device, and a time needs sixteen.
 const STEPS: u16 = 1_664;
 
 /// What a burst did.
@@ -114,8 +115,8 @@ impl<J: HubNaming, R: Wait + Copy> Floor<J, R> {
         }
     }
 
-    /// Takes a piece of a session's input, and rings its threads if there is something for them.
-    fn attend(&mut self, look: Look) -> bool
+    /// Takes a piece of a session's input, and notes the rings of its threads if there is something for them.
+    fn attend(&mut self, look: Look, rings: &mut Rings) -> bool
         requires { look.session < length self.old.hub.inputs }
     {
         let fed = match self.hub.session_piece(look.session) {
@@ -123,26 +124,24 @@ impl<J: HubNaming, R: Wait + Copy> Floor<J, R> {
             Pumped::Empty | Pumped::Waiting { watched: _ } | Pumped::Done => false,
         };
         if let Some(bells) = self.sessions.get(look.session as usize) {
-            if fed {
-                bells.reader.ring();
-            }
-            if look.closed {
-                bells.close();
-            } else if look.fresh {
-                bells.writer.ring();
-            }
+            let call = Call {
+                has_room: fed,
+                has_items: look.fresh,
+                is_last: look.closed,
+            };
+            rings.add(bells, call);
         }
         fed
     }
 
-    fn attend_all(&mut self) -> bool {
+    fn attend_all(&mut self, rings: &mut Rings) -> bool {
         let mut fed = false;
         let mut k = 0usize;
         for _ in 0..SESSION_LOOKS {
             let Some(look) = self.hub.look(k) else {
                 break;
             };
-            if self.attend(look) {
+            if self.attend(look, rings) {
                 fed = true;
             }
             if !look.closed {
@@ -159,14 +158,14 @@ impl<J: HubNaming, R: Wait + Copy> Floor<J, R> {
     }
 
     /// Takes what waits in the lanes of devices and sessions. If it may hold back, and more of the devices may wait, the sessions are left to a
-    /// later burst: their writers are rung then. If all devices have stopped, the book is shut, and the sessions are told.
-    pub(crate) fn burst(&mut self, may_hold: bool) -> Burst
+    /// later burst. What is to be rung is noted, for when the lock is free. If all devices have stopped, the book is shut, and the sessions are told.
+    pub(crate) fn burst(&mut self, may_hold: bool, rings: &mut Rings) -> Burst
         ensures closed { result ≡ Over → All IsClosed self.new.hub.book.sessions }
         ensures stopped { result ≡ Over → All HasStopped self.new.hub.ends }
     {
         let taken = self.feed_all();
         let holds = may_hold && taken == Taken::Part;
-        let heard = !holds && self.attend_all();
+        let heard = !holds && self.attend_all(rings);
         if self.hub.shut() {
             self.close_sessions();
             Burst::Over

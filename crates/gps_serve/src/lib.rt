@@ -16,6 +16,7 @@ mod places;
 mod pump;
 mod readers;
 mod release;
+mod rings;
 mod scope;
 mod seated;
 mod served;

@@ -1,23 +1,25 @@
 ghost use Rattle.std.specs.Prelude.{◌≡◌, ◌≤◌, ◌<◌, ◌+◌, ◌*◌, ◌⊎◌};
 
 use crate::floor::{Burst, Floor};
+use crate::rings::Rings;
 use gps_hub::HubNaming;
 use gps_lane::Bell;
 use serve_threads::Bells;
+use std::alloc::Global;
 use std::sync::{Mutex, Wait};
 
-/// At most this many bursts in a row leave the writers asleep while more of the devices waits. To wake a writer and to send costs more than to put
-/// a burst's lines into its lane.
-const MOST_HELD: u32 = 7;
+/// At most this many bursts in a row leave the writers and the publisher asleep while more of the devices waits. To wake a writer and to send
+/// costs more than to put a burst's lines into its lane.
+const MOST_HELD: u32 = 63;
 
 /// More items than a burst mostly gives a session.
-const PLACES_A_BURST: u32 = 1_024;
+const PLACES_A_BURST: u32 = 512;
 
 /// How many bursts may be held for sessions with queues of this length, so that what they bring finds room.
 fn most_held(queue: u32) -> u32
-    ensures most { result ≤ 7 }
-    ensures room { 1024 * result ≤ queue }
-    ensures longest { (result ≡ 7) ⊎ (queue < 1024 * (result + 1)) }
+    ensures most { result ≤ 63 }
+    ensures room { 512 * result ≤ queue }
+    ensures longest { (result ≡ 63) ⊎ (queue < 512 * (result + 1)) }
 {
     let held = queue / PLACES_A_BURST;
     if held < MOST_HELD { held } else { MOST_HELD }
@@ -32,27 +34,34 @@ fn ring_fed(bells: &Bells) {
 /// Pumps the lanes into the hub until all devices have stopped, and then closes all bells. The sessions have queues of this length.
 pub(crate) fn pump<J: HubNaming, R: Wait + Copy>(
     rt: &R,
+    alloc: Global,
     floor: &Mutex<Floor<J, R>>,
     bells: &Bells,
     queue: u32,
 ) {
     let most = most_held(queue);
+    let mut rings = Rings::new(alloc);
     let mut held = 0u32;
     for _ in rt.forever() {
-        let burst = floor.lock(rt).burst(held < most);
+        let burst = floor.lock(rt).burst(held < most, &mut rings);
+        rings.make();
         match burst {
             Burst::Over => break,
             Burst::Held => {
                 held = held.saturating_add(1);
-                ring_fed(bells);
+                bells.ring_devices();
             }
             Burst::Fed => {
                 held = 0;
                 ring_fed(bells);
             }
             Burst::Idle => {
-                held = 0;
-                bells.pump.wait(rt);
+                if held == 0 {
+                    bells.pump.wait(rt);
+                } else {
+                    held = 0;
+                    ring_fed(bells);
+                }
             }
         }
     }

@@ -296,7 +296,7 @@ fn work<
     };
     let watching = start_watchers(rt, alloc, scope, watchers, tries, bells, watching);
     let works = start_devices(rt, alloc, scope, starts, clock, bells, works);
-    pump(&rt, floor, bells, queue);
+    pump(&rt, alloc, floor, bells, queue);
     // The door worker finds its bell closed, once its call returns.
     if let Some(closer) = closer {
         closer.close();

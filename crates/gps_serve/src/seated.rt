@@ -34,7 +34,7 @@ pub(crate) struct Sessions<S: Source, K: Sink, R: Wait + Copy> {
 }
 
 /// The most sessions that are not released yet: the 64 that may be live, and sixteen whose clients have still to take what is left.
-const MOST: usize = 80;
+pub(crate) const MOST: usize = 80;
 
 /// Joins the threads of a session, and gets what its lanes hold once it is closed. False if it is not closed yet.
 fn release_at<S: Source, K: Sink, J: HubNaming, R: Threads + Wait + Copy>(

@@ -28,6 +28,7 @@ use crate::door::{DoorBegin, DoorDone};
 use crate::floor::{Burst, Floor};
 use crate::ground::{Ground, prepare};
 use crate::lanes::DeviceLanes;
+use crate::rings::Rings;
 use crate::scope::{Ended, in_scope, room, set_up};
 use crate::settling::{DevicesDone, devices_done, monitors_done, sessions_done};
 use crate::status::{DaemonOutcome, all_ended, lacked};
@@ -90,14 +91,15 @@ fn nothing<W: World, R: Wait + Copy>(alloc: Global, world: W, stop: Stop) -> Ser
     }
 }
 
-/// Bursts until all devices have stopped, as they have once the pump has ended.
-fn close<J: HubNaming, R: Wait + Copy>(rt: &R, floor: Floor<J, R>) -> Floor<J, R>
+/// Bursts until all devices have stopped, as they have once the pump has ended. No thread is left that would be rung.
+fn close<J: HubNaming, R: Wait + Copy>(rt: &R, alloc: Global, floor: Floor<J, R>) -> Floor<J, R>
     ensures closed { All IsClosed result.hub.book.sessions }
     ensures stopped { All HasStopped result.hub.ends }
 {
     let mut floor = floor;
+    let mut rings = Rings::new(alloc);
     for _ in rt.forever() {
-        match floor.burst(false) {
+        match floor.burst(false, &mut rings) {
             Burst::Over => return floor,
             Burst::Fed | Burst::Held | Burst::Idle => {}
         }
@@ -121,12 +123,12 @@ fn publish_all<J: HubNaming, R: Wait + Copy>(rt: &R, floor: Floor<J, R>) -> Floo
 }
 
 /// Takes what is left in the lanes, publishes what waits then, and hands back the hub.
-fn shut<J: HubNaming, R: Wait + Copy>(rt: &R, floor: Floor<J, R>) -> Hub<J, R>
+fn shut<J: HubNaming, R: Wait + Copy>(rt: &R, alloc: Global, floor: Floor<J, R>) -> Hub<J, R>
     ensures closed { All IsClosed result.book.sessions }
     ensures stopped { All HasStopped result.ends }
     ensures rest { AreAtRest (length J.terms.segments) result.book.units }
 {
-    let floor = close(rt, floor);
+    let floor = close(rt, alloc, floor);
     let Floor {
         hub,
         devices: _,
@@ -377,7 +379,7 @@ fn run<
     ) else {
         return nothing(alloc, world, Stop::NoMemory);
     };
-    let hub = shut(&rt, floor.into_inner());
+    let hub = shut(&rt, alloc, floor.into_inner());
     gather::<W, J, D, R>(&rt, hub, ended, rooms, world, numbers, first)
 }
 

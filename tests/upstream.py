@@ -225,7 +225,7 @@ def bad_answer(wanted, seconds, port):
 def refusals():
     long = b'{"class":"DEVICES","devices":[' + b"x" * MOST
     early = "the connection ended before its answer was whole"
-    none = "what answers there is not gpsd nor gpsrelay"
+    none = "what answers there is neither gpsd nor gpsrelay"
     rows = [
         ("silence", "its answer was not whole within 10 seconds", HEAD_WAIT + 2, Fake()),
         ("half an answer", "its answer was not whole within 10 seconds", HEAD_WAIT + 2, Fake(VERSION + DEVICES)),

@@ -233,6 +233,8 @@ def places():
     check("silent links are ended after a minute", 0, sum(is_open(client) for client in silent))
     check("so is one that ends no request", False, is_open(trickling))
     check("one that watches is not", True, is_open(watching))
+    silence = f"{device.word.partition('=')[2]} has been silent for 60 s"
+    check("that the device is silent is said after a minute", True, silence in daemon.said() or daemon.said())
     check("nor is one that has asked", True, is_open(asking))
     check("the next client is served", True, daemon.greets())
     device.end()

@@ -17,7 +17,7 @@ commands:
 
 options of serve:
   --listen HOST:PORT   where clients connect; port 0 takes a free one (127.0.0.1:2947)
-  --queue N            lines that may wait for a client, 1 to 65536 (4096)
+  --queue N            items that may wait for a client, 1 to 65536 (4096)
   --history N          bytes and edges of one generation of the history, 1 to 33554432 (16777216)
   --wait N             clients that must have watched before what devices send is handed on, 0 to 64 (0)
   --monitor N          readings of each monitor of a segment, 0 to 1000000 (0)
@@ -30,7 +30,7 @@ words of serve, 1 to 16 of at most 8 devices:
 
 options of the other commands:
   decode, pseudo: --history N   bytes that are read at most, 1 to 33554432 (16777216)
-  replay: --history N           entries of one generation of the history, 1 to 33554432 (16777216)
+  replay: --history N           bytes and edges of one generation of the history, 1 to 33554432 (16777216)
           --queue N             items that may wait for a client, 1 to 65536 (4096)
   generate: --seed N            0 to 4294967295
             --size N            seconds of the script, 1 to 10000

@@ -23,20 +23,17 @@ mod texts;
 
 use gps_fixed::NoMemory;
 use gps_outside::{RealClock, RealSink, RealSource, Sink, write_all};
-use gps_serve::{DeviceEnd, Served};
+use gps_serve::Served;
 use gps_words::{WordsFault, asked};
 use gps_world::World;
 use outcome::CommandOutcome;
 use reasons::{say, tell_end, tell_no_memory, tell_no_text, tell_refused};
 use standard_streams::StandardStreams;
 use std::alloc::Global;
-use std::fs::File;
 use std::io::{Eprint, ErrorKind, IsTerminal};
-use std::net::{Net, TcpListener, TcpStream};
 use std::process::ExitCode;
-use std::rt::Files;
 use std::sync::Wait;
-use std::{env, io, time};
+use std::{env, io};
 use streams::{CountedInput, CountedOutput};
 use telling::TellingWorld;
 
@@ -103,26 +100,6 @@ fn close<W: World, K: Sink, R: Wait + Copy>(
     }
 }
 
-/// Says which devices were lost because there was no memory for them.
-fn tell_lost<R>(served: &Served<TellingWorld<R>, R>)
-where
-    R: Wait
-        + Eprint
-        + Files<File = File>
-        + Net<Listener = TcpListener, Stream = TcpStream>
-        + time::Clock
-        + Copy
-        + Send,
-{
-    for device in &served.devices {
-        if device.end == Some(DeviceEnd::NoMemory) {
-            if let Some(source) = &device.source {
-                source.tell_lost();
-            }
-        }
-    }
-}
-
 /// Says why the daemon ended.
 fn tell_status<R: Eprint>(rt: &R, status: u8) {
     match status {
@@ -131,8 +108,14 @@ fn tell_status<R: Eprint>(rt: &R, status: u8) {
             rt,
             "standard output: the closing lines could not be written: its reader has gone, it is closed, or the disk is full",
         ),
-        7 => tell_no_memory(rt),
-        8 => say(rt, "it could not listen, or its door failed; see above"),
+        7 => say(
+            rt,
+            "out of memory, or the system started no thread: raise the limits, or give a smaller --history or --queue",
+        ),
+        8 => say(
+            rt,
+            "it could not listen, or could accept no more clients; see above",
+        ),
         _ => {}
     }
 }
@@ -175,7 +158,6 @@ fn main(rt: HostRuntime) -> ExitCode {
         let alloc = rt.alloc();
         let mut sink = RealSink::of_output(rt.stdout());
         let served = serve::serve_main(rt, alloc, words, TellingWorld::new(alloc, rt));
-        tell_lost(&served);
         let status = close(alloc, &served, &mut sink);
         tell_status(&rt, status);
         status

@@ -11,6 +11,11 @@ use std::io::Eprint;
 /// How many bytes `replay` and `lines` read at most.
 const MOST: u64 = 1_073_741_824;
 
+/// The lines of a script.
+const EVENTS: &str =
+    "device NAME, segment U N, bytes D STAMP HEX, text D STAMP TEXT, edge D LINE, end D, lose D, open S [N], say S TEXT, part S TEXT, \
+input S HEX, hang S, take S N, monitor M U, store U N, load M N, a comment (#), or nothing";
+
 /// Says why the words are refused: the usage line first, then the reason, and the help if no command was asked for or help was.
 pub fn tell_refused<R: Eprint>(rt: &R, alloc: Global, words: &[String]) {
     let _ = eprintln!(rt; "{USAGE}");
@@ -82,12 +87,12 @@ fn tell_bad_line<R: Eprint>(rt: &R, command: &CommandLine, number: u64) {
     let _ = match command {
         CommandLine::Lines => {
             eprintln!(rt;
-                "gpsrelay: line {number} of the input is not a line of the daemon, byte for byte"
+                "gpsrelay: line {number} of the input is not a line of the daemon, byte for byte; expected: a JSON object as it writes them, and CR LF"
             )
         }
         _ => {
             eprintln!(rt;
-                "gpsrelay: line {number} of the input is no line of a script, or may not stand there"
+                "gpsrelay: line {number} of the input is no line of a script, or may not stand there; expected: {EVENTS}"
             )
         }
     };
@@ -134,5 +139,8 @@ pub fn tell_end<S: Source, K: Sink, R: Eprint>(
 }
 
 pub fn tell_no_memory<R: Eprint>(rt: &R) {
-    say(rt, "out of memory");
+    say(
+        rt,
+        "out of memory: raise its limit, or give a smaller --history or --queue, if the command has them",
+    );
 }

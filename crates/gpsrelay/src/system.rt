@@ -11,34 +11,31 @@ use std::rt::Files;
 
 /// A reason of the system behind a message, or nothing if none is known.
 #[derive(Clone, Copy)]
-pub struct Reason(pub Option<ErrorKind>);
-
-impl Reason {
-    /// The reason of a fault.
-    pub fn of(fault: Option<io::Error>) -> Reason {
-        match fault {
-            Some(error) => Reason(Some(error.kind())),
-            None => Reason(None),
-        }
-    }
-}
+pub struct Reason(pub Option<io::Error>);
 
 impl fmt::Display for Reason {
     fn fmt<W: fmt::Write>(&self, f: &mut fmt::Formatter<W>) -> fmt::Result {
-        match self.0 {
-            None => Ok(()),
-            Some(ErrorKind::NotFound) => f.write_str(": no such file"),
-            Some(ErrorKind::InvalidInput) => f.write_str(": no such address"),
-            Some(ErrorKind::PermissionDenied) => {
-                f.write_str(": permission denied; is this user in its group?")
+        let Some(error) = self.0 else {
+            return Ok(());
+        };
+        let kind = error.kind();
+        match kind {
+            ErrorKind::NotFound => f.write_str(": no such file"),
+            ErrorKind::InvalidInput => f.write_str(": no such address"),
+            ErrorKind::PermissionDenied => {
+                f.write_str(
+                    ": permission denied; is this user in its group, or is the port below 1024?",
+                )
             }
-            Some(ErrorKind::AddrInUse) => f.write_str(
+            ErrorKind::AddrInUse => f.write_str(
                 ": address in use; another daemon may serve there: say --listen HOST:PORT",
             ),
-            Some(ErrorKind::AddrNotAvailable) => {
+            ErrorKind::AddrNotAvailable => {
                 f.write_str(": address not available; this machine has no such address")
             }
-            Some(kind) => write!(f, ": {}", kind),
+            // The kind says nothing; the error has the system's text.
+            ErrorKind::Uncategorized => write!(f, ": {}", error),
+            _ => write!(f, ": {}", kind),
         }
     }
 }
@@ -57,11 +54,12 @@ impl fmt::Display for DaemonReason {
                     ErrorKind::WouldBlock | ErrorKind::TimedOut => {
                         f.write_str("no answer within 5 seconds")
                     }
+                    ErrorKind::Uncategorized => write!(f, "{}", error),
                     _ => write!(f, "{}", kind),
                 }
             }
             DaemonFault::Unsent => f.write_str("the request could not be sent"),
-            DaemonFault::NoDaemon => f.write_str("what answers there is not gpsd nor gpsrelay"),
+            DaemonFault::NoDaemon => f.write_str("what answers there is neither gpsd nor gpsrelay"),
             DaemonFault::ClosedEarly => {
                 f.write_str("the connection ended before its answer was whole")
             }

@@ -92,7 +92,7 @@ where
             }
             Opened::Failed => {
                 if let Some(place) = &told {
-                    let reason = Reason::of(self.world.fault());
+                    let reason = Reason(self.world.fault());
                     let _ = eprintln!(self.rt;
                         "gpsrelay: {} cannot be opened{}",
                         PlaceText(place),
@@ -116,7 +116,7 @@ where
             }
             Opened::Failed => {
                 if let Ok(address) = told {
-                    let reason = Reason::of(self.world.fault());
+                    let reason = Reason(self.world.fault());
                     let _ = eprintln!(rt;
                         "gpsrelay: cannot listen at {}{}",
                         text_of(&address),

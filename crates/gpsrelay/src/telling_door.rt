@@ -96,7 +96,9 @@ impl<R: Eprint + time::Clock + Copy> TellingDoor<R> {
                 "gpsrelay: a client was turned away: all {SESSIONS} sessions of this run are used: start the daemon anew"
             )
         } else {
-            eprintln!(rt; "gpsrelay: a client was turned away: 64 clients are the most at a time")
+            eprintln!(rt;
+                "gpsrelay: a client was turned away: 64 clients are the most at a time, and 80 with those that have still to take what is left"
+            )
         };
     }
 
@@ -134,7 +136,7 @@ impl<R: Eprint + time::Clock + Copy> TellingDoor<R> {
     fn tell_failed(&self) {
         let rt = self.rt;
         let _ = eprintln!(rt;
-            "gpsrelay: the door failed: no further client is served; start the daemon anew"
+            "gpsrelay: no more clients can be accepted; those that are connected are served; restart the daemon"
         );
     }
 }

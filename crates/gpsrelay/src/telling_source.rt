@@ -73,13 +73,13 @@ struct Subject {
     place: Place,
     /// Whether a byte came.
     has_come: bool,
-    /// Since when nothing came.
+    /// Since when nothing came: the beginning of the first read after the last byte.
     since: Option<Duration>,
     /// Whether the silence was said.
     is_silent: bool,
 }
 
-/// A source that says, of a device, when it ends or fails, once, and when it is silent for a minute and speaks again. That of a link says
+/// A source that says, of a device, when it ends, fails or was lost, once, and when it is silent for a minute and speaks again. That of a link says
 /// nothing. It reports the contents and counts of the source within, and hands on its answers.
 #[derive(Drop)]
 pub struct TellingSource<S: KnowsWhy, R> {
@@ -125,6 +125,20 @@ impl<S: KnowsWhy, R> TellingSource<S, R> {
 }
 
 impl<S: KnowsWhy, R: Eprint + time::Clock> TellingSource<S, R> {
+    /// A read begins.
+    fn begin(&mut self)
+        ensures { self.new.source ≡ self.old.source }
+    {
+        let Some(subject) = &mut self.subject else {
+            return;
+        };
+        if subject.since.is_none() {
+            if let Ok(now) = self.rt.monotonic() {
+                subject.since = Some(now);
+            }
+        }
+    }
+
     /// Bytes came.
     fn heard(&mut self)
         ensures { self.new.source ≡ self.old.source }
@@ -147,14 +161,8 @@ impl<S: KnowsWhy, R: Eprint + time::Clock> TellingSource<S, R> {
             return;
         };
         if let Some(subject) = &mut self.subject {
-            let since = match subject.since {
-                Some(since) => since,
-                None => {
-                    subject.since = Some(now);
-                    now
-                }
-            };
-            if !subject.is_silent && now.saturating_sub(since) >= Duration::from_secs(SILENCE) {
+            let silence = now.saturating_sub(subject.since.unwrap_or(now));
+            if !subject.is_silent && silence >= Duration::from_secs(SILENCE) {
                 subject.is_silent = true;
                 let _ = eprintln!(self.rt;
                     "gpsrelay: {} has been silent for {} s",
@@ -183,7 +191,7 @@ impl<S: KnowsWhy, R: Eprint + time::Clock> TellingSource<S, R> {
                 let _ = eprintln!(self.rt; "gpsrelay: {place} failed: {reason}");
                 return;
             }
-            let reason = Reason::of(self.source.fault());
+            let reason = Reason(self.source.fault());
             let _ = if subject.has_come {
                 eprintln!(self.rt;
                     "gpsrelay: {place} failed{reason}; was it unplugged, or did its peer reset?"
@@ -205,11 +213,13 @@ impl<S: KnowsWhy, R: Eprint + time::Clock> TellingSource<S, R> {
         }
     }
 
-    /// Says that the device was lost before it ended, since there was no memory for it.
-    pub fn tell_lost(&self) {
-        if let Some(subject) = &self.subject {
+    /// Its reader ends, though the device has neither ended nor failed: there was no memory for it, or no thread.
+    fn lost(&mut self)
+        ensures { self.new.source ≡ self.old.source }
+    {
+        if let Some(subject) = self.subject.take() {
             let _ = eprintln!(self.rt;
-                "gpsrelay: {} was lost: out of memory",
+                "gpsrelay: {} was lost: out of memory, or no thread",
                 PlaceText(&subject.place)
             );
         }
@@ -230,6 +240,7 @@ impl<S: KnowsWhy, R: Eprint + time::Clock + Drop> Source for TellingSource<S, R>
             ticket.used();
         }
         self.tell_awaited();
+        self.begin();
         let step = self.source.read(buf);
         match step {
             ReadStep::Got(_) => self.heard(),
@@ -245,6 +256,7 @@ impl<S: KnowsWhy, R: Eprint + time::Clock + Drop> Source for TellingSource<S, R>
     }
 
     fn finish(&mut self) {
+        self.lost();
         self.source.finish();
     }
 }

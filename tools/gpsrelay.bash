@@ -6,7 +6,7 @@ _gpsrelay() {
     local line=${COMP_LINE:0:COMP_POINT} word
     word=${line##*[[:space:]]}
     if ((COMP_CWORD == 1)); then
-        mapfile -t COMPREPLY < <(compgen -W "serve decode pseudo lines replay generate help" -- "$cur")
+        mapfile -t COMPREPLY < <(compgen -W "serve decode pseudo lines replay generate help version" -- "$cur")
         return
     fi
     case $prev in

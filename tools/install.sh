@@ -62,6 +62,7 @@ link ../share/gpsrelay/view.py bin/gpsrelay-view
 644 examples/chain.env share/doc/gpsrelay/examples/chain.env
 644 samples/drive.nmea share/doc/gpsrelay/examples/drive.nmea
 644 samples/two_devices.script share/doc/gpsrelay/examples/two_devices.script
+644 samples/two_devices.md share/doc/gpsrelay/examples/two_devices.md
 644 README.md share/doc/gpsrelay/README.md
 FILES
     (cd "$top" && for it in docs/*.md; do echo "644 $it share/doc/gpsrelay/$it"; done)
@@ -80,9 +81,9 @@ install_all() {
         mkdir -p "$root/$(dirname "$to")"
         case $mode:$from in
         link:*) ln -sf "$from" "$root/$to" ;;
-        *:/*) cp "$from" "$root/$to" ;;
+        *:/*) cp --remove-destination "$from" "$root/$to" ;;
         *.service) sed "s#@PREFIX@#$prefix#g" "$top/$from" >"$root/$to" ;;
-        *) cp "$top/$from" "$root/$to" ;;
+        *) cp --remove-destination "$top/$from" "$root/$to" ;;
         esac
         [ "$mode" = link ] || chmod "$mode" "$root/$to"
         number=$((number + 1))

@@ -104,6 +104,7 @@ def bad_clients():
     check("one byte at a time", VERSION, slow.line())
     gone.send(b'?WATCH={"json":true};?POLL;?POLL;?POL')
     gone.reset()
+    time.sleep(0.5)  # the daemon notices it, so that its end is not what closes this session
     device.send(second(0) + second(1) + second(2))
     device.end()
     check("the good client has it all", ["DEVICE", "TPV", "TPV", "TPV", "DEVICE"], classes_of(good.lines()))

@@ -75,7 +75,7 @@ def two_in_a_chain():
 def middle_killed():
     device, other = TcpDevice("gps0"), TcpDevice("own")
     first = Daemon(PROGRAM, "--wait", "1", device.word)
-    middle = behind(first.listening().port)
+    middle = behind(first.listening().port, words=["--wait", "1"])
     last = behind(middle.listening().port, words=[other.word])
     client = watch(last)
     device.take(), other.take()

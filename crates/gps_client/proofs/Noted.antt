@@ -3,6 +3,7 @@ use Rattle.std.proofs.Common.{◌≡◌, ℕ, zero, suc, ◌+◌, ◌-◌, ◌*�
 use Rattle.std.specs.Prelude.{nat_le, nat_eq, nat_lt, int_le, ◌==◌, is_some, is_none}
 use Rattle.std.specs.Option.{option_and_then}
 use Rattle.std.specs.List.{list_all, AllByRecursion}
+use Rattle.std.specs.Str.{bytes_eq}
 use Rattle.std.specs.Int.{w32, cast_signed}
 use Rattle.std.specs.Char.{is_ascii_digit}
 use Rattle.std.proofs.lemmas.Bool.{and_parts, and_from, ltb-true}
@@ -23,11 +24,11 @@ use Rattle.gps_report.specs.declared.satellite.Satellite.{Satellite}
 use Rattle.gps_report.specs.Fits.{Fits, is_satellite, where_given, is_id, is_named_system}
 use Rattle.gps_report.specs.Note.{empty_note}
 use Rattle.nmea_frame.specs.Sentence.{body_of}
-use Rattle.nmea_decode.specs.Fields.{address_of, fields_of}
+use Rattle.nmea_decode.specs.Fields.{address_of, field_at, fields_of}
 use Rattle.nmea_decode.specs.Kinds.{is_address}
-use Rattle.nmea_decode.specs.Notes.{Said, body_note, gga, gll, gsa, gsv, plainly, rmc, said_at, said_by, sentence_note, timed, vtg, where_valid, zda}
+use Rattle.nmea_decode.specs.Notes.{Said, Contents, SingleFields, UsedSatellites, SeenSatellites, SentenceKind, FieldNumbers, StatusField, Unstated, body_note, gsa, gsv, plain_note, plainly, position_in, quantity_in, said_among, said_at, said_by, said_with, sentence_kinds, sentence_note, status_in, timed, where_valid, where_valid_by}
 use Rattle.nmea_decode.specs.Places.{angle, both, latitude_of, longitude_of, on_side, position_of}
-use Rattle.nmea_decode.specs.Readings.{elevation_of, number_up_to, speed_of, track_of, up_to as upto, within_right_angle}
+use Rattle.nmea_decode.specs.Readings.{dilution_of, elevation_of, height_of, number_up_to, speed_of, track_of, up_to as upto, within_right_angle}
 use Rattle.nmea_decode.specs.Satellites.{satellite_of, satellites_in, satellites_of}
 use Rattle.nmea_decode.proofs.Fitting.{result_fits}
 use Rattle.ubx_frame.specs.Frame.{is_byte, payload_of}
@@ -208,18 +209,36 @@ gsv_placed : (system : Option ℕ) (text : List ℕ) → AllByRecursion IsPlaced
 unfolding satellites_of
 gsv_placed system text = all_placed _ system _ text
 
--- each row of the kinds of sentences is in range
-row_ranged : (b : Bool) (row rest : Said) → IsRanged row.note → IsRanged rest.note → IsRanged (cond b row rest).note
-row_ranged true row rest this others = this
-row_ranged false row rest this others = others
+-- a sentence without a list
+valid_by_ranged : {X : Type 0} (P : X → Type 0) (status : StatusField) (text : List ℕ) (o : Option X) → IfSome o P → IfSome (where_valid_by status text o) P
+valid_by_ranged P Unstated text o h = h
+valid_by_ranged P status text o h = valid_ranged P (status_in status text) o h
 
-rmc_ranged : (text : List ℕ) → IsRanged (rmc text)
-unfolding rmc timed
-rmc_ranged text = record { position_in = valid_ranged IsPlace _ _ (position_ranged _ _ _ _); alt_hae_in = tt; alt_msl_in = tt; geoid_sep_in = tt; track_in = valid_ranged (HasNineDigits 4) _ _ (track_ranged _); speed_in = valid_ranged (HasNineDigits 3) _ _ (speed_ranged _); climb_in = tt; pdop_in = tt; hdop_in = tt; vdop_in = tt; sats_in = tt }
+quantity_ranged : {X : Type 0} (P : X → Type 0) (reading : List ℕ → Option X) → ((field : List ℕ) → IfSome (reading field) P)
+    → (k : Option ℕ) (status : StatusField) (text : List ℕ) → IfSome (quantity_in reading k status text) P
+quantity_ranged P reading h None status text = tt
+quantity_ranged P reading h (Some k) status text = valid_by_ranged P status text (reading (field_at k text)) (h (field_at k text))
 
-gga_ranged : (text : List ℕ) → IsRanged (gga text)
-unfolding gga timed
-gga_ranged text = record { position_in = valid_ranged IsPlace _ _ (position_ranged _ _ _ _); alt_hae_in = tt; alt_msl_in = valid_ranged (HasNineDigits 3) _ _ (scaled_ranged 3 _); geoid_sep_in = valid_ranged (HasNineDigits 3) _ _ (scaled_ranged 3 _); track_in = tt; speed_in = tt; climb_in = tt; pdop_in = tt; hdop_in = valid_ranged IsU32 _ _ (small_number 9_999 2 _ (omega arith)); vdop_in = tt; sats_in = tt }
+position_in_ranged : (k : Option ℕ) (status : StatusField) (text : List ℕ) → IfSome (position_in k status text) IsPlace
+position_in_ranged None status text = tt
+position_in_ranged (Some k) status text =
+    valid_by_ranged IsPlace status text (position_of (field_at k text) (field_at (k + 1) text) (field_at (k + 2) text) (field_at (k + 3) text)) (position_ranged _ _ _ _)
+
+plain_ranged : (row : FieldNumbers) (text : List ℕ) → IsRanged (plain_note row text)
+unfolding plain_note timed
+plain_ranged row text = record {
+  position_in = position_in_ranged row.position row.status text;
+  alt_hae_in = tt;
+  alt_msl_in = quantity_ranged (HasNineDigits 3) height_of (λ field. scaled_ranged 3 field) row.alt_msl row.status text;
+  geoid_sep_in = quantity_ranged (HasNineDigits 3) height_of (λ field. scaled_ranged 3 field) row.geoid_sep row.status text;
+  track_in = quantity_ranged (HasNineDigits 4) track_of track_ranged row.track row.status text;
+  speed_in = quantity_ranged (HasNineDigits 3) speed_of speed_ranged row.speed row.status text;
+  climb_in = tt;
+  pdop_in = tt;
+  hdop_in = quantity_ranged IsU32 dilution_of (λ field. small_number 9_999 2 field (omega arith)) row.hdop row.status text;
+  vdop_in = tt;
+  sats_in = tt;
+}
 
 gsv_ranged : (talker text : List ℕ) → IsRanged (gsv talker text)
 unfolding gsv
@@ -229,27 +248,26 @@ gsa_ranged : (text : List ℕ) → IsRanged (gsa text)
 unfolding gsa
 gsa_ranged text = record { position_in = tt; alt_hae_in = tt; alt_msl_in = tt; geoid_sep_in = tt; track_in = tt; speed_in = tt; climb_in = tt; pdop_in = small_number 9_999 2 _ (omega arith); hdop_in = small_number 9_999 2 _ (omega arith); vdop_in = small_number 9_999 2 _ (omega arith); sats_in = tt }
 
-vtg_ranged : (text : List ℕ) → IsRanged (vtg text)
-unfolding vtg
-vtg_ranged text = record { position_in = tt; alt_hae_in = tt; alt_msl_in = tt; geoid_sep_in = tt; track_in = track_ranged _; speed_in = speed_ranged _; climb_in = tt; pdop_in = tt; hdop_in = tt; vdop_in = tt; sats_in = tt }
+-- what each kind of sentence says is in range, so what is found among them is
+contents_ranged : (contents : Contents) (talker text : List ℕ) → IsRanged (said_with contents talker text).note
+contents_ranged (SingleFields row) talker text = plain_ranged row text
+contents_ranged UsedSatellites talker text = gsa_ranged text
+contents_ranged SeenSatellites talker text = gsv_ranged talker text
 
-gll_ranged : (text : List ℕ) → IsRanged (gll text)
-unfolding gll timed
-gll_ranged text = record { position_in = valid_ranged IsPlace _ _ (position_ranged _ _ _ _); alt_hae_in = tt; alt_msl_in = tt; geoid_sep_in = tt; track_in = tt; speed_in = tt; climb_in = tt; pdop_in = tt; hdop_in = tt; vdop_in = tt; sats_in = tt }
+either_ranged : (b : Bool) (this rest : Said) → IsRanged this.note → IsRanged rest.note → IsRanged (cond b this rest).note
+either_ranged true this rest first second = first
+either_ranged false this rest first second = second
 
-zda_ranged : (text : List ℕ) → IsRanged (zda text)
-unfolding zda timed
-zda_ranged text = record { position_in = tt; alt_hae_in = tt; alt_msl_in = tt; geoid_sep_in = tt; track_in = tt; speed_in = tt; climb_in = tt; pdop_in = tt; hdop_in = tt; vdop_in = tt; sats_in = tt }
-
-said_ranged : (name talker text : List ℕ) → IsRanged (said_by name talker text).note
-said_ranged name talker text =
-    row_ranged _ _ _ (rmc_ranged text) (row_ranged _ _ _ (gga_ranged text) (row_ranged _ _ _ (gsv_ranged talker text) (row_ranged _ _ _ (gsa_ranged text)
-    (row_ranged _ _ _ (vtg_ranged text) (row_ranged _ _ _ (gll_ranged text) (row_ranged _ _ _ (zda_ranged text) (empty_ranged Other)))))))
+said_ranged : (kinds : List SentenceKind) (name talker text : List ℕ) → IsRanged (said_among kinds name talker text).note
+said_ranged [] name talker text = empty_ranged Other
+said_ranged (kind ∷ kinds) name talker text =
+    either_ranged (bytes_eq name kind.name) (said_with kind.contents talker text) (said_among kinds name talker text)
+    (contents_ranged kind.contents talker text) (said_ranged kinds name talker text)
 
 ranged_at : (address text : List ℕ) → IsRanged (said_at address text).note
 ranged_at address text =
-    row_ranged (is_address address) (said_by (drop 2 address) (take 2 address) text) (plainly (empty_note Other))
-    (said_ranged (drop 2 address) (take 2 address) text) (empty_ranged Other)
+    either_ranged (is_address address) (said_by (drop 2 address) (take 2 address) text) (plainly (empty_note Other))
+    (said_ranged sentence_kinds (drop 2 address) (take 2 address) text) (empty_ranged Other)
 
 pub sentence_ranged : (sentence : List ℕ) → IsRanged (sentence_note sentence)
 unfolding sentence_note body_note

@@ -4,7 +4,7 @@ use Rattle.gps_outside.specs.declared.intake.IntakeStep.{IntakeStep}
 use Rattle.gps_outside.specs.declared.intake.IntakeStep.TheVariants.{Piece, Quiet, Last, End, Failed, TooQuiet}
 use Rattle.gps_outside.specs.declared.whole.ReadEnd.{ReadEnd}
 use Rattle.gps_outside.specs.declared.whole.ReadEnd.TheVariants.{AtEnd, Full, Failed as EndsFailed, TooQuiet as EndsTooQuiet}
-use Rattle.gps_outside.specs.Counts.{Rose, RoseBy}
+use Rattle.gps_outside.specs.Counts.{Rose, RoseBy, many_more, one_more}
 use Rattle.gps_outside.specs.Told.{Stream, Goes, Stays, Passes, IsAtEnd, MayLose}
 
 -- how many bytes may still be taken, and how many quiets were counted; the thousandth quiet ends the reading
@@ -56,11 +56,30 @@ IntakeGoesOn End before after = Unit {0}
 IntakeGoesOn Failed before after = Unit {0}
 IntakeGoesOn TooQuiet before after = Unit {0}
 
--- So far these bytes were handed on, and the quiets rose as often as they were counted.
-pub record HasTaken (limit : ℕ) (bytes : List ℕ) (budget : Budget) (before now : Option Stream) (quiets_before quiets_now : ℕ) : Type 0 where
+-- the source's faults rise only in the step that answers Failed
+abbrev pub StepFailsOnly : IntakeStep → ℕ → ℕ → Type 0
+StepFailsOnly (Piece n) before after = after ≡ before
+StepFailsOnly Quiet before after = after ≡ before
+StepFailsOnly (Last n) before after = after ≡ before
+StepFailsOnly End before after = after ≡ before
+StepFailsOnly Failed before after = Unit {0}
+StepFailsOnly TooQuiet before after = after ≡ before
+
+-- the source counts one quiet in each step to which nothing came, and in no other
+abbrev pub StepCountsQuiet : IntakeStep → ℕ → ℕ → Type 0
+StepCountsQuiet (Piece n) before after = after ≡ before
+StepCountsQuiet Quiet before after = after ≡ one_more before
+StepCountsQuiet (Last n) before after = after ≡ before
+StepCountsQuiet End before after = after ≡ before
+StepCountsQuiet Failed before after = after ≡ before
+StepCountsQuiet TooQuiet before after = after ≡ one_more before
+
+-- So far these bytes were handed on, no read failed, and nothing came as often as the budget says.
+pub record HasTaken (limit : ℕ) (bytes : List ℕ) (budget : Budget) (before now : Option Stream) (faults_before faults_now quiets_before quiets_now : ℕ) : Type 0 where
   pub passed : Goes (Passes bytes) before now
   pub room : length bytes + budget.room ≡ limit
-  pub quiet : RoseBy budget.quiets quiets_before quiets_now
+  pub no_fault : faults_now ≡ faults_before
+  pub quiet : quiets_now ≡ many_more budget.quiets quiets_before
 
 -- the bytes are all that was left
 pub record TakesAll (bytes : List ℕ) (before after : Stream) : Type 0 where
@@ -82,9 +101,13 @@ ReadsToEnd Full limit bytes before after = (length bytes ≡ limit) × Goes (Pas
 ReadsToEnd EndsFailed limit bytes before after = (length bytes ≤ limit) × Goes (TakesSome bytes) before after
 ReadsToEnd EndsTooQuiet limit bytes before after = (length bytes ≤ limit) × Goes (Passes bytes) before after
 
--- the counts that must have risen if a reading ends so: the source's faults, or its quiets by a thousand
+-- nothing came fewer than a thousand times
+abbrev pub IsQuietSometimes : ℕ → ℕ → Type 0
+IsQuietSometimes before now = (n : ℕ) × ((n < 1000) × (now ≡ many_more n before))
+
+-- What the counts say if a reading ends so: the source's faults rose exactly if it failed, and the thousandth quiet ends it.
 abbrev pub ReadHasCause : ReadEnd → ℕ → ℕ → ℕ → ℕ → Type 0
-ReadHasCause AtEnd faults faults' quiets quiets' = Unit {0}
-ReadHasCause Full faults faults' quiets quiets' = Unit {0}
-ReadHasCause EndsFailed faults faults' quiets quiets' = Rose faults faults'
-ReadHasCause EndsTooQuiet faults faults' quiets quiets' = RoseBy 1000 quiets quiets'
+ReadHasCause AtEnd faults faults' quiets quiets' = (faults' ≡ faults) × IsQuietSometimes quiets quiets'
+ReadHasCause Full faults faults' quiets quiets' = (faults' ≡ faults) × IsQuietSometimes quiets quiets'
+ReadHasCause EndsFailed faults faults' quiets quiets' = Rose faults faults' × IsQuietSometimes quiets quiets'
+ReadHasCause EndsTooQuiet faults faults' quiets quiets' = (faults' ≡ faults) × (quiets' ≡ many_more 1000 quiets)

@@ -1,7 +1,8 @@
 -- What one read of a source may answer.
-use Rattle.std.specs.Prelude.{ℕ, ◌≤◌, List, take, Option}
+use Rattle.std.specs.Prelude.{◌≡◌, ℕ, ◌≤◌, List, take, Option}
 use Rattle.gps_outside.specs.declared.source.ReadStep.{ReadStep}
 use Rattle.gps_outside.specs.declared.source.ReadStep.TheVariants.{Got, End, Quiet, Failed}
+use Rattle.gps_outside.specs.Counts.{one_more}
 use Rattle.gps_outside.specs.Told.{Stream, Goes, Stays, Passes, IsAtEnd, MayLose}
 
 -- bytes that were got are some, and no more than the buffer has room for
@@ -17,3 +18,17 @@ Reads (Got n) buffer before after = Goes (Passes (take n buffer)) before after
 Reads End buffer before after = Goes IsAtEnd before after
 Reads Quiet buffer before after = Goes Stays before after
 Reads Failed buffer before after = Goes MayLose before after
+
+-- a source's faults rise only if it answers Failed
+abbrev pub FailsOnly : ReadStep → ℕ → ℕ → Type 0
+FailsOnly (Got n) before after = after ≡ before
+FailsOnly End before after = after ≡ before
+FailsOnly Quiet before after = after ≡ before
+FailsOnly Failed before after = Unit {0}
+
+-- a source counts each answer Quiet once, and no other answer
+abbrev pub CountsQuiet : ReadStep → ℕ → ℕ → Type 0
+CountsQuiet (Got n) before after = after ≡ before
+CountsQuiet End before after = after ≡ before
+CountsQuiet Quiet before after = after ≡ one_more before
+CountsQuiet Failed before after = after ≡ before

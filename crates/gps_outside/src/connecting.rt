@@ -1,3 +1,4 @@
+use crate::Listening;
 use std::io::{self, ErrorKind};
 use std::net::{Net, TcpStream, ToSocketAddrs};
 use std::time::{Clock, Duration};
@@ -5,8 +6,16 @@ use std::time::{Clock, Duration};
 /// How many seconds the hosts of one address may take to answer, all together.
 const CONNECT_WAIT: u64 = 5;
 
-/// Connects to HOST:PORT, within five seconds. An address of the host that refuses is followed by its next one.
-pub fn connect<R: Net<Stream = TcpStream> + Clock>(
+/// Why no connection came about.
+#[derive(Clone, Copy, Debug)]
+pub enum ConnectFault {
+    /// The daemon itself listens there.
+    Own,
+    /// The address is none, or its host refuses or does not answer. Not to answer within five seconds is a time-out.
+    Unreached(io::Error),
+}
+
+fn connect_any<R: Net<Stream = TcpStream> + Clock>(
     machine: &R,
     address: &str,
 ) -> io::Result<TcpStream> {
@@ -24,4 +33,17 @@ pub fn connect<R: Net<Stream = TcpStream> + Clock>(
         }
     }
     Err(last)
+}
+
+/// Connects to HOST:PORT, within five seconds. An address of the host that refuses is followed by its next one.
+pub fn connect<R: Net<Stream = TcpStream> + Clock>(
+    machine: &R,
+    address: &str,
+    listening: &Listening,
+) -> Result<TcpStream, ConnectFault> {
+    match connect_any(machine, address) {
+        Ok(stream) if listening.is_peer_of(&stream) => Err(ConnectFault::Own),
+        Ok(stream) => Ok(stream),
+        Err(error) => Err(ConnectFault::Unreached(error)),
+    }
 }

@@ -1,4 +1,4 @@
-use crate::{Closer, Sink, Source};
+use crate::{ClientSink, Closer, Source};
 
 /// What one call of a door answers.
 #[derive(Drop)]
@@ -22,7 +22,7 @@ pub trait Door: Drop {
 
     type In: Source;
 
-    type Out: Sink;
+    type Out: ClientSink;
 
     /// How often the door failed.
     ghost faults: { Self → ℕ };

@@ -1,8 +1,11 @@
 ghost use Rattle.std.specs.Prelude.{◌≡◌, IfOk, true};
 ghost use Rattle.std.specs.Io.{ReadsAtMost};
 
-use crate::connecting::connect;
+use crate::connecting::{ConnectFault, connect};
 use crate::idle_timer::IdleTimer;
+use crate::kept_pipe::KeptPipe;
+use crate::listening::Listening;
+use crate::readable::is_readable;
 use crate::reader_source::is_quiet;
 use gps_fixed::Bytes;
 use std::alloc::Global;
@@ -10,14 +13,20 @@ use std::fs::{self, File};
 use std::io::{self, BufReader, ErrorKind, Read, Stdin};
 use std::net::{Net, TcpStream};
 use std::rt::Files;
-use std::str;
 use std::time::{Clock, Duration};
+use std::{mem, str};
 
 /// How many bytes one read asks of a file or of standard input.
 pub(crate) const AHEAD: usize = 32_768;
 
 /// How many seconds a read of a host waits for bytes.
-const HOST_WAIT: u64 = 60;
+const HOST_WAIT: u64 = 1;
+
+/// How many milliseconds a read of a terminal, a pipe or another device waits for bytes.
+const DEVICE_WAIT: i32 = 1_000;
+
+/// How many reads of a link that is idle for too long may follow one another, while bytes of it are ready. More than a request needs.
+const LATE_READS: u32 = 8;
 
 /// What the next read of a source waits for, before it can give bytes.
 #[derive(Clone, Copy, Debug, PartialEq, Eq)]
@@ -33,8 +42,10 @@ pub enum Awaited {
 pub(crate) struct Link {
     stream: TcpStream,
     timer: IdleTimer,
-    /// How long a read waits for bytes.
+    /// How long a read waits for bytes. The stream's own time-out stays as it is, since what delivers to the client sets and uses it too.
     wait: Duration,
+    /// How many reads came since the link is idle for too long.
+    late: u32,
 }
 
 /// What a real source reads. At its end, and after a fault, it has closed what it read.
@@ -42,17 +53,28 @@ pub(crate) struct Link {
 pub(crate) enum Inlet {
     /// A pipe with a name, which is opened by the first read: that waits for a writer.
     Pipe(Global, Bytes),
+    /// A pipe with a name before the first bytes of a writer.
+    Kept(KeptPipe),
     /// A host, to which the first read connects.
-    Host(Bytes),
+    Host(Bytes, Listening),
     File(BufReader<File>),
+    /// A terminal, a pipe or another device, whose reads have a time-out.
+    Device(BufReader<File>),
     Input(BufReader<Stdin>),
     Stream(TcpStream),
     Link(Link),
     Ended,
     Broken(io::Error),
+    /// A host that is this daemon itself.
+    Own,
 }
 
-fn text_of(bytes: &Bytes) -> io::Result<&str> {
+/// Why a daemon does not read itself.
+fn own_fault() -> io::Error {
+    io::Error::new(ErrorKind::Uncategorized, "this daemon itself listens there")
+}
+
+pub(crate) fn text_of(bytes: &Bytes) -> io::Result<&str> {
     match str::from_utf8(bytes.as_slice()) {
         Ok(text) => Ok(text),
         Err(_) => Err(io::Error::from(ErrorKind::InvalidInput)),
@@ -61,23 +83,35 @@ fn text_of(bytes: &Bytes) -> io::Result<&str> {
 
 fn open_pipe<R: Files<File = File>>(machine: &R, alloc: Global, path: &Bytes) -> io::Result<Inlet> {
     let file = fs::open(machine, text_of(path)?)?;
-    Ok(Inlet::File(BufReader::with_capacity(alloc, AHEAD, file)?))
+    Ok(Inlet::Device(BufReader::with_capacity(alloc, AHEAD, file)?))
+}
+
+fn timed_out() -> io::Error {
+    io::Error::from(ErrorKind::TimedOut)
+}
+
+/// Reads a device, with a time-out.
+fn read_device(device: &mut BufReader<File>, buf: &mut [u8]) -> io::Result<usize>
+    ensures { ReadsAtMost result buf.new }
+{
+    if device.buffer().is_empty() && !is_readable(device.get_ref(), DEVICE_WAIT) {
+        return Err(timed_out());
+    }
+    device.read(buf)
 }
 
 fn open_host<R: Net<Stream = TcpStream> + Clock>(
     machine: &R,
     address: &Bytes,
+    listening: &Listening,
 ) -> io::Result<Inlet> {
-    match connect(machine, text_of(address)?) {
+    match connect(machine, text_of(address)?, listening) {
         Ok(stream) => {
             stream.set_read_timeout(Some(Duration::from_secs(HOST_WAIT)))?;
             Ok(Inlet::Stream(stream))
         }
-        // A host that does not answer is a fault, if a stream without bytes is only quiet.
-        Err(error) if is_quiet(&error) => {
-            Err(io::Error::new(ErrorKind::HostUnreachable, "no answer within 5 seconds"))
-        }
-        Err(error) => Err(error),
+        Err(ConnectFault::Own) => Ok(Inlet::Own),
+        Err(ConnectFault::Unreached(error)) => Err(error),
     }
 }
 
@@ -88,33 +122,54 @@ impl Link {
             stream,
             timer: IdleTimer::new(now),
             wait,
+            late: 0,
         }
     }
 
-    fn set_wait(&mut self, now: Duration) {
-        let wait = self.timer.wait(now);
-        if wait != self.wait && self.stream.set_read_timeout(Some(wait)).is_ok() {
-            self.wait = wait;
+    /// Whether the link ends, as it is idle for too long and none of its bytes is ready. They are looked for, since this process may have been
+    /// stopped while they came.
+    fn is_over(&mut self, now: Duration) -> bool {
+        if !self.timer.is_over(now) {
+            self.late = 0;
+            return false;
         }
+        self.late = self.late.saturating_add(1);
+        self.late > LATE_READS || !is_readable(&self.stream, 0)
+    }
+
+    /// Takes the bytes that one read gave, which may be none. Whether the link ends.
+    fn take<R: Clock>(&mut self, machine: &R, bytes: &[u8]) -> bool {
+        let Ok(now) = machine.monotonic() else {
+            return false;
+        };
+        self.timer.take(bytes, now);
+        if self.is_over(now) {
+            return true;
+        }
+        self.wait = self.timer.wait(now);
+        false
+    }
+
+    fn read_once(&mut self, buf: &mut [u8]) -> io::Result<usize>
+        ensures { ReadsAtMost result buf.new }
+    {
+        let wait = i32::try_from(self.wait.as_millis()).unwrap_or(i32::MAX);
+        if !is_readable(&self.stream, wait) {
+            return Err(timed_out());
+        }
+        self.stream.read(buf)
     }
 
     fn read<R: Clock>(&mut self, machine: &R, buf: &mut [u8]) -> io::Result<usize>
         ensures { ReadsAtMost result buf.new }
     {
-        let result = self.stream.read(buf);
-        let Ok(now) = machine.monotonic() else {
-            return result;
+        let result = self.read_once(buf);
+        let is_over = match &result {
+            Ok(n) => self.take(machine, &buf[..*n]),
+            Err(error) if is_quiet(error) => self.take(machine, &[]),
+            Err(_) => false,
         };
-        match &result {
-            Ok(n) => self.timer.take(&buf[..*n], now),
-            Err(error) if is_quiet(error) => {}
-            Err(_) => return result,
-        }
-        if self.timer.is_over(now) {
-            return Ok(0);
-        }
-        self.set_wait(now);
-        result
+        if is_over { Ok(0) } else { result }
     }
 }
 
@@ -122,8 +177,8 @@ impl Inlet {
     /// What its next read opens.
     pub(crate) fn awaited(&self) -> Option<Awaited> {
         match self {
-            Inlet::Pipe(_, _) => Some(Awaited::Writer),
-            Inlet::Host(_) => Some(Awaited::Host),
+            Inlet::Pipe(_, _) | Inlet::Kept(_) => Some(Awaited::Writer),
+            Inlet::Host(_, _) => Some(Awaited::Host),
             _ => None,
         }
     }
@@ -131,17 +186,44 @@ impl Inlet {
     /// Whether bytes that came ahead are still to be handed on.
     pub(crate) fn is_ready(&self) -> bool {
         match self {
-            Inlet::File(file) => !file.buffer().is_empty(),
+            Inlet::File(file) | Inlet::Device(file) => !file.buffer().is_empty(),
             Inlet::Input(input) => !input.buffer().is_empty(),
             _ => false,
         }
+    }
+
+    /// Whether the next read would not wait for bytes of a stream.
+    pub(crate) fn is_readable(&self) -> bool {
+        match self {
+            Inlet::Stream(stream) => is_readable(stream, 0),
+            _ => false,
+        }
+    }
+
+    /// Whether it failed: then each read fails.
+    pub(crate) fn has_failed(&self) -> bool {
+        matches!(self, Inlet::Broken(_) | Inlet::Own)
+    }
+
+    /// Whether it is a host that is this daemon itself.
+    pub(crate) fn is_own(&self) -> bool {
+        matches!(self, Inlet::Own)
     }
 
     /// Why it failed.
     pub(crate) fn fault(&self) -> Option<io::Error> {
         match self {
             Inlet::Broken(error) => Some(*error),
+            Inlet::Own => Some(own_fault()),
             _ => None,
+        }
+    }
+
+    /// The first bytes of a writer have come.
+    fn begin_pipe(&mut self) {
+        match mem::replace(self, Inlet::Ended) {
+            Inlet::Kept(pipe) => *self = Inlet::Device(pipe.into_reader()),
+            other => *self = other,
         }
     }
 
@@ -152,7 +234,14 @@ impl Inlet {
     ) -> io::Result<()> {
         match self {
             Inlet::Pipe(alloc, path) => *self = open_pipe(machine, *alloc, path)?,
-            Inlet::Host(address) => *self = open_host(machine, address)?,
+            Inlet::Host(address, listening) => *self = open_host(machine, address, listening)?,
+            Inlet::Kept(pipe) => {
+                if pipe.has_bytes(DEVICE_WAIT) {
+                    self.begin_pipe();
+                } else {
+                    pipe.is_there(machine)?;
+                }
+            }
             _ => {}
         }
         Ok(())
@@ -163,15 +252,19 @@ impl Inlet {
     {
         match self {
             Inlet::File(file) => file.read(buf),
+            Inlet::Device(device) => read_device(device, buf),
             Inlet::Input(input) => input.read(buf),
             Inlet::Stream(stream) => stream.read(buf),
             Inlet::Link(link) => link.read(machine, buf),
+            Inlet::Kept(_) => Err(timed_out()),
             Inlet::Ended => Ok(0),
             Inlet::Broken(error) => Err(*error),
-            Inlet::Pipe(_, _) | Inlet::Host(_) => Err(io::Error::from(ErrorKind::NotConnected)),
+            Inlet::Own => Err(own_fault()),
+            Inlet::Pipe(_, _) | Inlet::Host(_, _) => Err(io::Error::from(ErrorKind::NotConnected)),
         }
     }
 
+    /// Reads once. A fault that is no lack of bytes breaks it, and so does each fault of its opening.
     pub(crate) fn read<R: Files<File = File> + Net<Stream = TcpStream> + Clock>(
         &mut self,
         machine: &R,
@@ -179,13 +272,14 @@ impl Inlet {
     ) -> io::Result<usize>
         ensures { ReadsAtMost result buf.new }
     {
-        let result = match self.open(machine) {
-            Ok(()) => self.read_open(machine, buf),
-            Err(error) => Err(error),
-        };
+        if let Err(error) = self.open(machine) {
+            *self = Inlet::Broken(error);
+            return Err(error);
+        }
+        let result = self.read_open(machine, buf);
         match &result {
             Ok(0) => *self = Inlet::Ended,
-            Err(error) if !is_quiet(error) => *self = Inlet::Broken(*error),
+            Err(error) if !is_quiet(error) && !self.has_failed() => *self = Inlet::Broken(*error),
             _ => {}
         }
         result

@@ -2,7 +2,7 @@ ghost use Rattle.std.specs.Prelude.{◌≡◌, ◌≤◌, ◌<◌, length};
 ghost use Rattle.gps_outside.specs.declared.intake.IntakeStep.{IntakeStep};
 ghost use Rattle.gps_outside.specs.Counts.{Rose};
 ghost use Rattle.gps_outside.specs.Told.{Goes, Stays};
-ghost use Rattle.gps_outside.specs.ReadSteps.{FitsRoom, IntakeGoesOn, Hands, Spends};
+ghost use Rattle.gps_outside.specs.ReadSteps.{FitsRoom, Hands, IntakeGoesOn, Spends, StepCountsQuiet, StepFailsOnly};
 
 use crate::{ReadStep, Source};
 use std::marker::Model;
@@ -18,7 +18,7 @@ pub enum IntakeStep {
     /// Nothing came this time; the reading goes on.
     Quiet,
     /// The limit is passed: this number of bytes at the head of the buffer, perhaps none, is the last within it, and what came
-    /// behind them was dropped. The reading is over.
+    /// after them was dropped. The reading is over.
     Last(usize),
     /// Nothing is left in the source. The reading is over.
     End,
@@ -50,7 +50,7 @@ impl Model for Intake {
 
 impl Intake {
     /// A reading of at most `limit` bytes.
-    pub fn new(limit: u32) -> Intake
+    pub fn new(limit: u64) -> Intake
         ensures { result ≡ record { room = limit; quiets = 0 } }
     {
         Intake {
@@ -72,6 +72,8 @@ impl Intake {
         ensures kept { S.keeps_at_fault source.old → result ≡ IntakeStep.Failed → Goes Stays (S.content source.old) (S.content source.new) }
         ensures quiet { result ≡ IntakeStep.Quiet → Rose (S.quiets source.old) (S.quiets source.new) }
         ensures too_quiet { result ≡ IntakeStep.TooQuiet → Rose (S.quiets source.old) (S.quiets source.new) }
+        ensures fails_only { StepFailsOnly result (S.faults source.old) (S.faults source.new) }
+        ensures counts_quiet { StepCountsQuiet result (S.quiets source.old) (S.quiets source.new) }
     {
         match source.read(buf) {
             ReadStep::Got(n) if n <= self.room => {

@@ -4,6 +4,7 @@
 //! adapter over std, which tells none. Faults and quiets are counted, so that an answer can show its cause.
 #![tactic(auto)]
 
+mod client_sink;
 mod clock;
 mod closer;
 mod connecting;
@@ -11,13 +12,16 @@ mod door;
 mod idle_timer;
 mod inlet;
 mod intake;
+mod kept_pipe;
 mod link_sink;
+mod listening;
 mod memory_clock;
 mod memory_door;
 mod memory_sink;
 mod memory_source;
 mod outbox;
 mod plan;
+mod readable;
 mod reader_source;
 mod real_clock;
 mod real_door;
@@ -27,13 +31,15 @@ mod sink;
 mod source;
 mod whole;
 
+pub use client_sink::{ClientSink, send_all};
 pub use clock::Clock;
 pub use closer::Closer;
-pub use connecting::connect;
+pub use connecting::{ConnectFault, connect};
 pub use door::{Door, DoorStep};
 pub use inlet::Awaited;
 pub use intake::{Intake, IntakeStep};
 pub use link_sink::LinkSink;
+pub use listening::Listening;
 pub use memory_clock::MemoryClock;
 pub use memory_door::MemoryDoor;
 pub use memory_sink::MemorySink;

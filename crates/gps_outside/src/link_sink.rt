@@ -1,8 +1,8 @@
 ghost use Rattle.std.specs.Prelude.{◌≡◌, ◌≤◌, length, IfOk};
 
 use crate::reader_source::is_quiet;
-use crate::{Sink, WriteStep};
-use std::io::{self, ErrorKind, Write};
+use crate::{ClientSink, WriteStep};
+use std::io::{self, ErrorKind, Read, Write};
 use std::marker::Model;
 use std::net::{Shutdown, TcpStream};
 use std::time::{Clock, Duration};
@@ -20,15 +20,28 @@ const LEFT: u64 = 10_000;
 /// How often a write is tried. More than fit into the time that it has.
 const TRIES: u32 = 10_000;
 
+/// How often what a client still sends is read. More than fit into the time for what is left.
+const READS: u32 = 10_000_000;
+
+/// How many bytes of that are read at once.
+const REST: usize = 4_096;
+
 /// The link of a client as a sink, a TCP stream with no buffer between: each try of a write is one call of the system.
 ///
 /// It is seen as the number of its faults, and tells no content. A write is a fault if the client takes nothing for a second; a client that
 /// is slow but takes what it is sent keeps its link. Once the sink was told that it ends soon, all that is left has ten seconds, however the
 /// client takes it. A write that a signal interrupts begins anew.
+///
+/// It delivers within the same ten seconds: it says that nothing follows, reads and drops what the client still sends, and closes once the
+/// client has closed its side. A socket that is closed while bytes of the client are unread is reset, and then the system drops what it had
+/// still to send.
 #[derive(Drop)]
 pub struct LinkSink<R> {
     machine: R,
+    /// None once it is closed.
     stream: Option<TcpStream>,
+    /// Whether a write failed.
+    broken: bool,
     // When the time for what is left is over, by the machine's clock.
     end: Option<Duration>,
     faults: u64,
@@ -54,6 +67,7 @@ impl<R> LinkSink<R> {
         LinkSink {
             machine,
             stream: Some(stream),
+            broken: false,
             end: None,
             faults: 0,
         }
@@ -105,7 +119,63 @@ impl<R: Clock> LinkSink<R> {
     }
 }
 
-impl<R: Clock + Drop> Sink for LinkSink<R> {
+impl<R: Clock> LinkSink<R> {
+    /// Reads and drops what the client still sends, until it has closed its side.
+    fn drop_rest(&self, mut stream: &TcpStream) -> io::Result<()> {
+        let mut buf = [0u8; REST];
+        stream.set_read_timeout(Some(Duration::from_millis(STEP)))?;
+        'reads: for _ in 0..READS {
+            match stream.read(&mut buf) {
+                Ok(0) => return Ok(()),
+                Ok(_) => {}
+                Err(error) if is_quiet(&error) => {}
+                Err(error) => return Err(error),
+            }
+            if self.is_late(self.machine.monotonic()?) {
+                break;
+            }
+        }
+        Err(timed_out())
+    }
+
+    /// Says that nothing follows, and waits until the client has closed its side too.
+    fn part(&self, stream: &TcpStream) -> io::Result<()> {
+        stream.shutdown(Shutdown::Write)?;
+        self.drop_rest(stream)
+    }
+
+    /// Whether the client has closed its side in time, after all that was written.
+    fn has_parted(&self) -> bool {
+        match &self.stream {
+            Some(stream) if !self.broken => self.part(stream).is_ok(),
+            _ => false,
+        }
+    }
+
+    /// A read of the stream that waits ends at once.
+    fn close(&mut self)
+        ensures { self.new ≡ self.old }
+    {
+        if let Some(stream) = &self.stream {
+            let _ = stream.shutdown(Shutdown::Both);
+        }
+        self.stream = None;
+    }
+
+    /// From the first time on, all that is left has ten seconds.
+    fn set_end(&mut self)
+        ensures { self.new ≡ self.old }
+    {
+        if self.end.is_some() {
+            return;
+        }
+        if let Ok(now) = self.machine.monotonic() {
+            self.end = Some(now.saturating_add(Duration::from_millis(LEFT)));
+        }
+    }
+}
+
+impl<R: Clock + Drop> ClientSink for LinkSink<R> {
     ghost use Rattle.std.specs.Prelude.{None};
 
     ghost faults = { λ s. s };
@@ -116,6 +186,7 @@ impl<R: Clock + Drop> Sink for LinkSink<R> {
         match self.write_once(piece) {
             Ok(n) if n > 0 => WriteStep::Wrote(n),
             _ => {
+                self.broken = true;
                 self.faults = self.faults.saturating_add(1);
                 WriteStep::Failed
             }
@@ -124,19 +195,17 @@ impl<R: Clock + Drop> Sink for LinkSink<R> {
 
     /// From the first time on, all that is left has ten seconds.
     fn end_soon(&mut self) {
-        if self.end.is_some() {
-            return;
-        }
-        if let Ok(now) = self.machine.monotonic() {
-            self.end = Some(now.saturating_add(Duration::from_millis(LEFT)));
-        }
+        self.set_end();
     }
 
-    /// The stream is shut down on both sides, so that a read of it that waits ends at once, and is closed.
-    fn finish(&mut self) {
-        if let Some(stream) = &self.stream {
-            let _ = stream.shutdown(Shutdown::Both);
+    /// Waits until the client has closed its side, within what is left of the ten seconds, and closes. If a write had failed, it closes at once.
+    fn deliver(&mut self) -> bool {
+        self.set_end();
+        let parted = self.has_parted();
+        self.close();
+        if !parted {
+            self.faults = self.faults.saturating_add(1);
         }
-        self.stream = None;
+        parted
     }
 }

@@ -3,20 +3,20 @@ ghost use Rattle.gps_outside.specs.Links.{IsUnread, IsUnwritten};
 ghost use Rattle.gps_outside.specs.DoorPlans.{HaveLinks, by_entry};
 
 use crate::plan::next_entry;
-use crate::{AtEnd, Door, DoorPlan, DoorStep, Sink, Source};
+use crate::{AtEnd, ClientSink, Door, DoorPlan, DoorStep, Source};
 use std::marker::Model;
 use std::vec::IntoIter;
 
 /// A door in memory that follows a plan, entry by entry. After the plan it is closed, or quiet for ever, as `at_end` says.
 #[derive(Drop)]
-pub struct MemoryDoor<I: Source, K: Sink> {
+pub struct MemoryDoor<I: Source, K: ClientSink> {
     plan: IntoIter<DoorPlan<I, K>>,
     at_end: AtEnd,
     faults: u64,
     quiets: u64,
 }
 
-impl<I: Source, K: Sink> Model for MemoryDoor<I, K> {
+impl<I: Source, K: ClientSink> Model for MemoryDoor<I, K> {
     ghost use Rattle.std.specs.Vec.Iter.{into_iter_items};
     ghost use Rattle.gps_outside.specs.Links.{IsUnread, IsUnwritten};
     ghost use Rattle.gps_outside.specs.DoorPlans.{Gate, HaveLinks};
@@ -31,7 +31,7 @@ impl<I: Source, K: Sink> Model for MemoryDoor<I, K> {
         (λ sink. IsUnwritten (K.written sink) (K.faults sink)) (into_iter_items s.plan) };
 }
 
-impl<I: Source, K: Sink> MemoryDoor<I, K> {
+impl<I: Source, K: ClientSink> MemoryDoor<I, K> {
     /// Nothing was taken from a link's source and nothing was written to its sink, if they tell that.
     pub fn new(plan: Vec<DoorPlan<I, K>>, at_end: AtEnd) -> MemoryDoor<I, K>
         requires { HaveLinks
@@ -62,7 +62,7 @@ impl<I: Source, K: Sink> MemoryDoor<I, K> {
     }
 }
 
-impl<I: Source, K: Sink> Door for MemoryDoor<I, K> {
+impl<I: Source, K: ClientSink> Door for MemoryDoor<I, K> {
     ghost use Rattle.std.specs.Prelude.{◌≡◌, ◌≤◌, Some};
     ghost use Rattle.gps_outside.specs.declared.door.DoorStep.{DoorStep};
     ghost use Rattle.gps_outside.specs.Counts.{Rose};

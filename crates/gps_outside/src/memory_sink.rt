@@ -1,11 +1,11 @@
 ghost use Rattle.std.specs.Prelude.{◌≡◌, ◌≤◌, ◌<◌, [], length, drop, IfOk};
 ghost use Rattle.gps_outside.specs.declared.sink.WriteStep.{WriteStep};
 ghost use Rattle.gps_outside.specs.Counts.{Rose};
-ghost use Rattle.gps_outside.specs.Writes.{FitsPiece, Writes};
+ghost use Rattle.gps_outside.specs.Writes.{FailsOnly, FitsPiece, Writes};
 ghost use Rattle.gps_outside.specs.WritePlans.{taken, by_entry, answer_of, filled_after};
 
 use crate::plan::next_entry;
-use crate::{Sink, WritePlan, WriteStep};
+use crate::{ClientSink, Sink, WritePlan, WriteStep};
 use gps_fixed::NoMemory;
 use std::alloc::Global;
 use std::marker::Model;
@@ -67,19 +67,15 @@ impl MemorySink {
     }
 }
 
-impl Sink for MemorySink {
-    ghost use Rattle.std.specs.Prelude.{Some};
-
-    ghost faults = { λ s. s.faults };
-
-    ghost written = { λ s. Some s.written };
-
-    fn write(&mut self, piece: &[u8]) -> WriteStep
+impl MemorySink {
+    /// Writes as its plan says.
+    fn take(&mut self, piece: &[u8]) -> WriteStep
         requires { 0 < length piece.now }
         ensures fits { FitsPiece result (length piece.now) }
         ensures bytes { Writes result piece.now (Some self.old.written) (Some self.new.written) }
         ensures faults_stay { self.old.faults ≤ self.new.faults }
         ensures failed { result ≡ WriteStep.Failed → Rose self.old.faults self.new.faults }
+        ensures fails_only { FailsOnly result self.old.faults self.new.faults }
         ensures answer { result ≡ answer_of self.old (length piece.now) }
         ensures after { self.new ≡ filled_after result piece.now self.old }
     {
@@ -92,6 +88,40 @@ impl Sink for MemorySink {
             WriteStep::Failed => self.faults = self.faults.saturating_add(1),
         }
         step
+    }
+}
+
+impl Sink for MemorySink {
+    ghost use Rattle.std.specs.Prelude.{Some};
+
+    ghost faults = { λ s. s.faults };
+
+    ghost written = { λ s. Some s.written };
+
+    fn write(&mut self, piece: &[u8]) -> WriteStep
+        requires some { 0 < length piece.now }
+        ensures fits { FitsPiece result (length piece.now) }
+        ensures bytes { Writes result piece.now (Some self.old.written) (Some self.new.written) }
+        ensures faults_stay { self.old.faults ≤ self.new.faults }
+        ensures failed { result ≡ WriteStep.Failed → Rose self.old.faults self.new.faults }
+        ensures fails_only { FailsOnly result self.old.faults self.new.faults }
+        ensures answer { result ≡ answer_of self.old (length piece.now) }
+        ensures after { self.new ≡ filled_after result piece.now self.old }
+    {
+        self.take(piece)
+    }
+}
+
+/// As a client's link it delivers at once what it was written.
+impl ClientSink for MemorySink {
+    ghost use Rattle.std.specs.Prelude.{Some};
+
+    ghost faults = { λ s. s.faults };
+
+    ghost written = { λ s. Some s.written };
+
+    fn write(&mut self, piece: &[u8]) -> WriteStep {
+        self.take(piece)
     }
 }
 

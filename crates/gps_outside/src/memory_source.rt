@@ -1,7 +1,7 @@
 ghost use Rattle.std.specs.Prelude.{◌≡◌, ◌≤◌, ◌<◌, [], length, take, drop};
 ghost use Rattle.gps_outside.specs.declared.source.ReadStep.{ReadStep};
 ghost use Rattle.gps_outside.specs.Counts.{Rose};
-ghost use Rattle.gps_outside.specs.Reads.{FitsBuffer, Reads};
+ghost use Rattle.gps_outside.specs.Reads.{CountsQuiet, FailsOnly, FitsBuffer, Reads};
 ghost use Rattle.gps_outside.specs.ReadPlans.{given, by_entry, answer_of, held_after};
 
 use crate::plan::next_entry;
@@ -108,6 +108,8 @@ impl Source for MemorySource {
         ensures quiets_stay { self.old.quiets ≤ self.new.quiets }
         ensures failed { result ≡ ReadStep.Failed → Rose self.old.faults self.new.faults }
         ensures quiet { result ≡ ReadStep.Quiet → Rose self.old.quiets self.new.quiets }
+        ensures fails_only { FailsOnly result self.old.faults self.new.faults }
+        ensures counts_quiet { CountsQuiet result self.old.quiets self.new.quiets }
         ensures kept { result ≡ ReadStep.Failed → self.new.stream ≡ self.old.stream }
         ensures answer { result ≡ answer_of self.old (length buf.old) }
         ensures after { self.new ≡ held_after result self.old }

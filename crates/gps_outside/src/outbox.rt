@@ -50,9 +50,12 @@ impl Outbox {
     ///
     /// False: the sink failed.
     pub fn add<K: Sink>(&mut self, piece: &[u8], sink: &mut K) -> bool
+        requires takes { K.takes sink.old }
+        ensures takes { K.takes sink.new }
         ensures bytes { Sends result (self.old ++ piece.now) self.new (K.written sink.old) (K.written sink.new) }
         ensures faults_stay { K.faults sink.old ≤ K.faults sink.new }
         ensures failed { result ≡ false → Rose (K.faults sink.old) (K.faults sink.new) }
+        ensures fails_only { result ≡ true → K.faults sink.new ≡ K.faults sink.old }
     {
         if self.keep(piece) {
             return true;
@@ -67,11 +70,14 @@ impl Outbox {
     ///
     /// False: the sink failed.
     pub fn flush<K: Sink>(&mut self, sink: &mut K) -> bool
+        requires takes { K.takes sink.old }
+        ensures takes { K.takes sink.new }
         ensures bytes { WritesAll result self.old (K.written sink.old) (K.written sink.new) }
         ensures empty { self.new ≡ [] }
         ensures none { self.old ≡ [] → result ≡ true }
         ensures faults_stay { K.faults sink.old ≤ K.faults sink.new }
         ensures failed { result ≡ false → Rose (K.faults sink.old) (K.faults sink.new) }
+        ensures fails_only { result ≡ true → K.faults sink.new ≡ K.faults sink.old }
     {
         let wrote = write_all(sink, self.waiting.as_slice());
         self.waiting.clear();
@@ -82,10 +88,13 @@ impl Outbox {
     ///
     /// False: the sink failed.
     pub fn flush_unless_ready<S: Source, K: Sink>(&mut self, source: &S, sink: &mut K) -> bool
+        requires takes { K.takes sink.old }
+        ensures takes { K.takes sink.new }
         ensures bytes { Sends result self.old self.new (K.written sink.old) (K.written sink.new) }
         ensures kept { result ≡ true → (self.new ≡ []) ⊎ S.keeps_at_fault source.now }
         ensures faults_stay { K.faults sink.old ≤ K.faults sink.new }
         ensures failed { result ≡ false → Rose (K.faults sink.old) (K.faults sink.new) }
+        ensures fails_only { result ≡ true → K.faults sink.new ≡ K.faults sink.old }
     {
         source.is_ready() || self.flush(sink)
     }

@@ -39,7 +39,7 @@ impl<R: Read + Drop> Source for ReaderSource<R> {
     ghost use Rattle.gps_outside.specs.declared.source.ReadStep.{ReadStep};
     ghost use Rattle.gps_outside.specs.Counts.{Rose};
     ghost use Rattle.gps_outside.specs.Inflow.{HandsNext};
-    ghost use Rattle.gps_outside.specs.Reads.{FitsBuffer, Reads};
+    ghost use Rattle.gps_outside.specs.Reads.{CountsQuiet, FailsOnly, FitsBuffer, Reads};
 
     ghost faults = { λ s. s.faults };
 
@@ -55,6 +55,8 @@ impl<R: Read + Drop> Source for ReaderSource<R> {
         ensures quiets_stay { self.old.quiets ≤ self.new.quiets }
         ensures failed { result ≡ ReadStep.Failed → Rose self.old.faults self.new.faults }
         ensures quiet { result ≡ ReadStep.Quiet → Rose self.old.quiets self.new.quiets }
+        ensures fails_only { FailsOnly result self.old.faults self.new.faults }
+        ensures counts_quiet { CountsQuiet result self.old.quiets self.new.quiets }
         ensures next { HandsNext result buf.new self.old.to_come self.new.to_come }
     {
         match self.reader.read(buf) {

@@ -28,6 +28,16 @@ const SHUT: i32 = 22;
 /// firewall refuses the link (EPERM), or if the link's network failed before it was handed on.
 const PASSING: [i32; 13] = [1, 12, 23, 24, 64, 71, 92, 95, 100, 101, 105, 112, 113];
 
+/// What the system answers if it or this process has no file or no room left (ENOMEM, ENFILE, EMFILE, ENOBUFS).
+const LACKING: [i32; 4] = [12, 23, 24, 105];
+
+fn is_lacking(error: &io::Error) -> bool {
+    match error.raw_os_error() {
+        Some(code) => LACKING.contains(&code),
+        None => false,
+    }
+}
+
 /// Whether the next link may come all the same.
 fn is_passing(error: &io::Error) -> bool {
     let passes = match error.raw_os_error() {
@@ -69,6 +79,8 @@ pub struct RealDoor<R> {
     listener: TcpListener,
     faults: u64,
     quiets: u64,
+    /// Why the last call took no link.
+    lack: Option<io::Error>,
 }
 
 impl<R> Model for RealDoor<R> {
@@ -95,7 +107,13 @@ impl<R: time::Clock + Copy> RealDoor<R> {
             listener,
             faults: 0,
             quiets: 0,
+            lack: None,
         })
+    }
+
+    /// Why the last call took no link, if no file or no room was left for one.
+    pub fn lack(&self) -> Option<io::Error> {
+        self.lack
     }
 
     /// Where it listens.
@@ -109,6 +127,7 @@ impl<R: time::Clock + Copy> RealDoor<R> {
         let (stream, _) = self.listener.accept()?;
         match link_of(self.machine, stream) {
             Ok(link) => Ok(link),
+            Err(error) if is_lacking(&error) => Err(error),
             Err(_) => Err(io::Error::from(ErrorKind::ConnectionAborted)),
         }
     }
@@ -131,6 +150,7 @@ where
     ghost links = { λ _. None };
 
     fn accept(&mut self) -> DoorStep<RealSource<R>, LinkSink<R>> {
+        self.lack = None;
         match self.next_link() {
             Ok((source, sink)) => DoorStep::Link(source, sink),
             Err(error) if is_shut(&error) => DoorStep::Closed,
@@ -139,6 +159,7 @@ where
                 DoorStep::Quiet
             }
             Err(error) if is_passing(&error) => {
+                self.lack = is_lacking(&error).then_some(error);
                 self.machine.sleep(Duration::from_millis(REST));
                 self.quiets = self.quiets.saturating_add(1);
                 DoorStep::Quiet

@@ -1,8 +1,8 @@
 ghost use Rattle.std.specs.Prelude.{◌≡◌, IfOk};
 
 use crate::inlet::{AHEAD, Awaited, Inlet, Link};
-use crate::reader_source::is_quiet;
-use crate::{ReadStep, Source};
+use crate::kept_pipe::KeptPipe;
+use crate::{Listening, ReadStep, Source};
 use gps_fixed::{Bytes, NoMemory};
 use std::alloc::Global;
 use std::fs::File;
@@ -17,9 +17,9 @@ use std::time::{Clock, Duration};
 ///
 /// Of a file and of standard input it asks the system for more than a read may take, and hands what came ahead on to the
 /// next reads; it never waits for more than came at once. A stream is read as it is asked. What may wait long to be
-/// opened, a pipe with a name and a host, is opened by the first read. A read that times out is quiet; a host that does
-/// not answer within five seconds, or refuses, is a fault. After its end it stays ended, and after a fault each read is
-/// a fault.
+/// opened, a pipe with a name and a host, is opened by the first read. A read of a terminal, another device, a pipe or a
+/// host waits for bytes for a second, and is quiet then; a host that does not answer within five seconds, or refuses, is a
+/// fault, and so is one that is this daemon itself. After its end it stays ended, and after a fault each read is a fault.
 #[derive(Drop)]
 pub struct RealSource<R> {
     machine: R,
@@ -60,6 +60,18 @@ impl<R> RealSource<R> {
         }
     }
 
+    /// Reads a terminal, a pipe or another device, whose reads have a time-out.
+    pub fn of_device(machine: R, alloc: Global, file: File) -> Result<RealSource<R>, NoMemory>
+    where
+        R: Drop,
+        ensures { IfOk result (λ s. s ≡ record { faults = 0; quiets = 0 }) }
+    {
+        match BufReader::with_capacity(alloc, AHEAD, file) {
+            Ok(reader) => Ok(RealSource::new(machine, Inlet::Device(reader))),
+            Err(_) => Err(NoMemory),
+        }
+    }
+
     /// Reads standard input.
     pub fn of_input(machine: R, alloc: Global, input: Stdin) -> Result<RealSource<R>, NoMemory>
     where
@@ -79,11 +91,22 @@ impl<R> RealSource<R> {
         RealSource::new(machine, Inlet::Pipe(alloc, path))
     }
 
-    /// Reads what a host sends at this HOST:PORT. Its first read connects.
-    pub fn of_host(machine: R, address: Bytes) -> RealSource<R>
+    /// Reads the pipe of this path, and waits for no writer: until the first bytes of one the pipe is open at both ends. A writer that comes
+    /// and goes meanwhile without bytes is not seen. That the path is gone, or that of another file, is a fault.
+    pub fn of_kept_pipe(machine: R, alloc: Global, path: Bytes) -> io::Result<RealSource<R>>
+    where
+        R: Files<File = File> + Drop,
+        ensures { IfOk result (λ s. s ≡ record { faults = 0; quiets = 0 }) }
+    {
+        let pipe = KeptPipe::open(&machine, alloc, path)?;
+        Ok(RealSource::new(machine, Inlet::Kept(pipe)))
+    }
+
+    /// Reads what a host sends at this HOST:PORT, unless the daemon itself listens there. Its first read connects.
+    pub fn of_host(machine: R, address: Bytes, listening: Listening) -> RealSource<R>
         ensures { result ≡ record { faults = 0; quiets = 0 } }
     {
-        RealSource::new(machine, Inlet::Host(address))
+        RealSource::new(machine, Inlet::Host(address, listening))
     }
 
     /// Reads a TCP stream, with the time-out that it has.
@@ -113,6 +136,16 @@ impl<R> RealSource<R> {
         self.inlet.awaited()
     }
 
+    /// Whether the next read would not wait for bytes. Known of a stream alone; else false.
+    pub fn is_readable(&self) -> bool {
+        self.inlet.is_readable()
+    }
+
+    /// Whether it is a host that is this daemon itself, after that fault.
+    pub fn is_own(&self) -> bool {
+        self.inlet.is_own()
+    }
+
     /// Why it failed, after a fault.
     pub fn fault(&self) -> Option<io::Error> {
         self.inlet.fault()
@@ -134,13 +167,13 @@ impl<R: Files<File = File> + Net<Stream = TcpStream> + Clock + Drop> Source for 
         match self.inlet.read(&self.machine, buf) {
             Ok(0) => ReadStep::End,
             Ok(n) => ReadStep::Got(n),
-            Err(error) => {
-                if is_quiet(&error) {
-                    self.quiets = self.quiets.saturating_add(1);
-                    ReadStep::Quiet
-                } else {
+            Err(_) => {
+                if self.inlet.has_failed() {
                     self.faults = self.faults.saturating_add(1);
                     ReadStep::Failed
+                } else {
+                    self.quiets = self.quiets.saturating_add(1);
+                    ReadStep::Quiet
                 }
             }
         }

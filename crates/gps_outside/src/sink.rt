@@ -13,7 +13,10 @@ pub trait Sink: Drop {
     ghost use Rattle.gps_outside.specs.declared.sink.WriteStep.{WriteStep};
     ghost use Rattle.gps_outside.specs.Counts.{Rose};
     ghost use Rattle.gps_outside.specs.Told.{Goes, Stays};
-    ghost use Rattle.gps_outside.specs.Writes.{FitsPiece, Writes};
+    ghost use Rattle.gps_outside.specs.Writes.{FailsOnly, FitsPiece, Writes};
+
+    /// That it can be written: a sink is open until `finish`.
+    ghost takes: { Self → Type 0 } = { λ _. Unit {0} };
 
     /// How often a write failed.
     ghost faults: { Self → ℕ };
@@ -23,22 +26,19 @@ pub trait Sink: Drop {
 
     /// Writes a part of the piece from its head, as much as goes at once.
     fn write(&mut self, piece: &[u8]) -> WriteStep
-        requires { 0 < length piece.now }
+        requires some { 0 < length piece.now }
+        requires takes { takes self.old }
+        ensures takes { takes self.new }
         ensures fits { FitsPiece result (length piece.now) }
         ensures bytes { Writes result piece.now (written self.old) (written self.new) }
         ensures faults_stay { faults self.old ≤ faults self.new }
-        ensures failed { result ≡ WriteStep.Failed → Rose (faults self.old) (faults self.new) };
-
-    /// Says that what is still to be written is bounded, as when a session was closed, so that the sink may give it a bounded time.
-    fn end_soon(&mut self)
-        ensures bytes { written self.new ≡ written self.old }
-        ensures faults { faults self.new ≡ faults self.old }
-    {}
+        ensures failed { result ≡ WriteStep.Failed → Rose (faults self.old) (faults self.new) }
+        ensures fails_only { FailsOnly result (faults self.old) (faults self.new) };
 
     /// Says that nothing follows, so that what stands behind the sink may be closed.
     fn finish(&mut self)
         ensures bytes { Goes Stays (written self.old) (written self.new) }
-        ensures faults_stay { faults self.old ≤ faults self.new }
+        ensures faults { faults self.new ≡ faults self.old }
     {}
 }
 
@@ -50,9 +50,12 @@ ghost use Rattle.gps_outside.specs.Writes.{WritesAll};
 ///
 /// False: the sink failed, and a part of the piece from its head was written. An empty piece is written without a call.
 pub fn write_all<K: Sink>(sink: &mut K, piece: &[u8]) -> bool
+    requires takes { K.takes sink.old }
+    ensures takes { K.takes sink.new }
     ensures bytes { WritesAll result piece.now (K.written sink.old) (K.written sink.new) }
     ensures faults_stay { K.faults sink.old ≤ K.faults sink.new }
     ensures failed { result ≡ false → Rose (K.faults sink.old) (K.faults sink.new) }
+    ensures fails_only { result ≡ true → K.faults sink.new ≡ K.faults sink.old }
     ensures empty { piece.now ≡ [] → (result ≡ true) × (sink.new ≡ sink.old) }
 {
     let mut rest = piece;

@@ -17,7 +17,7 @@ pub trait Source: Drop {
     ghost use Rattle.gps_outside.specs.declared.source.ReadStep.{ReadStep};
     ghost use Rattle.gps_outside.specs.Counts.{Rose};
     ghost use Rattle.gps_outside.specs.Told.{Stream, Goes, HasMore, MayLose, Stays};
-    ghost use Rattle.gps_outside.specs.Reads.{FitsBuffer, Reads};
+    ghost use Rattle.gps_outside.specs.Reads.{CountsQuiet, FailsOnly, FitsBuffer, Reads};
 
     /// How often a read failed.
     ghost faults: { Self → ℕ };
@@ -40,6 +40,8 @@ pub trait Source: Drop {
         ensures quiets_stay { quiets self.old ≤ quiets self.new }
         ensures failed { result ≡ ReadStep.Failed → Rose (faults self.old) (faults self.new) }
         ensures quiet { result ≡ ReadStep.Quiet → Rose (quiets self.old) (quiets self.new) }
+        ensures fails_only { FailsOnly result (faults self.old) (faults self.new) }
+        ensures counts_quiet { CountsQuiet result (quiets self.old) (quiets self.new) }
         ensures kept { keeps_at_fault self.old → result ≡ ReadStep.Failed → Goes Stays (content self.old) (content self.new) };
 
     /// Whether bytes stand ready, so that the next read gives some without waiting. False says nothing.

@@ -22,7 +22,7 @@ pub enum ReadEnd {
 pub fn read_all<S: Source>(
     alloc: Global,
     source: &mut S,
-    limit: u32,
+    limit: u64,
 ) -> Result<(Vec<u8>, ReadEnd), NoMemory>
     ensures bytes { IfOk result (λ read. ReadsToEnd read.1 limit read.0.items (S.content source.old) (S.content source.new)) }
     ensures cause { IfOk result (λ read. ReadHasCause read.1 (S.faults source.old) (S.faults source.new) (S.quiets source.old) (S.quiets source.new)) }

@@ -4,7 +4,7 @@ use Rattle.std.proofs.lemmas.List.{append-nil}
 use Rattle.gps_outside.specs.declared.source.ReadStep.{ReadStep}
 use Rattle.gps_outside.specs.declared.source.ReadStep.TheVariants as answers
 use Rattle.gps_outside.specs.Counts.{Rose}
-use Rattle.gps_outside.specs.Reads.{FitsBuffer as FitsRead, Reads}
+use Rattle.gps_outside.specs.Reads.{CountsQuiet as ReadCountsQuiet, FailsOnly as ReadFailsOnly, FitsBuffer as FitsRead, Reads}
 use Rattle.gps_outside.specs.Told.{Stream, Goes, Stays, MayLose, Appends, AppendsPart}
 use Rattle.gps_outside.specs.ReadSteps.{TakesAll}
 use Rattle.gps_outside.proofs.Going.{goes_as}
@@ -15,7 +15,7 @@ use Rattle.gps_upstream.specs.declared.head.Head.{Head}
 use Rattle.gps_upstream.specs.declared.head.Head.TheVariants as heads
 use Rattle.gps_upstream.specs.declared.reading.HeadStep.{HeadStep}
 use Rattle.gps_upstream.specs.declared.reading.HeadStep.TheVariants as steps
-use Rattle.gps_upstream.specs.Reading.{FitsBuffer, Gives, Moves, StandsAt, handed_on}
+use Rattle.gps_upstream.specs.Reading.{CountsQuiet, FailsOnly, FitsBuffer, Gives, Moves, StandsAt, handed_on}
 use Rattle.upstream_laws.specs.Carried.{request}
 use Rattle.gps_upstream.specs.Upward.{IsOpen, Upward, content_by, content_of, faults_by, faults_of, head_at}
 use Rattle.gps_upstream.specs.Calls.{answer_of, got_of, Asks, AsksBy, DoesRead, GivenBy, HasEnded, HasFault, HasNothingLeft, IfGot, IsAsked, IsGiven, IsUnsent, LeavesSink, Took}
@@ -82,6 +82,8 @@ pub record ReadsOn (s : HeadStep) (room : ℕ) (buffer : List ℕ) (old new : Up
   pub quiets_stay : old.quiets ≤ new.quiets
   pub failed : s ≡ steps.Failed → Rose old.source_faults new.source_faults
   pub quiet : s ≡ steps.Quiet → Rose old.quiets new.quiets
+  pub fails_only : FailsOnly s old.source_faults new.source_faults
+  pub counts_quiet : CountsQuiet s old.quiets new.quiets
   pub device : new.device ≡ old.device
   pub written : new.written ≡ old.written
   pub sink_faults : new.sink_faults ≡ old.sink_faults
@@ -114,6 +116,30 @@ quiet_by steps.Failed e = absurd (cc)
 quiet_by (steps.Got n) e = absurd (cc)
 quiet_by steps.End e = absurd (cc)
 
+good_no_fault : (t : Stage) → t ≢ stages.Nowhere → faults_by (head_at t) ≡ 0
+good_no_fault stages.Inside not = refl
+good_no_fault stages.Behind not = refl
+good_no_fault stages.Nowhere not = absurd (not refl)
+
+same_faults : (a b k a' k' : ℕ) → a' ≡ a → k' ≡ k → b ≡ 0 → a' + k' + b ≡ a + k + 0
+same_faults a b k a' k' p q e = omega arith
+
+-- unless the source failed or the head is bad, nothing is counted
+no_more_faults : (s : HeadStep) (t : Stage) (a b k a' k' : ℕ) → StandsAt s t → b ≡ faults_by (head_at t) → FailsOnly s a a' → k' ≡ k
+    → ReadFailsOnly (answer_of s) (a + k + 0) (a' + k' + b)
+no_more_faults (steps.Got n) t a b k a' k' at is same sunk = same_faults a b k a' k' same sunk (is ∙ ap (λ (u : Stage). faults_by (head_at u)) at)
+no_more_faults steps.Bad t a b k a' k' at is same sunk = tt
+no_more_faults steps.End t a b k a' k' at is same sunk = same_faults a b k a' k' same sunk (is ∙ good_no_fault t at)
+no_more_faults steps.Quiet t a b k a' k' at is same sunk = same_faults a b k a' k' same sunk (is ∙ good_no_fault t at)
+no_more_faults steps.Failed t a b k a' k' at is same sunk = tt
+
+quiets_by : (s : HeadStep) (q q' : ℕ) → CountsQuiet s q q' → ReadCountsQuiet (answer_of s) q q'
+quiets_by (steps.Got n) q q' is = is
+quiets_by steps.Bad q q' is = is
+quiets_by steps.End q q' is = is
+quiets_by steps.Quiet q q' is = is
+quiets_by steps.Failed q q' is = is
+
 rose_bad : (a b k a' k' : ℕ) → a ≤ a' → k' ≡ k → b ≡ 1 → Rose (a + k + 0) (a' + k' + b)
 rose_bad a b k a' k' p q e = omega arith
 
@@ -140,6 +166,12 @@ module _ (s : HeadStep) (room : ℕ) (buffer : List ℕ) (old new : Upward) (r :
         | inl is ↦ rose_bad old.source_faults (faults_by new.head) old.sink_faults new.source_faults new.sink_faults r.faults_stay r.sink_faults (bad_now is)
         | inr is ↦ rose_source old.source_faults (faults_by new.head) old.sink_faults new.source_faults new.sink_faults (r.failed is) r.sink_faults
       ])
+
+  only_failed : ReadFailsOnly (answer_of s) (faults_of old) (faults_of new)
+  only_failed =
+      rw no_fault
+      (no_more_faults s new.stand.stage old.source_faults (faults_by new.head) old.sink_faults new.source_faults new.sink_faults
+      r.gives.stage (ap (λ (h : Head). faults_by h) r.at) r.fails_only r.sink_faults)
 
   leaves : LeavesSink old new
   leaves = record {
@@ -215,6 +247,8 @@ does_read s room buffer old new r = record {
   quiets_stay = r.quiets_stay;
   failed = rise s room buffer old new r;
   quiet = λ e. r.quiet (quiet_by s e);
+  fails_only = only_failed s room buffer old new r;
+  counts_quiet = quiets_by s old.quiets new.quiets r.counts_quiet;
   device = r.device;
   asked = asks_by s room buffer old new r old.head r.is_open;
   given = λ first given. given_on old new first r.is_open r.at r.device r.written given;
@@ -255,7 +289,7 @@ pub record FirstAsks (old mid : Upward) : Type 0 where
   pub quiets : mid.quiets ≡ old.quiets
   pub stand : mid.stand ≡ old.stand
   pub written : Goes (Appends (request old.device)) old.written mid.written
-  pub sink_faults : old.sink_faults ≤ mid.sink_faults
+  pub sink_faults : mid.sink_faults ≡ old.sink_faults
 
 asks_at : (h : Head) (old new : Upward) → h ≡ heads.Start → IsAsked old new → AsksBy h old new
 asks_at h old new e is = subst (λ (x : Head). AsksBy x old new) (sym e) (inl is)
@@ -275,9 +309,10 @@ module _ (result : ReadStep) (room : ℕ) (buffer : List ℕ) (old mid new : Upw
       ∙ same_content old.stand old.source
       ∙ ap (λ (h : Head). content_by h old.stand old.source) (sym f.before)
 
-  faults_first : faults_of old ≤ faults_of mid
+  faults_first : faults_of mid ≡ faults_of old
   faults_first =
       let start : faults_by old.head ≡ 0 = ap (λ (h : Head). faults_by h) f.before in
+      let asked : faults_by mid.head ≡ 0 = ap (λ (h : Head). faults_by h) f.between in
       let source = f.source_faults in
       let sink = f.sink_faults in
       omega arith
@@ -323,6 +358,8 @@ module _ (result : ReadStep) (room : ℕ) (buffer : List ℕ) (old mid new : Upw
     quiets_stay = let a = f.quiets in let b = d.quiets_stay in omega arith;
     failed = λ e. let a = faults_first in let b = d.failed e in omega arith;
     quiet = λ e. subst (λ n. Rose n new.quiets) f.quiets (d.quiet e);
+    fails_only = subst (λ n. ReadFailsOnly result n (faults_of new)) faults_first d.fails_only;
+    counts_quiet = subst (λ n. ReadCountsQuiet result n new.quiets) f.quiets d.counts_quiet;
     device = d.device ∙ f.device;
     asked = asks_at old.head old new f.before (record { whole = written_first; started = leaves_mid.started; sent = sent_first });
     given = given_first;
@@ -405,6 +442,8 @@ module _ (room : ℕ) (buffer : List ℕ) (old new : Upward) (f : FirstFails old
     quiets_stay = let a = f.quiets in omega arith;
     failed = λ _. rise_sink;
     quiet = λ e. absurd (cc);
+    fails_only = tt;
+    counts_quiet = f.quiets;
     device = f.device;
     asked = asks_not old.head old new f.before (record { part = f.written; unsent = f.after; rose = f.rose; source = f.source; stand = f.stand });
     given = given_unsent;

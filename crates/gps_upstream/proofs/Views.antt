@@ -14,7 +14,7 @@ use Rattle.gps_upstream.specs.declared.upstream.Asked.{Asked}
 use Rattle.gps_upstream.specs.declared.upstream.Asked.TheVariants as askings
 use Rattle.gps_upstream.specs.declared.reading.HeadStep.{HeadStep}
 use Rattle.gps_upstream.specs.declared.reading.HeadStep.TheVariants as steps
-use Rattle.gps_upstream.specs.Reading.{FitsBuffer, Gives}
+use Rattle.gps_upstream.specs.Reading.{CountsQuiet, FailsOnly, FitsBuffer, Gives}
 use Rattle.upstream_laws.specs.Carried.{request}
 use Rattle.gps_upstream.specs.Upward.{IsOpen, Upward, content_by, handed, head_at, head_by, left_by, same_stand, seen}
 use Rattle.gps_upstream.specs.Calls.{answer_of, AsksBy, DoesRead, LeavesSink}
@@ -77,8 +77,9 @@ pub read_seen : (s : HeadStep) (room : ℕ) (buffer : List ℕ) (device : Option
     → IsOpen (head_by a old.stage)
     → FitsBuffer s room → Gives s buffer old new c d
     → f ≤ f' → q ≤ q' → (s ≡ steps.Failed → Rose f f') → (s ≡ steps.Quiet → Rose q q')
+    → FailsOnly s f f' → CountsQuiet s q q'
     → DoesRead (answer_of s) room buffer (seen device a old c f q w k) (seen device a new d f' q' w k)
-read_seen s room buffer device a old new c d f f' q q' w k is_open fits gives faults quiets failed quiet =
+read_seen s room buffer device a old new c d f f' q q' w k is_open fits gives faults quiets failed quiet fails_only counts_quiet =
     does_read s room buffer (seen device a old c f q w k) (seen device a new d f' q' w k) (record {
       is_open = is_open;
       at = ap (λ (x : Asked). head_by x new.stage) (whole_open a old.stage is_open);
@@ -88,6 +89,8 @@ read_seen s room buffer device a old new c d f f' q q' w k is_open fits gives fa
       quiets_stay = quiets;
       failed = failed;
       quiet = quiet;
+      fails_only = fails_only;
+      counts_quiet = counts_quiet;
       device = refl;
       written = refl;
       sink_faults = refl;
@@ -96,10 +99,10 @@ read_seen s room buffer device a old new c d f f' q q' w k is_open fits gives fa
 pub first_seen : (result : ReadStep) (room : ℕ) (buffer : List ℕ) (device : Option (List ℕ)) (a : Asked) (s : Stand)
     → (c : Option Stream) (f q : ℕ) (w w' : Option (List ℕ)) (k k' : ℕ) (new : Upward)
     → head_by a s.stage ≡ heads.Start → s ≡ fresh
-    → Goes (Appends (request device)) w w' → k ≤ k'
+    → Goes (Appends (request device)) w w' → k' ≡ k
     → DoesRead result room buffer (seen device askings.Whole s c f q w' k') new
     → DoesRead result room buffer (seen device a s c f q w k) new
-first_seen result room buffer device a s c f q w w' k k' new start is written more d =
+first_seen result room buffer device a s c f q w w' k k' new start is written same d =
     first_read result room buffer (seen device a s c f q w k) (seen device askings.Whole s c f q w' k') new
     (record {
       before = start;
@@ -110,7 +113,7 @@ first_seen result room buffer device a s c f q w w' k k' new start is written mo
       quiets = refl;
       stand = refl;
       written = written;
-      sink_faults = more;
+      sink_faults = same;
     })
     d
 
@@ -162,6 +165,8 @@ over_read room buffer u is = record {
   quiets_stay = omega arith;
   failed = λ e. absurd (cc);
   quiet = λ e. absurd (cc);
+  fails_only = refl;
+  counts_quiet = refl;
   device = refl;
   asked = over_asks u is;
   given = λ first given. given;

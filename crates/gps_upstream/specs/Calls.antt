@@ -3,7 +3,7 @@ use Rattle.std.specs.Prelude.{◌≡◌, ◌≢◌, ◌≤◌, ◌⊎◌, ℕ, L
 use Rattle.gps_outside.specs.declared.source.ReadStep.{ReadStep}
 use Rattle.gps_outside.specs.declared.source.ReadStep.TheVariants as answers
 use Rattle.gps_outside.specs.Counts.{Rose}
-use Rattle.gps_outside.specs.Reads.{FitsBuffer, Reads}
+use Rattle.gps_outside.specs.Reads.{CountsQuiet, FailsOnly, FitsBuffer, Reads}
 use Rattle.gps_outside.specs.Told.{Stream, Goes, IsPrefix, Appends, AppendsPart}
 use Rattle.upstream_laws.specs.Head.{taken, behind}
 use Rattle.gps_upstream.specs.declared.head.Head.{Head}
@@ -123,6 +123,8 @@ pub record DoesRead (result : ReadStep) (room : ℕ) (buffer : List ℕ) (old ne
   pub quiets_stay : old.quiets ≤ new.quiets
   pub failed : result ≡ answers.Failed → Rose (faults_of old) (faults_of new)
   pub quiet : result ≡ answers.Quiet → Rose old.quiets new.quiets
+  pub fails_only : FailsOnly result (faults_of old) (faults_of new)
+  pub counts_quiet : CountsQuiet result old.quiets new.quiets
   pub device : new.device ≡ old.device
   pub asked : Asks old new
   pub given : (first : List ℕ) → IsGiven first old → IsGiven first new

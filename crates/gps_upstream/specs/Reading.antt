@@ -1,5 +1,6 @@
 -- What the reading of a head, and of what stands behind it, says of the bytes that it takes from its source.
 use Rattle.std.specs.Prelude.{◌≡◌, ◌≢◌, ℕ, ◌<◌, ◌≤◌, List, [], take, Option}
+use Rattle.gps_outside.specs.Counts.{one_more}
 use Rattle.gps_outside.specs.Told.{Stream, Goes, Passes}
 use Rattle.gps_outside.specs.ReadSteps.{TakesAll, TakesSome}
 use Rattle.upstream_laws.specs.declared.stage.Stage.{Stage}
@@ -15,6 +16,22 @@ FitsBuffer Bad room = Unit {0}
 FitsBuffer End room = Unit {0}
 FitsBuffer Quiet room = Unit {0}
 FitsBuffer Failed room = Unit {0}
+
+-- the source's faults rise only if it failed; a bad head is no fault of the source
+abbrev pub FailsOnly : HeadStep → ℕ → ℕ → Type 0
+FailsOnly (Got n) before after = after ≡ before
+FailsOnly Bad before after = after ≡ before
+FailsOnly End before after = after ≡ before
+FailsOnly Quiet before after = after ≡ before
+FailsOnly Failed before after = Unit {0}
+
+-- the source counts one quiet if nothing came, and none else
+abbrev pub CountsQuiet : HeadStep → ℕ → ℕ → Type 0
+CountsQuiet (Got n) before after = after ≡ before
+CountsQuiet Bad before after = after ≡ before
+CountsQuiet End before after = after ≡ before
+CountsQuiet Quiet before after = after ≡ one_more before
+CountsQuiet Failed before after = after ≡ before
 
 -- what is handed on
 abbrev pub handed_on : HeadStep → List ℕ → List ℕ

@@ -1,4 +1,4 @@
-ghost use Rattle.std.specs.Prelude.{◌≡◌, ◌≤◌, ◌+◌, ◌++◌, false, length, take};
+ghost use Rattle.std.specs.Prelude.{◌≡◌, ◌≤◌, ◌+◌, ◌++◌, false, true, length, take};
 ghost use Rattle.gps_outside.specs.Counts.{Rose};
 ghost use Rattle.gps_outside.specs.Writes.{WritesAll};
 ghost use Rattle.upstream_laws.specs.Carried.{request};
@@ -37,9 +37,12 @@ fn put_request(buf: &mut [u8; ROOM], device: &Option<Name>) -> usize
 
 /// Asks another daemon for the packets of a device, or of all. False: a part of the request was written, from its beginning.
 pub(crate) fn ask<K: Sink>(sink: &mut K, device: &Option<Name>) -> bool
+    requires takes { K.takes sink.old }
+    ensures takes { K.takes sink.new }
     ensures bytes { WritesAll result (request device.now) (K.written sink.old) (K.written sink.new) }
     ensures faults_stay { K.faults sink.old ≤ K.faults sink.new }
     ensures failed { result ≡ false → Rose (K.faults sink.old) (K.faults sink.new) }
+    ensures fails_only { result ≡ true → K.faults sink.new ≡ K.faults sink.old }
 {
     let mut buf = [0; ROOM];
     let len = put_request(&mut buf, device);

@@ -3,7 +3,7 @@ ghost use Rattle.gps_outside.specs.Counts.{Rose};
 ghost use Rattle.upstream_laws.specs.declared.stage.Stage.{Stage};
 ghost use Rattle.gps_upstream.specs.declared.reading.HeadStep.{HeadStep};
 ghost use Rattle.gps_upstream.specs.Calls.{answer_of};
-ghost use Rattle.gps_upstream.specs.Reading.{FitsBuffer, Gives, HeadGoesOn};
+ghost use Rattle.gps_upstream.specs.Reading.{CountsQuiet, FailsOnly, FitsBuffer, Gives, HeadGoesOn};
 
 use crate::cutter::HeadCutter;
 use gps_outside::{ReadStep, Source};
@@ -63,6 +63,10 @@ fn read_once<S: Source>(source: &mut S, cutter: &mut HeadCutter, buf: &mut [u8])
     ensures quiets_stay { S.quiets source.old ≤ S.quiets source.new }
     ensures failed { result ≡ Some HeadStep.Failed → Rose (S.faults source.old) (S.faults source.new) }
     ensures quiet { result ≡ Some HeadStep.Quiet → Rose (S.quiets source.old) (S.quiets source.new) }
+    ensures fails_only { IfSome result (λ step. FailsOnly step (S.faults source.old) (S.faults source.new)) }
+    ensures counts_quiet { IfSome result (λ step. CountsQuiet step (S.quiets source.old) (S.quiets source.new)) }
+    ensures no_fault { IfNone result (S.faults source.new ≡ S.faults source.old) }
+    ensures no_quiet { IfNone result (S.quiets source.new ≡ S.quiets source.old) }
 {
     match source.read(buf) {
         ReadStep::Got(n) => {
@@ -93,6 +97,8 @@ pub(crate) fn read_on<S: Source>(
     ensures quiets_stay { S.quiets source.old ≤ S.quiets source.new }
     ensures failed { result ≡ HeadStep.Failed → Rose (S.faults source.old) (S.faults source.new) }
     ensures quiet { result ≡ HeadStep.Quiet → Rose (S.quiets source.old) (S.quiets source.new) }
+    ensures fails_only { FailsOnly result (S.faults source.old) (S.faults source.new) }
+    ensures counts_quiet { CountsQuiet result (S.quiets source.old) (S.quiets source.new) }
 {
     'turns: loop {
         if let Some(step) = read_once(source, cutter, buf) {

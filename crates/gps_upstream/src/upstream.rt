@@ -46,7 +46,7 @@ impl<S: Source, K: Sink> Model for Upstream<S, K> {
 
     ghost view = { λ u. seen u.device u.asked u.cutter (S.content u.source) (S.faults u.source) (S.quiets u.source) (K.written u.sink) (K.faults u.sink) };
 
-    ghost invariant = { λ u. u.asked ≡ Asked.NotYet → u.cutter ≡ fresh };
+    ghost invariant = { λ u. (u.asked ≡ Asked.NotYet → u.cutter ≡ fresh) × K.takes u.sink };
 }
 
 /// The head of a daemon that was asked.
@@ -63,6 +63,7 @@ fn head_at(stage: Stage) -> Head
 impl<S: Source, K: Sink> Upstream<S, K> {
     /// Over a new connection nothing was taken from it. Takes no memory and writes nothing.
     pub fn new(source: S, sink: K, device: Option<Name>) -> Upstream<S, K>
+        requires open { K.takes sink }
         ensures opened { result ≡ opened device (S.content source) (S.faults source) (S.quiets source) (K.written sink) (K.faults sink) }
         ensures told { (left : List ℕ) → S.content source ≡ Some (record { taken = []; left = left })
             → content_of result ≡ Some (record { taken = []; left = behind fresh left }) }
@@ -118,7 +119,7 @@ impl<S: Source, K: Sink> Source for Upstream<S, K> {
     ghost use Rattle.std.specs.Prelude.{◌≤◌};
     ghost use Rattle.gps_outside.specs.declared.source.ReadStep.{ReadStep};
     ghost use Rattle.gps_outside.specs.Counts.{Rose};
-    ghost use Rattle.gps_outside.specs.Reads.{FitsBuffer, Reads};
+    ghost use Rattle.gps_outside.specs.Reads.{CountsQuiet, FailsOnly, FitsBuffer, Reads};
     ghost use Rattle.gps_upstream.specs.Calls.{Asks, IsGiven, IfGot, HasFault, HasEnded, HandsOn};
 
     ghost faults = { λ u. faults_of u };
@@ -139,6 +140,8 @@ impl<S: Source, K: Sink> Source for Upstream<S, K> {
         ensures quiets_stay { self.old.quiets ≤ self.new.quiets }
         ensures failed { result ≡ ReadStep.Failed → Rose (faults_of self.old) (faults_of self.new) }
         ensures quiet { result ≡ ReadStep.Quiet → Rose self.old.quiets self.new.quiets }
+        ensures fails_only { FailsOnly result (faults_of self.old) (faults_of self.new) }
+        ensures counts_quiet { CountsQuiet result self.old.quiets self.new.quiets }
         ensures device { self.new.device ≡ self.old.device }
         ensures asked { Asks self.old self.new }
         ensures given { (first : List ℕ) → IsGiven first self.old → IsGiven first self.new }

@@ -1,4 +1,5 @@
-use Rattle.std.proofs.Common.{arith}
+use Rattle.std.proofs.Common.{◌∙◌, subst}
+use Rattle.gps_upstream.specs.Reading.{CountsQuiet, FailsOnly}
 use Rattle.gps_upstream.proofs.Turns.{gives_on, in_head}
 use Rattle.gps_upstream.proofs.reading.read_on.Goals as goal
 
@@ -14,6 +15,14 @@ turns-preserved g c = record {
       in_head c.args.cutter.now c.turns.cutter c.read_once.new.cutter
       (g.S.Source.content c.args.source.now) (g.S.Source.content c.turns.source) (g.S.Source.content c.read_once.new.source)
       c.turns.invariant.head c.in_default.ensures.goes_on;
-  faults = let before = c.turns.invariant.faults in let now = c.read_once.ensures.faults_stay in omega arith;
-  quiets = let before = c.turns.invariant.quiets in let now = c.read_once.ensures.quiets_stay in omega arith;
+  faults = c.in_default.ensures.no_fault ∙ c.turns.invariant.faults;
+  quiets = c.in_default.ensures.no_quiet ∙ c.turns.invariant.quiets;
 }
+
+pub returns-in-Some-clause-fails_only : goal.returns-in-Some-clause-fails_only
+returns-in-Some-clause-fails_only g c =
+    subst (λ n. FailsOnly c.in-Some.step n (g.S.Source.faults c.read_once.new.source)) c.turns.invariant.faults c.in-Some.ensures.fails_only
+
+pub returns-in-Some-clause-counts_quiet : goal.returns-in-Some-clause-counts_quiet
+returns-in-Some-clause-counts_quiet g c =
+    subst (λ n. CountsQuiet c.in-Some.step n (g.S.Source.quiets c.read_once.new.source)) c.turns.invariant.quiets c.in-Some.ensures.counts_quiet

@@ -1,4 +1,4 @@
-use Rattle.std.proofs.Common.{◌≤◌, ◌-◌}
+use Rattle.std.proofs.Common.{◌≡◌, ◌-◌}
 use Rattle.upstream_laws.specs.Head.{most}
 use Rattle.gps_upstream.proofs.Turns.{IsInHead}
 use Rattle.gps_upstream.proofs.reading.read_on.Given as goal
@@ -6,8 +6,8 @@ use Rattle.gps_upstream.proofs.reading.read_on.Given as goal
 abbrev pub invariant-turns : goal.invariant-turns
 invariant-turns g l = record {
   head : IsInHead l.initial.cutter l.cutter (g.S.Source.content l.initial.source) (g.S.Source.content l.source);
-  faults : g.S.Source.faults l.initial.source ≤ g.S.Source.faults l.source;
-  quiets : g.S.Source.quiets l.initial.source ≤ g.S.Source.quiets l.source;
+  faults : g.S.Source.faults l.source ≡ g.S.Source.faults l.initial.source;
+  quiets : g.S.Source.quiets l.source ≡ g.S.Source.quiets l.initial.source;
 }
 
 abbrev pub decreases-turns : goal.decreases-turns

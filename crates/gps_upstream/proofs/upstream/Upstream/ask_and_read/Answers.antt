@@ -12,5 +12,5 @@ returns g c =
     (g.S.Source.content c.self.inside.source) (g.S.Source.faults c.self.inside.source) (g.S.Source.quiets c.self.inside.source)
     (g.K.Sink.written c.self.inside.sink) (g.K.Sink.written c.ask.new.sink)
     (g.K.Sink.faults c.self.inside.sink) (g.K.Sink.faults c.ask.new.sink)
-    c.read_on.new.self start (c.self.invariant (start_is c.self.inside.asked c.self.inside.cutter.stage start))
-    c.if-not-ask.ensures.bytes c.ask.ensures.faults_stay c.read_on.ensures)
+    c.read_on.new.self start (c.self.invariant.0 (start_is c.self.inside.asked c.self.inside.cutter.stage start))
+    c.if-not-ask.ensures.bytes (c.ask.ensures.fails_only c.if-not-ask.false) c.read_on.ensures)

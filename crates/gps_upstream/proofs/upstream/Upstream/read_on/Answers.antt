@@ -13,4 +13,4 @@ returns g c =
     (g.S.Source.quiets c.self.inside.source) (g.S.Source.quiets c.read_on.new.source)
     (g.K.Sink.written c.self.inside.sink) (g.K.Sink.faults c.self.inside.sink)
     is_open c.read_on.ensures.fits c.read_on.ensures.gives c.read_on.ensures.faults_stay c.read_on.ensures.quiets_stay
-    c.read_on.ensures.failed c.read_on.ensures.quiet)
+    c.read_on.ensures.failed c.read_on.ensures.quiet c.read_on.ensures.fails_only c.read_on.ensures.counts_quiet)

@@ -1,0 +1,9 @@
+use Rattle.std.proofs.Common.{◌∙◌}
+use Rattle.gps_outside.proofs.Writing.{written_more}
+use Rattle.gps_outside.proofs.client_sink.send_all.Goals as goal
+
+pub writes-preserved : goal.writes-preserved
+writes-preserved g c = record {
+  bytes = written_more c.in-Wrote.n _ _ _ _ _ c.writes.invariant.bytes c.in-Wrote.ensures.bytes;
+  faults = c.in-Wrote.ensures.fails_only ∙ c.writes.invariant.faults;
+}

@@ -3,7 +3,7 @@ ghost use Rattle.gps_outside.specs.Reads.{FitsBuffer};
 
 use crate::head_source::HeadSource;
 use gps_fixed::Bytes;
-use gps_outside::{ReadStep, RealSink, RealSource, Source, connect};
+use gps_outside::{ConnectFault, Listening, ReadStep, RealSink, RealSource, Source, connect};
 use gps_upstream::{Head, Upstream};
 use std::fs::File;
 use std::io::{self, ErrorKind};
@@ -15,15 +15,14 @@ use std::time::{Clock, Duration};
 /// How many seconds after it was connected the head of a daemon must have ended.
 const HEAD_WAIT: u64 = 10;
 
-/// How many seconds a read inside the head waits for bytes, and the request for room.
+/// How many seconds a read waits for bytes, and the request for room.
 const TICK: u64 = 1;
-
-/// How many seconds a read behind the head waits for bytes.
-const PACKETS_WAIT: u64 = 60;
 
 /// Why another daemon gives no more packets.
 #[derive(Clone, Copy, Debug)]
 pub enum DaemonFault {
+    /// It is this daemon itself.
+    Own,
     /// No connection to it came about.
     Unreached(io::Error),
     /// The request for packets could not be written.
@@ -42,8 +41,6 @@ pub enum DaemonFault {
 #[derive(Drop)]
 struct Connection<R: Files<File = File> + Net<Stream = TcpStream> + Clock + Copy> {
     upstream: Upstream<HeadSource<R>, RealSink>,
-    /// The same connection, for its time-out.
-    stream: TcpStream,
     /// When it was connected; none once the head has ended.
     since: Option<Duration>,
 }
@@ -51,7 +48,7 @@ struct Connection<R: Files<File = File> + Net<Stream = TcpStream> + Clock + Copy
 #[derive(Drop)]
 enum State<R: Files<File = File> + Net<Stream = TcpStream> + Clock + Copy> {
     /// The first read connects to this HOST:PORT.
-    Waiting(Bytes),
+    Waiting(Bytes, Listening),
     Open(Connection<R>),
     Ended,
     Broken(DaemonFault),
@@ -75,23 +72,41 @@ fn text_of(bytes: &Bytes) -> io::Result<&str> {
     }
 }
 
-fn connection_to<R: Files<File = File> + Net<Stream = TcpStream> + Clock + Copy>(
+fn connection_over<R: Files<File = File> + Net<Stream = TcpStream> + Clock + Copy>(
     machine: R,
-    address: &Bytes,
+    stream: TcpStream,
 ) -> io::Result<Connection<R>> {
-    let stream = connect(&machine, text_of(address)?)?;
     stream.set_read_timeout(Some(Duration::from_secs(TICK)))?;
     stream.set_write_timeout(Some(Duration::from_secs(TICK)))?;
     let source = RealSource::of_stream(machine, stream.try_clone()?);
-    let sink = RealSink::of_stream(stream.try_clone()?);
+    let sink = RealSink::of_stream(stream);
     let since = machine.monotonic()?;
     let end = since.saturating_add(Duration::from_secs(HEAD_WAIT));
     let source = HeadSource::new(machine, source, end);
     Ok(Connection {
         upstream: Upstream::new(source, sink, None),
-        stream,
         since: Some(since),
     })
+}
+
+fn connection_to<R: Files<File = File> + Net<Stream = TcpStream> + Clock + Copy>(
+    machine: R,
+    address: &Bytes,
+    listening: &Listening,
+) -> Result<Connection<R>, DaemonFault> {
+    let text = match text_of(address) {
+        Ok(text) => text,
+        Err(error) => return Err(DaemonFault::Unreached(error)),
+    };
+    let stream = match connect(&machine, text, listening) {
+        Ok(stream) => stream,
+        Err(ConnectFault::Own) => return Err(DaemonFault::Own),
+        Err(ConnectFault::Unreached(error)) => return Err(DaemonFault::Unreached(error)),
+    };
+    match connection_over(machine, stream) {
+        Ok(connection) => Ok(connection),
+        Err(error) => Err(DaemonFault::Unreached(error)),
+    }
 }
 
 impl<R: Files<File = File> + Net<Stream = TcpStream> + Clock + Copy> Connection<R> {
@@ -103,15 +118,6 @@ impl<R: Files<File = File> + Net<Stream = TcpStream> + Clock + Copy> Connection<
         match machine.monotonic() {
             Ok(now) => now.saturating_sub(since).as_secs() >= HEAD_WAIT,
             Err(_) => true,
-        }
-    }
-
-    /// The head has ended: a read may wait longer.
-    fn head_ended(&mut self) {
-        if self.since.take().is_some() {
-            let _ = self
-                .stream
-                .set_read_timeout(Some(Duration::from_secs(PACKETS_WAIT)));
         }
     }
 
@@ -132,7 +138,7 @@ impl<R: Files<File = File> + Net<Stream = TcpStream> + Clock + Copy> Connection<
     {
         let step = self.upstream.read(buf);
         if let Head::Done = self.upstream.head() {
-            self.head_ended();
+            self.since = None;
         }
         match step {
             ReadStep::Failed => Err(self.cause()),
@@ -144,21 +150,19 @@ impl<R: Files<File = File> + Net<Stream = TcpStream> + Clock + Copy> Connection<
 }
 
 impl<R: Files<File = File> + Net<Stream = TcpStream> + Clock + Copy> Daemon<R> {
-    /// The daemon at this HOST:PORT. Its first read connects.
-    pub(crate) fn new(machine: R, address: Bytes) -> Daemon<R> {
+    /// The daemon at this HOST:PORT, unless that is this daemon itself. Its first read connects.
+    pub(crate) fn new(machine: R, address: Bytes, listening: Listening) -> Daemon<R> {
         Daemon {
             machine,
-            state: State::Waiting(address),
+            state: State::Waiting(address, listening),
         }
     }
 
     /// Connects, if that was not done yet.
     fn open(&mut self) -> Result<(), DaemonFault> {
-        if let State::Waiting(address) = &self.state {
-            match connection_to(self.machine, address) {
-                Ok(connection) => self.state = State::Open(connection),
-                Err(error) => return Err(DaemonFault::Unreached(error)),
-            }
+        if let State::Waiting(address, listening) = &self.state {
+            let connection = connection_to(self.machine, address, listening)?;
+            self.state = State::Open(connection);
         }
         Ok(())
     }
@@ -170,7 +174,7 @@ impl<R: Files<File = File> + Net<Stream = TcpStream> + Clock + Copy> Daemon<R> {
         self.open()?;
         match &mut self.state {
             State::Open(connection) => connection.read(&self.machine, buf),
-            State::Waiting(_) | State::Ended => Ok(ReadStep::End),
+            State::Waiting(_, _) | State::Ended => Ok(ReadStep::End),
             State::Broken(fault) => Err(*fault),
         }
     }
@@ -203,7 +207,7 @@ impl<R: Files<File = File> + Net<Stream = TcpStream> + Clock + Copy> Daemon<R> {
 
     /// Whether its next read connects.
     pub(crate) fn is_waiting(&self) -> bool {
-        matches!(self.state, State::Waiting(_))
+        matches!(self.state, State::Waiting(_, _))
     }
 
     /// Why it failed, after a fault.

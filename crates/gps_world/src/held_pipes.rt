@@ -64,3 +64,33 @@ impl HeldPipes {
         let _ = self.files.try_push(rouse_path(machine, path));
     }
 }
+
+/// The paths of pipes with names whose readers may wait for a writer.
+#[derive(Drop)]
+pub struct WaitingPipes {
+    paths: ArrayVec<Option<Bytes>, 16, Global>,
+}
+
+impl WaitingPipes {
+    pub(crate) fn none(alloc: Global) -> WaitingPipes {
+        WaitingPipes {
+            paths: ArrayVec::new_in(alloc),
+        }
+    }
+
+    /// One more path, if there is memory for it.
+    pub(crate) fn add(&mut self, path: &Bytes) {
+        let _ = self.paths.try_push(path.copy().ok());
+    }
+
+    /// Puts a line feed into each of these pipes, and holds them: no reader of theirs waits for a writer any more.
+    pub fn rouse<R: Files<File = File>>(&self, alloc: Global, machine: &R) -> HeldPipes {
+        let mut held = HeldPipes::none(alloc);
+        for path in self.paths.iter() {
+            if let Some(path) = path {
+                held.rouse(machine, path);
+            }
+        }
+        held
+    }
+}

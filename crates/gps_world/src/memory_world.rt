@@ -6,14 +6,14 @@ ghost use Rattle.gps_world.specs.MemoryWorlds.{HaveSources, source_at, without_f
 
 use crate::{Asked, Opened, Place, World};
 use gps_fixed::{Bytes, Stamp};
-use gps_outside::{MemoryClock, MemoryDoor, Sink, Source};
+use gps_outside::{ClientSink, MemoryClock, MemoryDoor, Source};
 use std::alloc::Global;
 use std::marker::Model;
 
 /// A world in memory. A place gives its sources in order; the door and the clock are given once, and after the clock one
 /// that gives the clock's last stamp for ever.
 #[derive(Drop)]
-pub struct MemoryWorld<I: Source, K: Sink> {
+pub struct MemoryWorld<I: Source, K: ClientSink> {
     alloc: Global,
     places: Vec<(Place, I)>,
     door: Option<MemoryDoor<I, K>>,
@@ -23,7 +23,7 @@ pub struct MemoryWorld<I: Source, K: Sink> {
     input_faults: u64,
 }
 
-impl<I: Source, K: Sink> Model for MemoryWorld<I, K> {
+impl<I: Source, K: ClientSink> Model for MemoryWorld<I, K> {
     ghost use Rattle.std.specs.Prelude.{◌≡◌, None, IfSome, IsSome};
     ghost use Rattle.gps_outside.specs.Links.{IsUnread};
     ghost use Rattle.gps_world.specs.MemoryWorlds.{Stock, HaveSources, clock_or, IsUnusedGate};
@@ -71,7 +71,7 @@ fn take_first<I: Drop>(places: &mut Vec<(Place, I)>, place: &Place) -> Option<I>
     }
 }
 
-impl<I: Source, K: Sink> MemoryWorld<I, K> {
+impl<I: Source, K: ClientSink> MemoryWorld<I, K> {
     ghost use Rattle.gps_world.specs.MemoryWorlds.{IsUnusedGate};
 
     /// Nothing was taken from the sources, if they tell that, and the counts of the sources and the door are 0. Takes
@@ -113,7 +113,7 @@ impl<I: Source, K: Sink> MemoryWorld<I, K> {
     }
 }
 
-impl<I: Source + Send, K: Sink + Send> World for MemoryWorld<I, K> {
+impl<I: Source + Send, K: ClientSink + Send> World for MemoryWorld<I, K> {
     ghost use Rattle.std.specs.Prelude.{◌≡◌, ◌≢◌, ◌<◌, ◌≤◌, length, Some, None, option_map};
     ghost use Rattle.gps_outside.specs.Counts.{Rose};
     ghost use Rattle.gps_outside.specs.Links.{IsUnread};

@@ -4,6 +4,7 @@ ghost use Rattle.gps_world.specs.Places.{same_place};
 use gps_fixed::Bytes;
 use std::alloc::Global;
 use std::default::MadeWith;
+use std::io::{self, ErrorKind};
 
 /// Where bytes come from.
 #[derive(Debug, Drop)]
@@ -16,6 +17,14 @@ pub enum Place {
     Gpsd(Bytes),
 }
 
+/// The bytes once more, if there is memory for them.
+pub(crate) fn copy_of(bytes: &Bytes) -> io::Result<Bytes> {
+    match bytes.copy() {
+        Ok(copy) => Ok(copy),
+        Err(_) => Err(io::Error::from(ErrorKind::OutOfMemory)),
+    }
+}
+
 impl Place {
     /// Whether it is the same place.
     pub fn is_same(&self, other: &Place) -> bool
@@ -26,6 +35,15 @@ impl Place {
             (Place::Tcp(one), Place::Tcp(two)) => one == two,
             (Place::Gpsd(one), Place::Gpsd(two)) => one == two,
             _ => false,
+        }
+    }
+
+    /// The place once more, if there is memory for it.
+    pub(crate) fn copy(&self) -> io::Result<Place> {
+        match self {
+            Place::File(path) => Ok(Place::File(copy_of(path)?)),
+            Place::Tcp(address) => Ok(Place::Tcp(copy_of(address)?)),
+            Place::Gpsd(address) => Ok(Place::Gpsd(copy_of(address)?)),
         }
     }
 }

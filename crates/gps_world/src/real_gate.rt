@@ -32,6 +32,11 @@ impl<R> RealGate<R> {
 }
 
 impl<R: Clock + Copy> RealGate<R> {
+    /// Why the last call took no link, if no file or no room was left for one.
+    pub fn lack(&self) -> Option<io::Error> {
+        self.door.lack()
+    }
+
     /// Where it listens.
     pub fn address(&self) -> io::Result<SocketAddr> {
         self.door.address()

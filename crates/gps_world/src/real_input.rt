@@ -1,9 +1,8 @@
-ghost use Rattle.std.specs.Prelude.{◌≡◌, ◌<◌, length};
-ghost use Rattle.gps_outside.specs.Reads.{FitsBuffer};
+ghost use Rattle.std.specs.Prelude.{◌≡◌};
 
-use crate::DaemonFault;
-use crate::daemon::Daemon;
-use gps_fixed::Bytes;
+use crate::opener::{Found, Inlet};
+use crate::reading::Reading;
+use crate::{DaemonFault, Loss};
 use gps_outside::{Awaited, ReadStep, RealSource, Source};
 use std::fs::File;
 use std::io;
@@ -12,17 +11,14 @@ use std::net::{Net, TcpStream};
 use std::rt::Files;
 use std::time::Clock;
 
-#[derive(Drop)]
-enum Inlet<R: Files<File = File> + Net<Stream = TcpStream> + Clock + Copy> {
-    Source(RealSource<R>),
-    Daemon(Daemon<R>),
-}
-
 /// What a real world gives as a source: a file, a pipe with a name, a host, a link, or the packets of another daemon. It counts
 /// its faults and quiets, and tells no content.
+///
+/// The place of one that is opened again may be away: each read is quiet then, and so is the one at which it was lost. What it
+/// gives is what its place gave each time, joined.
 #[derive(Drop)]
 pub struct RealInput<R: Files<File = File> + Net<Stream = TcpStream> + Clock + Copy> {
-    inlet: Inlet<R>,
+    reading: Reading<R>,
     faults: u64,
     quiets: u64,
 }
@@ -35,24 +31,12 @@ impl<R: Files<File = File> + Net<Stream = TcpStream> + Clock + Copy> Model for R
     ghost view = { λ s. record { faults = s.faults; quiets = s.quiets } };
 }
 
-impl<R: Files<File = File> + Net<Stream = TcpStream> + Clock + Copy> Inlet<R> {
-    fn read(&mut self, buf: &mut [u8]) -> ReadStep
-        requires { 0 < length buf.old }
-        ensures { FitsBuffer result (length buf.old) }
-    {
-        match self {
-            Inlet::Source(source) => source.read(buf),
-            Inlet::Daemon(daemon) => daemon.read(buf),
-        }
-    }
-}
-
 impl<R: Files<File = File> + Net<Stream = TcpStream> + Clock + Copy> RealInput<R> {
-    fn new(inlet: Inlet<R>) -> RealInput<R>
+    pub(crate) fn new(reading: Reading<R>) -> RealInput<R>
         ensures { result ≡ record { faults = 0; quiets = 0 } }
     {
         RealInput {
-            inlet,
+            reading,
             faults: 0,
             quiets: 0,
         }
@@ -62,38 +46,36 @@ impl<R: Files<File = File> + Net<Stream = TcpStream> + Clock + Copy> RealInput<R
     pub fn of_source(source: RealSource<R>) -> RealInput<R>
         ensures { result ≡ record { faults = 0; quiets = 0 } }
     {
-        RealInput::new(Inlet::Source(source))
+        let found = Found {
+            inlet: Inlet::Source(source),
+            returns: false,
+        };
+        RealInput::new(Reading::of_found(found, None))
     }
 
-    /// Reads the packets of the daemon at this HOST:PORT. Its first read connects.
-    pub fn of_daemon(machine: R, address: Bytes) -> RealInput<R>
-        ensures { result ≡ record { faults = 0; quiets = 0 } }
-    {
-        RealInput::new(Inlet::Daemon(Daemon::new(machine, address)))
-    }
-
-    /// What its next read waits for, before it can give bytes. None once it is open.
+    /// What its next read waits for, before it can give bytes. None once it is open, and while it is away.
     pub fn awaited(&self) -> Option<Awaited> {
-        match &self.inlet {
-            Inlet::Source(source) => source.awaited(),
-            Inlet::Daemon(daemon) => daemon.is_waiting().then_some(Awaited::Host),
-        }
+        self.reading.awaited()
+    }
+
+    /// Whether its place is away, and is opened again.
+    pub fn is_away(&self) -> bool {
+        self.reading.is_away()
+    }
+
+    /// Why the last read found its place gone, if it did.
+    pub fn loss(&self) -> Option<Loss> {
+        self.reading.loss()
     }
 
     /// Why it failed, after a fault of what is no daemon.
     pub fn fault(&self) -> Option<io::Error> {
-        match &self.inlet {
-            Inlet::Source(source) => source.fault(),
-            Inlet::Daemon(_) => None,
-        }
+        self.reading.fault()
     }
 
     /// Why another daemon failed, after a fault of it.
     pub fn daemon_fault(&self) -> Option<DaemonFault> {
-        match &self.inlet {
-            Inlet::Source(_) => None,
-            Inlet::Daemon(daemon) => daemon.fault(),
-        }
+        self.reading.daemon_fault()
     }
 }
 
@@ -109,7 +91,7 @@ impl<R: Files<File = File> + Net<Stream = TcpStream> + Clock + Copy> Source for 
     ghost keeps_at_fault = { λ _. Unit {0} };
 
     fn read(&mut self, buf: &mut [u8]) -> ReadStep {
-        let step = self.inlet.read(buf);
+        let step = self.reading.read(buf);
         match step {
             ReadStep::Quiet => self.quiets = self.quiets.saturating_add(1),
             ReadStep::Failed => self.faults = self.faults.saturating_add(1),
@@ -119,17 +101,11 @@ impl<R: Files<File = File> + Net<Stream = TcpStream> + Clock + Copy> Source for 
     }
 
     fn is_ready(&self) -> bool {
-        match &self.inlet {
-            Inlet::Source(source) => source.is_ready(),
-            Inlet::Daemon(_) => false,
-        }
+        self.reading.is_ready()
     }
 
-    /// Closes what it reads.
+    /// Closes what it reads. It is not opened again.
     fn finish(&mut self) {
-        match &mut self.inlet {
-            Inlet::Source(source) => source.finish(),
-            Inlet::Daemon(daemon) => daemon.finish(),
-        }
+        self.reading.finish();
     }
 }

@@ -1,29 +1,36 @@
 ghost use Rattle.std.specs.Prelude.{◌≡◌, IfOk};
 ghost use Rattle.gps_world.specs.Asking.{asked_nothing};
 
-use crate::{Asked, HeldPipes, Opened, Place, RealGate, RealInput, World};
+use crate::opener::{Opener, text_of};
+use crate::reading::{Again, Reading};
+use crate::{Asked, HeldPipes, Opened, Place, RealGate, RealInput, WaitingPipes, World};
 use gps_fixed::Bytes;
-use gps_outside::{Awaited, LinkSink, RealClock, RealDoor, RealSource};
+use gps_outside::{Awaited, LinkSink, RealClock, RealDoor};
 use std::alloc::Global;
-use std::fs::{self, File};
-use std::io::{self, ErrorKind};
+use std::fs::File;
 use std::marker::Model;
 use std::net::{Net, TcpListener, TcpStream};
-use std::os::unix::fs::FileTypeExt;
 use std::rt::Files;
-use std::{str, time};
+use std::time::Duration;
+use std::{io, time};
 
 /// The real world: files, TCP connections, a TCP listener and the machine's clock. It tells no content.
 ///
 /// A file that cannot be opened is a fault, for whatever reason; so is no memory for its buffer. What may wait long to be
 /// opened, a pipe with a name and a host, is opened by the first read of its source; if that fails, it is a fault of the
 /// source.
+///
+/// If places are opened again, one that ended, failed or is not there yet gives a source all the same, but a regular file. A
+/// host where the daemon itself listens is a fault for ever.
 #[derive(Drop)]
 pub struct RealWorld<R> {
     machine: R,
     alloc: Global,
+    opener: Opener<R>,
+    /// After how long a place is opened again; none: never.
+    reopen: Option<Duration>,
     asked: Asked,
-    /// Which of the places that it was asked for are pipes with names.
+    /// Which of the places that it was asked for are pipes with names that wait for a writer to be opened.
     are_pipes: [bool; 16],
     input_faults: u64,
     listen_faults: u64,
@@ -38,21 +45,20 @@ impl<R> Model for RealWorld<R> {
     ghost view = { λ s. record { asked = s.asked; input_faults = s.input_faults; listen_faults = s.listen_faults } };
 }
 
-fn text_of(bytes: &Bytes) -> io::Result<&str> {
-    match str::from_utf8(bytes.as_slice()) {
-        Ok(text) => Ok(text),
-        Err(_) => Err(io::Error::from(ErrorKind::InvalidInput)),
-    }
-}
-
-impl<R> RealWorld<R> {
-    /// The world of this machine. Takes no memory.
-    pub fn new(alloc: Global, machine: R) -> RealWorld<R>
+impl<R: Copy> RealWorld<R> {
+    /// The world of this machine. Places are opened again after this number of seconds, if one is given.
+    pub fn new(alloc: Global, machine: R, reopen: Option<u32>) -> RealWorld<R>
         ensures { result ≡ record { asked = asked_nothing; input_faults = 0; listen_faults = 0 } }
     {
+        let reopen = match reopen {
+            Some(seconds) => Some(Duration::from_secs(u64::from(seconds))),
+            None => None,
+        };
         RealWorld {
             machine,
             alloc,
+            opener: Opener::new(machine, alloc, reopen.is_some()),
+            reopen,
             asked: Asked::nothing(alloc),
             are_pipes: [false; 16],
             input_faults: 0,
@@ -62,42 +68,14 @@ impl<R> RealWorld<R> {
     }
 }
 
-/// The bytes once more, if there is memory for them.
-fn copy_of(bytes: &Bytes) -> io::Result<Bytes> {
-    match bytes.copy() {
-        Ok(copy) => Ok(copy),
-        Err(_) => Err(io::Error::from(ErrorKind::OutOfMemory)),
-    }
-}
-
-impl<R: Files<File = File> + Copy> RealWorld<R> {
-    fn open_file(&self, path: &Bytes) -> io::Result<RealSource<R>>
-        ensures { IfOk result (λ source. source ≡ record { faults = 0; quiets = 0 }) }
-    {
-        let text = text_of(path)?;
-        if fs::metadata(&self.machine, text)?.file_type().is_fifo() {
-            let path = copy_of(path)?;
-            return Ok(RealSource::of_pipe(self.machine, self.alloc, path));
-        }
-        let file = fs::open(&self.machine, text)?;
-        match RealSource::of_file(self.machine, self.alloc, file) {
-            Ok(source) => Ok(source),
-            Err(_) => Err(io::Error::from(ErrorKind::OutOfMemory)),
-        }
-    }
-}
-
 impl<R: Net<Listener = TcpListener, Stream = TcpStream> + time::Clock + Copy> RealWorld<R> {
-    fn host(&self, address: &Bytes) -> io::Result<RealSource<R>>
-        ensures { IfOk result (λ source. source ≡ record { faults = 0; quiets = 0 }) }
-    {
-        Ok(RealSource::of_host(self.machine, copy_of(address)?))
-    }
-
     fn bind(&self, address: &Bytes) -> io::Result<RealGate<R>>
         ensures { IfOk result (λ gate. gate ≡ record { faults = 0; quiets = 0 }) }
     {
         let listener = TcpListener::bind(&self.machine, text_of(address)?)?;
+        if let Ok(at) = listener.local_addr() {
+            self.opener.listening().set(at);
+        }
         Ok(RealGate::new(RealDoor::of_listener(self.machine, listener)?))
     }
 }
@@ -107,19 +85,42 @@ impl<R> RealWorld<R> {
     pub fn fault(&self) -> Option<io::Error> {
         self.fault
     }
+
+    /// The pipes with names among its inputs whose readers may wait for a writer, as far as there is memory for their paths.
+    pub fn waiting_pipes(&self) -> WaitingPipes {
+        let mut pipes = WaitingPipes::none(self.alloc);
+        for (place, is_pipe) in self.asked.places().iter().zip(self.are_pipes.iter()) {
+            if let (Place::File(path), true) = (place, *is_pipe) {
+                pipes.add(path);
+            }
+        }
+        pipes
+    }
 }
 
 impl<R> RealWorld<R>
 where
     R: Files<File = File> + Net<Listener = TcpListener, Stream = TcpStream> + time::Clock + Copy,
 {
+    /// How a place is opened again, if it is.
+    fn again(&self, place: &Place) -> io::Result<Option<Again<R>>> {
+        let Some(wait) = self.reopen else {
+            return Ok(None);
+        };
+        let place = place.copy()?;
+        Ok(Some(Again::new(self.machine, self.opener.share(), place, wait)))
+    }
+
     fn open(&self, place: &Place) -> io::Result<RealInput<R>>
         ensures { IfOk result (λ input. input ≡ record { faults = 0; quiets = 0 }) }
     {
-        match place {
-            Place::File(path) => Ok(RealInput::of_source(self.open_file(path)?)),
-            Place::Tcp(address) => Ok(RealInput::of_source(self.host(address)?)),
-            Place::Gpsd(address) => Ok(RealInput::of_daemon(self.machine, copy_of(address)?)),
+        let again = self.again(place)?;
+        match (self.opener.open(place), again) {
+            (Ok(found), again) => Ok(RealInput::new(Reading::of_found(found, again))),
+            (Err(_), Some(again)) if self.opener.may_come(place) => {
+                Ok(RealInput::new(Reading::of_away(again)))
+            }
+            (Err(error), _) => Err(error),
         }
     }
 }
@@ -160,7 +161,8 @@ where
         self.asked.add(place);
         match source {
             Ok(source) => {
-                self.are_pipes[number] = source.awaited() == Some(Awaited::Writer);
+                self.are_pipes[number] = self.reopen.is_none()
+                    && source.awaited() == Some(Awaited::Writer);
                 Opened::Ready(source)
             }
             Err(error) => {

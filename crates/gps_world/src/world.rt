@@ -1,6 +1,6 @@
 use crate::{HeldPipes, Place};
 use gps_fixed::Bytes;
-use gps_outside::{Clock, Door, Sink, Source};
+use gps_outside::{ClientSink, Clock, Door, Source};
 
 /// What opening something of the outside answers.
 #[derive(Drop)]
@@ -23,7 +23,7 @@ pub trait World: Drop {
 
     type In: Source + Send;
 
-    type Out: Sink + Send;
+    type Out: ClientSink + Send;
 
     type Now: Clock + Send;
 

@@ -3,6 +3,7 @@ use Rattle.std.proofs.Common.{◌≡◌, ℕ, zero, suc, ◌+◌, ◌*◌, ◌/�
 use Rattle.std.proofs.lemmas.Bool.Decides.{nat_tests}
 use Rattle.std.specs.Option.{option_map, option_and_then, option_to_list}
 use Rattle.std.specs.List.{list_all}
+use Rattle.std.specs.Str.{bytes_eq}
 use Rattle.gps_fixed.specs.Scaled.{scaled, digits_of}
 use Rattle.gps_report.specs.Fits.{Fits, where_given, is_tod, is_day, is_dim, is_named_system, is_id, is_satellite}
 use Rattle.gps_report.specs.Note.{empty_note}
@@ -12,7 +13,7 @@ use Rattle.gps_report.specs.declared.note.NoteKind.TheVariants.{Other}
 use Rattle.nmea_frame.specs.Sentence.{hex_value}
 use Rattle.nmea_decode.specs.Fields.{behind, field, field_count, field_at, address_of, fields_of, skipped}
 use Rattle.nmea_decode.specs.Kinds.{dim_of, is_address, stated_system, talker_system}
-use Rattle.nmea_decode.specs.Notes.{Said, timed, gga, rmc, gll, gsa, gsv, vtg, zda, plainly, said_at, said_by, body_note}
+use Rattle.nmea_decode.specs.Notes.{Said, Contents, SingleFields, UsedSatellites, SeenSatellites, SentenceKind, FieldNumbers, DateField, ShortDate, LongDate, NoDate, day_in, time_in, plain_note, timed, gsa, gsv, plainly, sentence_kinds, said_among, said_at, said_by, said_with, body_note}
 use Rattle.nmea_decode.specs.Readings.{above_nought, clock, date_from, date_of, dated, day_with, days_passed, full_year, id_of, later_by, long_date_of, number_up_to, plain_number, time_of, tod_of, up_to, IsOfCentury}
 use Rattle.nmea_decode.specs.Satellites.{ids_in, satellite_of, satellites_in, satellites_of, signal_in, signal_of}
 use Rattle.nmea_decode.proofs.Days.{day_within}
@@ -216,57 +217,49 @@ gsa_fits : (text : List ℕ) → Fits (gsa text)
 unfolding gsa
 gsa_fits text = record { tod = refl; day = refl; dim = dim_fits (field_at 2 text); system = stated_fits (field_at 18 text); used = ids_fit 12 (skipped 2 text); sats = refl }
 
-gga_fits : (text : List ℕ) → Fits (gga text)
-unfolding gga timed
-gga_fits text = record { tod = tod_fits (time_of (field_at 1 text)); day = refl; dim = refl; system = refl; used = refl; sats = refl }
+is_short_in : (time : Option ℕ) (text : List ℕ) → IsShort (time_in time text)
+is_short_in None text = record { passed = omega arith }
+is_short_in (Some k) text = time_is_short (field_at k text)
 
-gll_fits : (text : List ℕ) → Fits (gll text)
-unfolding gll timed
-gll_fits text = record { tod = tod_fits (time_of (field_at 5 text)); day = refl; dim = refl; system = refl; used = refl; sats = refl }
+within_in : (date : DateField) (text : List ℕ) → IfSome (day_in date text) IsOfCentury
+within_in (ShortDate k) text = date_within (field_at k text)
+within_in (LongDate k) text = long_date_within (field_at k text) (field_at (k + 1) text) (field_at (k + 2) text)
+within_in NoDate text = tt
 
-rmc_fits : (text : List ℕ) → Fits (rmc text)
-unfolding rmc timed
-rmc_fits text = record {
-  tod = tod_fits (time_of (field_at 1 text));
-  day = day_fits (time_of (field_at 1 text)) (date_of (field_at 9 text)) (time_is_short (field_at 1 text)) (date_within (field_at 9 text));
+plain_fits : (row : FieldNumbers) (text : List ℕ) → Fits (plain_note row text)
+unfolding plain_note timed
+plain_fits row text = record {
+  tod = tod_fits (time_in row.time text);
+  day = day_fits (time_in row.time text) (day_in row.date text) (is_short_in row.time text) (within_in row.date text);
   dim = refl;
   system = refl;
   used = refl;
   sats = refl;
 }
-
-zda_fits : (text : List ℕ) → Fits (zda text)
-unfolding zda timed
-zda_fits text = record {
-  tod = tod_fits (time_of (field_at 1 text));
-  day = day_fits (time_of (field_at 1 text)) (long_date_of (field_at 2 text) (field_at 3 text) (field_at 4 text)) (time_is_short (field_at 1 text)) (long_date_within (field_at 2 text) (field_at 3 text) (field_at 4 text));
-  dim = refl;
-  system = refl;
-  used = refl;
-  sats = refl;
-}
-
-vtg_fits : (text : List ℕ) → Fits (vtg text)
-unfolding vtg
-vtg_fits text = record { tod = refl; day = refl; dim = refl; system = refl; used = refl; sats = refl }
 
 empty_fits : (kind : NoteKind) → Fits (empty_note kind)
 empty_fits kind = record { tod = refl; day = refl; dim = refl; system = refl; used = refl; sats = refl }
 
--- each row fits, so what is found among them does
-row_fits : (b : Bool) (row rest : Said) → Fits row.note → Fits rest.note → Fits (cond b row rest).note
-row_fits true row rest this others = this
-row_fits false row rest this others = others
+-- what each kind says fits, so what is found among them does
+contents_fit : (contents : Contents) (talker text : List ℕ) → Fits (said_with contents talker text).note
+contents_fit (SingleFields row) talker text = plain_fits row text
+contents_fit UsedSatellites talker text = gsa_fits text
+contents_fit SeenSatellites talker text = gsv_fits talker text
 
-said_fits : (name talker text : List ℕ) → Fits (said_by name talker text).note
-said_fits name talker text =
-    row_fits _ _ _ (rmc_fits text) (row_fits _ _ _ (gga_fits text) (row_fits _ _ _ (gsv_fits talker text) (row_fits _ _ _ (gsa_fits text)
-    (row_fits _ _ _ (vtg_fits text) (row_fits _ _ _ (gll_fits text) (row_fits _ _ _ (zda_fits text) (empty_fits Other)))))))
+either_fits : (b : Bool) (this rest : Said) → Fits this.note → Fits rest.note → Fits (cond b this rest).note
+either_fits true this rest first second = first
+either_fits false this rest first second = second
+
+said_fits : (kinds : List SentenceKind) (name talker text : List ℕ) → Fits (said_among kinds name talker text).note
+said_fits [] name talker text = empty_fits Other
+said_fits (kind ∷ kinds) name talker text =
+    either_fits (bytes_eq name kind.name) (said_with kind.contents talker text) (said_among kinds name talker text)
+    (contents_fit kind.contents talker text) (said_fits kinds name talker text)
 
 fits_at : (address text : List ℕ) → Fits (said_at address text).note
 fits_at address text =
-    row_fits (is_address address) (said_by (drop 2 address) (take 2 address) text) (plainly (empty_note Other))
-    (said_fits (drop 2 address) (take 2 address) text) (empty_fits Other)
+    either_fits (is_address address) (said_by (drop 2 address) (take 2 address) text) (plainly (empty_note Other))
+    (said_fits sentence_kinds (drop 2 address) (take 2 address) text) (empty_fits Other)
 
 all_fit : (body : List ℕ) (note : Note) → note ≡ body_note body → Fits note
 unfolding body_note

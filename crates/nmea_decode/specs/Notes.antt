@@ -1,11 +1,12 @@
 -- What each kind of sentence says, field by field. NMEA 0183; the place of a GSA's system id, and the system of a GSV's satellites, are this
 -- project's own.
-use Rattle.std.specs.Prelude.{ℕ, ◌/◌, ◌&&◌, ◌==◌, nat_le, Bool, true, false, List, [], ◌∷◌, length, take, drop, Option, Some, None, codes, if◌then◌else◌}
+use Rattle.std.specs.Prelude.{ℕ, ℤ, ◌+◌, ◌/◌, ◌&&◌, ◌==◌, nat_le, Bool, true, false, List, [], ◌∷◌, length, take, drop, Option, Some, None, codes, if◌then◌else◌}
 use Rattle.std.specs.Option.{option_map}
 use Rattle.std.specs.Str.{bytes_eq}
 use Rattle.gps_report.specs.Note.{empty_note}
 use Rattle.gps_report.specs.declared.note.Note.{Note}
 use Rattle.gps_report.specs.declared.note.NoteKind.{NoteKind}
+use Rattle.gps_report.specs.declared.note.Position.{Position}
 use Rattle.gps_report.specs.declared.note.NoteKind.TheVariants.{Gga, Rmc, Gll, Gsa, Gsv, Vtg, Zda, Other}
 use Rattle.gps_report.specs.declared.note.Tag.TheVariants.{Tod}
 use Rattle.nmea_frame.specs.Sentence.{body_of}
@@ -33,36 +34,93 @@ abbrev pub where_valid : {X : Type 0} → Option Bool → Option X → Option X
 where_valid (Some true) quantity = quantity
 where_valid _ quantity = None
 
-unfoldable pub gga : List ℕ → Note
-gga text =
-    let status = quality_status (field_at 6 text) in
-    record (timed Gga (time_of (field_at 1 text))) {
-      status = status;
-      position = where_valid status (position_of (field_at 2 text) (field_at 3 text) (field_at 4 text) (field_at 5 text));
-      hdop = where_valid status (dilution_of (field_at 8 text));
-      alt_msl = where_valid status (height_of (field_at 9 text));
-      geoid_sep = where_valid status (height_of (field_at 11 text));
+-- In which field a sentence says whether it has a fix, and how. A kind without a status gives what it has.
+pub data StatusField : Type 0 where
+  Quality : (k : ℕ) → StatusField
+  Letter : (k : ℕ) → StatusField
+  Unstated : StatusField
+
+abbrev pub status_in : StatusField → List ℕ → Option Bool
+status_in (Quality k) text = quality_status (field_at k text)
+status_in (Letter k) text = letter_status (field_at k text)
+status_in Unstated text = None
+
+-- In which field the date begins: ddmmyy in one field, or the day, the month and the year in three.
+pub data DateField : Type 0 where
+  ShortDate : (k : ℕ) → DateField
+  LongDate : (k : ℕ) → DateField
+  NoDate : DateField
+
+abbrev pub day_in : DateField → List ℕ → Option ℤ
+day_in (ShortDate k) text = date_of (field_at k text)
+day_in (LongDate k) text = long_date_of (field_at k text) (field_at (k + 1) text) (field_at (k + 2) text)
+day_in NoDate text = None
+
+abbrev pub time_in : Option ℕ → List ℕ → Option ℕ
+time_in None text = None
+time_in (Some k) text = time_of (field_at k text)
+
+-- a quantity counts only beside a fix, if the sentence has a status
+abbrev pub where_valid_by : {X : Type 0} → StatusField → List ℕ → Option X → Option X
+where_valid_by Unstated text quantity = quantity
+where_valid_by status text quantity = where_valid (status_in status text) quantity
+
+-- a position takes four fields: the latitude, N or S, the longitude, E or W
+abbrev pub position_in : Option ℕ → StatusField → List ℕ → Option Position
+position_in None status text = None
+position_in (Some k) status text =
+    where_valid_by status text (position_of (field_at k text) (field_at (k + 1) text) (field_at (k + 2) text) (field_at (k + 3) text))
+
+-- a quantity of one field, by the reading of its text
+abbrev pub quantity_in : {X : Type 0} → (List ℕ → Option X) → Option ℕ → StatusField → List ℕ → Option X
+quantity_in reading None status text = None
+quantity_in reading (Some k) status text = where_valid_by status text (reading (field_at k text))
+
+-- The numbers of the fields of a kind of sentence without a list, as the standard's table of that sentence has them. What is None is not read.
+pub record FieldNumbers : Type 0 where
+  pub kind : NoteKind
+  pub time : Option ℕ
+  pub status : StatusField
+  pub position : Option ℕ
+  pub hdop : Option ℕ
+  pub alt_msl : Option ℕ
+  pub geoid_sep : Option ℕ
+  pub speed : Option ℕ
+  pub track : Option ℕ
+  pub date : DateField
+
+abbrev pub no_fields : NoteKind → FieldNumbers
+no_fields kind = record { kind = kind; time = None; status = Unstated; position = None; hdop = None; alt_msl = None; geoid_sep = None; speed = None; track = None; date = NoDate }
+
+-- what a sentence without a list says
+unfoldable pub plain_note : FieldNumbers → List ℕ → Note
+plain_note row text =
+    let time = time_in row.time text in
+    record (timed row.kind time) {
+      status = status_in row.status text;
+      position = position_in row.position row.status text;
+      hdop = quantity_in dilution_of row.hdop row.status text;
+      alt_msl = quantity_in height_of row.alt_msl row.status text;
+      geoid_sep = quantity_in height_of row.geoid_sep row.status text;
+      speed = quantity_in speed_of row.speed row.status text;
+      track = quantity_in track_of row.track row.status text;
+      day = day_with time (day_in row.date text);
     }
 
-unfoldable pub rmc : List ℕ → Note
-rmc text =
-    let time = time_of (field_at 1 text) in
-    let status = letter_status (field_at 2 text) in
-    record (timed Rmc time) {
-      status = status;
-      position = where_valid status (position_of (field_at 3 text) (field_at 4 text) (field_at 5 text) (field_at 6 text));
-      speed = where_valid status (speed_of (field_at 7 text));
-      track = where_valid status (track_of (field_at 8 text));
-      day = day_with time (date_of (field_at 9 text));
-    }
+abbrev pub rmc_row : FieldNumbers
+rmc_row = record (no_fields Rmc) { time = Some 1; status = Letter 2; position = Some 3; speed = Some 7; track = Some 8; date = ShortDate 9 }
 
-unfoldable pub gll : List ℕ → Note
-gll text =
-    let status = letter_status (field_at 6 text) in
-    record (timed Gll (time_of (field_at 5 text))) {
-      status = status;
-      position = where_valid status (position_of (field_at 1 text) (field_at 2 text) (field_at 3 text) (field_at 4 text));
-    }
+abbrev pub gga_row : FieldNumbers
+gga_row = record (no_fields Gga) { time = Some 1; status = Quality 6; position = Some 2; hdop = Some 8; alt_msl = Some 9; geoid_sep = Some 11 }
+
+abbrev pub vtg_row : FieldNumbers
+vtg_row = record (no_fields Vtg) { track = Some 1; speed = Some 5 }
+
+abbrev pub gll_row : FieldNumbers
+gll_row = record (no_fields Gll) { time = Some 5; status = Letter 6; position = Some 1 }
+
+abbrev pub zda_row : FieldNumbers
+zda_row = record (no_fields Zda) { time = Some 1; date = LongDate 2 }
 
 unfoldable pub gsa : List ℕ → Note
 gsa text = record (empty_note Gsa) {
@@ -78,14 +136,6 @@ gsa text = record (empty_note Gsa) {
 unfoldable pub gsv : List ℕ → List ℕ → Note
 gsv talker text = record (empty_note Gsv) { sats = satellites_of (talker_system talker) (skipped 3 text) }
 
-unfoldable pub vtg : List ℕ → Note
-vtg text = record (empty_note Vtg) { track = track_of (field_at 1 text); speed = speed_of (field_at 5 text) }
-
-unfoldable pub zda : List ℕ → Note
-zda text =
-    let time = time_of (field_at 1 text) in
-    record (timed Zda time) { day = day_with time (long_date_of (field_at 2 text) (field_at 3 text) (field_at 4 text)) }
-
 -- what a sentence says, and how many entries the list of its note may get: only a list takes memory
 pub record Said : Type 0 where
   pub note : Note
@@ -95,18 +145,41 @@ pub record Said : Type 0 where
 abbrev pub plainly : Note → Said
 plainly note = record { note = note; entries = 0 }
 
--- One row for each kind of sentence that is read, by its name: what it says. The list of a GSA has its readable ids, that of a GSV its whole
--- groups at most.
+-- what a kind of sentence holds: single fields, the ids of a GSA, or the satellites of a GSV
+pub data Contents : Type 0 where
+  SingleFields : (row : FieldNumbers) → Contents
+  UsedSatellites : Contents
+  SeenSatellites : Contents
+
+-- The list of a GSA has its readable ids, that of a GSV its whole groups at most.
+abbrev pub said_with : Contents → List ℕ → List ℕ → Said
+said_with (SingleFields row) talker text = plainly (plain_note row text)
+said_with UsedSatellites talker text = record { note = gsa text; entries = length (ids_in 12 (skipped 2 text)) }
+said_with SeenSatellites talker text = record { note = gsv talker text; entries = field_count (skipped 3 text) / 4 }
+
+pub record SentenceKind : Type 0 where
+  pub name : List ℕ
+  pub contents : Contents
+
+-- the kinds of sentences that are read
+abbrev pub sentence_kinds : List SentenceKind
+sentence_kinds =
+    record { name = codes "RMC"; contents = SingleFields rmc_row }
+    ∷ record { name = codes "GGA"; contents = SingleFields gga_row }
+    ∷ record { name = codes "GSV"; contents = SeenSatellites }
+    ∷ record { name = codes "GSA"; contents = UsedSatellites }
+    ∷ record { name = codes "VTG"; contents = SingleFields vtg_row }
+    ∷ record { name = codes "GLL"; contents = SingleFields gll_row }
+    ∷ record { name = codes "ZDA"; contents = SingleFields zda_row }
+    ∷ []
+
+-- what the first kind of that name says
+abbrev pub said_among : List SentenceKind → List ℕ → List ℕ → List ℕ → Said
+said_among [] name talker text = plainly (empty_note Other)
+said_among (kind ∷ kinds) name talker text = if bytes_eq name kind.name then said_with kind.contents talker text else said_among kinds name talker text
+
 abbrev pub said_by : List ℕ → List ℕ → List ℕ → Said
-said_by name talker text =
-    if bytes_eq name (codes "RMC") then plainly (rmc text)
-    else (if bytes_eq name (codes "GGA") then plainly (gga text)
-    else (if bytes_eq name (codes "GSV") then record { note = gsv talker text; entries = field_count (skipped 3 text) / 4 }
-    else (if bytes_eq name (codes "GSA") then record { note = gsa text; entries = length (ids_in 12 (skipped 2 text)) }
-    else (if bytes_eq name (codes "VTG") then plainly (vtg text)
-    else (if bytes_eq name (codes "GLL") then plainly (gll text)
-    else (if bytes_eq name (codes "ZDA") then plainly (zda text)
-    else plainly (empty_note Other)))))))
+said_by name talker text = said_among sentence_kinds name talker text
 
 -- the last three letters of an address name the kind, the first two the talker
 abbrev pub said_at : List ℕ → List ℕ → Said

@@ -5,7 +5,7 @@ ghost use Rattle.gps_report.specs.Note.{empty_note};
 ghost use Rattle.nmea_frame.specs.Sentence.{body_of};
 ghost use Rattle.nmea_decode.specs.Fields.{field_count, skipped};
 ghost use Rattle.nmea_decode.specs.Satellites.{ids_in};
-ghost use Rattle.nmea_decode.specs.Notes.{body_entries, body_note, entries_of, gga, gll, gsa, gsv, letter_status, quality_status, rmc, said_at, said_by, sentence_note, timed, vtg, where_valid, zda};
+ghost use Rattle.nmea_decode.specs.Notes.{body_entries, body_note, entries_of, gga_row, gll_row, gsa, gsv, letter_status, plain_note, quality_status, rmc_row, said_at, said_by, sentence_note, timed, vtg_row, where_valid, zda_row};
 
 use crate::fields::{next, skip, split_address};
 use crate::kinds::{dimensions, is_read, system_of_talker, system_stated};
@@ -65,10 +65,10 @@ fn if_valid<T: Copy>(status: Option<bool>, quantity: Option<T>) -> Option<T>
 }
 
 #[inline(never)]
-#[tactic(auto, unfolding(crate::specs::Notes::gga))]
+#[tactic(auto, unfolding(crate::specs::Notes::plain_note, crate::specs::Notes::timed))]
 fn read_gga(note: &mut Note, text: &[u8])
     requires { note.old ≡ empty_note NoteKind.Other }
-    ensures { note.new ≡ gga text.now }
+    ensures { note.new ≡ plain_note gga_row text.now }
 {
     let (time_text, text) = next(text);
     let (lat, text) = next(text);
@@ -89,10 +89,10 @@ fn read_gga(note: &mut Note, text: &[u8])
 }
 
 #[inline(never)]
-#[tactic(auto, unfolding(crate::specs::Notes::rmc))]
+#[tactic(auto, unfolding(crate::specs::Notes::plain_note, crate::specs::Notes::timed))]
 fn read_rmc(note: &mut Note, text: &[u8])
     requires { note.old ≡ empty_note NoteKind.Other }
-    ensures { note.new ≡ rmc text.now }
+    ensures { note.new ≡ plain_note rmc_row text.now }
 {
     let (time_text, text) = next(text);
     let (status, text) = next(text);
@@ -114,10 +114,10 @@ fn read_rmc(note: &mut Note, text: &[u8])
 }
 
 #[inline(never)]
-#[tactic(auto, unfolding(crate::specs::Notes::gll))]
+#[tactic(auto, unfolding(crate::specs::Notes::plain_note, crate::specs::Notes::timed))]
 fn read_gll(note: &mut Note, text: &[u8])
     requires { note.old ≡ empty_note NoteKind.Other }
-    ensures { note.new ≡ gll text.now }
+    ensures { note.new ≡ plain_note gll_row text.now }
 {
     let (lat, text) = next(text);
     let (north, text) = next(text);
@@ -169,10 +169,10 @@ fn read_gsv(note: &mut Note, alloc: Global, talker: &[u8], text: &[u8]) -> Resul
 }
 
 #[inline(never)]
-#[tactic(auto, unfolding(crate::specs::Notes::vtg))]
+#[tactic(auto, unfolding(crate::specs::Notes::plain_note, crate::specs::Notes::timed))]
 fn read_vtg(note: &mut Note, text: &[u8])
     requires { note.old ≡ empty_note NoteKind.Other }
-    ensures { note.new ≡ vtg text.now }
+    ensures { note.new ≡ plain_note vtg_row text.now }
 {
     let (course, text) = next(text);
     let (knots, _) = next(skip(text, 3));
@@ -182,10 +182,10 @@ fn read_vtg(note: &mut Note, text: &[u8])
 }
 
 #[inline(never)]
-#[tactic(auto, unfolding(crate::specs::Notes::zda))]
+#[tactic(auto, unfolding(crate::specs::Notes::plain_note, crate::specs::Notes::timed))]
 fn read_zda(note: &mut Note, text: &[u8])
     requires { note.old ≡ empty_note NoteKind.Other }
-    ensures { note.new ≡ zda text.now }
+    ensures { note.new ≡ plain_note zda_row text.now }
 {
     let (time_text, text) = next(text);
     let (day, text) = next(text);

@@ -7,7 +7,7 @@ use Rattle.gps_report.specs.declared.fix.Fix.{Fix}
 use Rattle.gps_report.specs.declared.note.Note.{Note}
 use Rattle.gps_report.specs.declared.note.NoteKind.TheVariants.{Gga, Rmc}
 use Rattle.nmea_frame.specs.Sentence.{body_of, checksum}
-use Rattle.nmea_decode.specs.Notes.{timed, letter_status, quality_status, where_valid, gga, rmc, body_note, sentence_note}
+use Rattle.nmea_decode.specs.Notes.{timed, letter_status, quality_status, where_valid, plain_note, gga_row, rmc_row, body_note, sentence_note}
 use Rattle.nmea_decode.specs.Places.{position_of}
 use Rattle.nmea_decode.specs.Readings.{dilution_of, day_with, date_of, height_of, speed_of, time_of, track_of}
 use Rattle.pseudo_nmea.specs.Fields.{clock, date, placed, latitude, north, longitude, east, knots, course, metres}
@@ -41,11 +41,11 @@ pub gga_body_is : (fix : Fix) → gga_body fix ≡ codes "GPGGA" ++ rows (gga_li
 unfolding gga_body
 gga_body_is fix = rows_behind (codes "GPGGA") (gga_list fix)
 
-rmc_text : (fix : Fix) → body_note (codes "GPRMC" ++ rows (rmc_list fix)) ≡ rmc (rows (rmc_list fix))
+rmc_text : (fix : Fix) → body_note (codes "GPRMC" ++ rows (rmc_list fix)) ≡ plain_note rmc_row (rows (rmc_list fix))
 unfolding body_note
 rmc_text fix = refl
 
-gga_text : (fix : Fix) → body_note (codes "GPGGA" ++ rows (gga_list fix)) ≡ gga (rows (gga_list fix))
+gga_text : (fix : Fix) → body_note (codes "GPGGA" ++ rows (gga_list fix)) ≡ plain_note gga_row (rows (gga_list fix))
 unfolding body_note
 gga_text fix = refl
 
@@ -73,16 +73,16 @@ gga_from time latitude north longitude east quality dilution height separation =
       geoid_sep = where_valid s (height_of separation);
     }
 
-rmc_reads : (fix : Fix) → rmc (rows (rmc_list fix))
+rmc_reads : (fix : Fix) → plain_note rmc_row (rows (rmc_list fix))
     ≡ rmc_from (clock fix.time) (by_fix fix (codes "V") (codes "A")) (latitude (placed fix.position)) (north (placed fix.position)) (longitude (placed fix.position)) (east (placed fix.position)) (knots fix.speed) (course fix.track) (date fix.time)
-unfolding rmc rmc_from
+unfolding plain_note timed rmc_from
 rmc_reads fix =
     let at = λ (k : ℕ) (h : k < 12). row_is (rmc_list fix) k (rmc_plain fix) h in
     λ i. rmc_from (at 0 (omega arith) i) (at 1 (omega arith) i) (at 2 (omega arith) i) (at 3 (omega arith) i) (at 4 (omega arith) i) (at 5 (omega arith) i) (at 6 (omega arith) i) (at 7 (omega arith) i) (at 8 (omega arith) i)
 
-gga_reads : (fix : Fix) → gga (rows (gga_list fix))
+gga_reads : (fix : Fix) → plain_note gga_row (rows (gga_list fix))
     ≡ gga_from (clock fix.time) (latitude (placed fix.position)) (north (placed fix.position)) (longitude (placed fix.position)) (east (placed fix.position)) (by_fix fix (codes "0") (codes "1")) [] (metres fix.alt_msl) (metres fix.geoid_sep)
-unfolding gga gga_from
+unfolding plain_note timed gga_from
 gga_reads fix =
     let at = λ (k : ℕ) (h : k < 14). row_is (gga_list fix) k (gga_plain fix) h in
     λ i. gga_from (at 0 (omega arith) i) (at 1 (omega arith) i) (at 2 (omega arith) i) (at 3 (omega arith) i) (at 4 (omega arith) i) (at 5 (omega arith) i) (at 7 (omega arith) i) (at 8 (omega arith) i) (at 10 (omega arith) i)

@@ -6,6 +6,7 @@ mod laws;
 mod member;
 mod roster;
 mod spreading;
+mod texts;
 mod walk;
 
 pub use laws::exact_outlets_overrun_by_room;

@@ -14,6 +14,7 @@ ghost use Rattle.book_batch.specs.Lines.{line_for};
 ghost use Rattle.book_batch.specs.Sharing.{AreNamed, row_of};
 
 use crate::spreading::report_all;
+use crate::texts::ReplyTexts;
 use book_batch::Row;
 use book_replies::{ReplyData, answers, opening_reply};
 use gps_command::{CommandCutter, RawCommand, RequestCut};
@@ -78,6 +79,7 @@ fn new_cutter(alloc: Global) -> CommandCutter
 
 fn replies_to(
     alloc: Global,
+    texts: &mut ReplyTexts,
     known: &ReplyData,
     names: &Names,
     policy: &Policy,
@@ -89,7 +91,7 @@ fn replies_to(
     let answers = answers(alloc, known, names, policy, requests)?;
     let mut out = Vec::new(alloc);
     'answers: for answer in answers {
-        let item = Item::of(alloc, answer.reply)?;
+        let item = texts.item_of(alloc, answer.reply.as_slice())?;
         let policy = answer.policy;
         out.push(Reply { policy, item })?;
     }
@@ -276,6 +278,7 @@ impl<O: Outlet> Member<O> {
     pub(crate) fn input(
         &mut self,
         alloc: Global,
+        texts: &mut ReplyTexts,
         place: u64,
         known: &ReplyData,
         names: &Names,
@@ -292,6 +295,7 @@ impl<O: Outlet> Member<O> {
         let before = self.watched;
         let replies = replies_to(
             alloc,
+            texts,
             known,
             names,
             self.session.policy(),

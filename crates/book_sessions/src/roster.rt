@@ -14,6 +14,7 @@ ghost use Rattle.book_sessions.specs.Roster.{Changes, Closes, IsAfter, IsAfterAl
 ghost use Rattle.book_sessions.specs.Spreading.{Spreads};
 
 use crate::member::Member;
+use crate::texts::ReplyTexts;
 use crate::walk::{
     close_at, close_each, copy_of, go_on_at, input_at, keep_listening, keep_open, make_room,
     receive_each, turn_each,
@@ -53,6 +54,7 @@ pub struct Roster<O: Outlet> {
     /// The numbers of those that were open in this generation.
     recent: Vec<u32>,
     watched: u32,
+    texts: ReplyTexts,
 }
 
 impl<O: Outlet> Model for Roster<O> {
@@ -79,6 +81,7 @@ impl<O: Outlet> Roster<O> {
             listening: Vec::new(alloc),
             recent: Vec::new(alloc),
             watched: 0,
+            texts: ReplyTexts::new(alloc),
         }
     }
 
@@ -227,6 +230,7 @@ impl<O: Outlet> Roster<O> {
             &mut self.members,
             s as usize,
             alloc,
+            &mut self.texts,
             place,
             known,
             names,

@@ -12,6 +12,7 @@ ghost use Rattle.book_sessions.specs.Spreading.{Spreads};
 ghost use Rattle.book_sessions.specs.Walks.{Walks, passes_at};
 
 use crate::member::Member;
+use crate::texts::ReplyTexts;
 use book_batch::Batch;
 use book_replies::ReplyData;
 use gps_command::RequestCut;
@@ -92,6 +93,7 @@ pub(crate) fn input_at<O: Outlet>(
     members: &mut Vec<Member<O>>,
     s: usize,
     alloc: Global,
+    texts: &mut ReplyTexts,
     place: u64,
     known: &ReplyData,
     names: &Names,
@@ -106,7 +108,7 @@ pub(crate) fn input_at<O: Outlet>(
     ensures err { OnErr result (members.new.items ≡ members.old.items) }
 {
     let member = &mut members[s];
-    member.input(alloc, place, known, names, cut)
+    member.input(alloc, texts, place, known, names, cut)
 }
 
 pub(crate) fn close_at<O: Outlet>(

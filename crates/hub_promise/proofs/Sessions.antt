@@ -1,5 +1,5 @@
 -- How a session goes on fitting the log: entries came, its client was heard, it was closed; or nothing came of it.
-use Rattle.std.proofs.Common.{◌≡◌, ◌<◌, ◌≤◌, ℕ, zero, suc, ◌+◌, ◌-◌, Bool, true, false, ◌||◌, List, [], ◌∷◌, ◌++◌, length, length-append, length-take, take, get_or, set, Option, Some, None, refl, sym, ap, ◌∙◌, subst, inl, inr, ◌⊎◌, ⊎_elim, append-nil, arith, get_or-set_same}
+use Rattle.std.proofs.Common.{◌≡◌, ◌<◌, ◌≤◌, ℕ, zero, suc, ◌+◌, ◌-◌, Bool, true, false, ◌||◌, List, [], ◌∷◌, ◌++◌, length, length-append, length-take, take, get_or, set, Option, Some, None, refl, sym, ap, ◌∙◌, subst, inl, inr, ◌⊎◌, ⊎_elim, append-nil, append_assoc, arith, get_or-set_same}
 use Rattle.std.specs.Prelude.{slice_get, slice_index_or, slice_set, option_and_then, is_some}
 use Rattle.std.proofs.lemmas.List.Concat.{flat_map-append}
 use Rattle.book_log.specs.Entries.{Entry}
@@ -35,7 +35,7 @@ use Rattle.session_runs.proofs.Ordered.{in_order}
 use Rattle.session_runs.proofs.Sending.{requests_more}
 use Rattle.book_log.proofs.ReadingLaws.{last_of-append}
 use Rattle.hub_promise.specs.Given.{ending_in, ending_of, why_of}
-use Rattle.hub_promise.specs.DaemonHub.{AllStop, ClosesFor, HeardOut, MayClose, SessionFits}
+use Rattle.hub_promise.specs.DaemonHub.{AllStop, ClosesFor, CutShort, HeardOut, MayClose, MayLackMemory, SessionFits}
 use Rattle.hub_promise.specs.Steps.{Abides, ClosesBy, SessionStep, with_got}
 
 -- the last piece tells it
@@ -61,6 +61,20 @@ more_requests x y more gets n lt =
     ap (λ b. length (requests b)) bytes ∙ ap length longer.1 ∙ length-append (requests (input_bytes x.got)) longer.0 in
     omega (arith, count, lt)
 
+still_short : (x y : Taking Piece) (s : SessionView) (more : List Piece) → y.got ≡ x.got ++ more → CutShort x s → CutShort y s
+still_short x y s more gets short = record {
+  before = short.before;
+  piece = short.piece;
+  later = short.later ++ more;
+  got = gets ∙ ap (λ l. l ++ more) short.got ∙ append_assoc short.before (short.piece ∷ short.later) more;
+  lacks = short.lacks;
+  answered = short.answered;
+}
+
+-- the piece that was got last could not be taken
+pub cut_short : (x : Taking Piece) (piece : Piece) (shown : SessionView) → MayLackMemory piece → shown.requests ≡ length (requests (input_bytes x.got)) → CutShort (with_got piece x) shown
+cut_short x piece shown lacks answered = record { before = x.got; piece = piece; later = []; got = refl; lacks = lacks; answered = answered }
+
 -- more was got of a lane, and nothing behind the piece that tells how its source ended
 pub cause_on : (c : Option (ℕ × Close)) (count : ℕ) (log : List Entry) (x y : Taking Piece) (s : SessionView) (more : List Piece) → y.got ≡ x.got ++ more
     → (is_some (ending_of x.got) ≡ true → more ≡ []) → ClosesFor count log x s c → ClosesFor count log y s c
@@ -70,7 +84,7 @@ cause_on (Some (place, ReadFault)) count log x y s more gets untold cause = stil
 cause_on (Some (place, DaemonEnd)) count log x y s more gets untold cause = cause
 cause_on (Some (place, TooManyRequests)) count log x y s more gets untold cause = (cause.0, more_requests x y more gets most_requests cause.1)
 cause_on (Some (place, Overrun)) count log x y s more gets untold cause = cause
-cause_on (Some (place, NoMemory)) count log x y s more gets untold cause = tt
+cause_on (Some (place, NoMemory)) count log x y s more gets untold cause = still_short x y s more gets cause
 
 -- entries came, of a device that had not stopped
 may_on : (why : Close) (count other place : ℕ) (log longer : List Entry) (x : Taking Piece) (old new : SessionView) → (AllStop count log → ⊥)
@@ -81,7 +95,14 @@ may_on DaemonEnd count other place log longer x old new running requests cap kep
 may_on TooManyRequests count other place log longer x old new running requests cap kept may = (requests ∙ may.0, may.1)
 may_on Overrun count other place log longer x old new running requests cap kept may =
     subst (λ n. n ≤ length new.kept) (sym cap) (subst (λ (l : List (List ℕ)). old.cap ≤ length l) (sym kept) may)
-may_on NoMemory count other place log longer x old new running requests cap kept may = tt
+may_on NoMemory count other place log longer x old new running requests cap kept may = record {
+  before = may.before;
+  piece = may.piece;
+  later = may.later;
+  got = may.got;
+  lacks = may.lacks;
+  answered = requests ∙ may.answered;
+}
 
 over_on : (c : Option (ℕ × Close)) (count other : ℕ) (log longer : List Entry) (x : Taking Piece) (old new : SessionView) → (AllStop count log → ⊥)
     → new.requests ≡ old.requests → new.cap ≡ old.cap → new.kept ≡ old.kept → ClosesFor count log x old c → ClosesFor other longer x new c
@@ -299,4 +320,4 @@ pub may_end : (ending : Ending) (x : Taking Piece) (count place : ℕ) (log : Li
     → MayClose count log (with_got (Last ending) x) shown place (why_of ending)
 may_end End x count place log shown answered = heard_out End x shown answered
 may_end Failed x count place log shown answered = heard_out Failed x shown answered
-may_end EndingNoMemory x count place log shown answered = tt
+may_end EndingNoMemory x count place log shown answered = cut_short x (Last EndingNoMemory) shown tt answered

@@ -15,11 +15,11 @@ use Rattle.gps_lane.specs.Ends.{Taking}
 use Rattle.gps_command.specs.Requests.{requests}
 use Rattle.serve_pieces.specs.Carried.{input_bytes}
 use Rattle.serve_pieces.specs.declared.piece.Ending.{Ending}
-use Rattle.serve_pieces.specs.declared.piece.Ending.TheVariants.{End, Failed}
+use Rattle.serve_pieces.specs.declared.piece.Ending.TheVariants.{End, Failed, NoMemory}
 use Rattle.serve_pieces.specs.declared.piece.Piece.{Piece}
-use Rattle.serve_pieces.specs.declared.piece.Piece.TheVariants.{Last}
+use Rattle.serve_pieces.specs.declared.piece.Piece.TheVariants.{Bytes, Line, Input, Last}
 use Rattle.session_core.specs.declared.mark.Close.{Close}
-use Rattle.session_core.specs.declared.mark.Close.TheVariants.{HungUp, ReadFault, DaemonEnd, TooManyRequests, Overrun, NoMemory}
+use Rattle.session_core.specs.declared.mark.Close.TheVariants.{HungUp, ReadFault, DaemonEnd, TooManyRequests, Overrun, NoMemory as CloseNoMemory}
 use Rattle.session_core.specs.SessionView.{SessionView}
 use Rattle.session_runs.specs.Accounts.{Account}
 use Rattle.session_runs.specs.Runs.{SessionRun}
@@ -55,15 +55,33 @@ pub record HeardOut (ending : Ending) (x : Taking Piece) (s : SessionView) : Typ
   pub told : x.got ≡ before ++ Last ending ∷ []
   pub answered : s.requests ≡ length (requests (input_bytes x.got))
 
--- What a closing at this place of the whole history rests on: its client was heard out; each device has stopped, and no report came behind the
--- closing; all requests that may be answered are answered, and one more was got; or its outlet was full.
+-- a piece for which a session may be closed out of memory: one with bytes of requests, or the last one of a reader that was out of memory
+abbrev pub MayLackMemory : Piece → Type 0
+MayLackMemory (Bytes at bytes) = ⊥
+MayLackMemory (Line line) = ⊥
+MayLackMemory (Input bytes) = Unit {0}
+MayLackMemory (Last End) = ⊥
+MayLackMemory (Last Failed) = ⊥
+MayLackMemory (Last NoMemory) = Unit {0}
+
+-- The requests of what was got before some piece are answered, and none that ends in that piece or later: it was the last one that the book was given.
+pub record CutShort (x : Taking Piece) (s : SessionView) : Type 0 where
+  pub before : List Piece
+  pub piece : Piece
+  pub later : List Piece
+  pub got : x.got ≡ before ++ piece ∷ later
+  pub lacks : MayLackMemory piece
+  pub answered : s.requests ≡ length (requests (input_bytes before))
+
+-- What a closing at this place of the whole history rests on: its client was heard out; each device has stopped, and no report came after the
+-- closing; all requests that may be answered are answered, and one more was got; its outlet was full; or it was cut short out of memory.
 abbrev pub MayClose : ℕ → List Entry → Taking Piece → SessionView → ℕ → Close → Type 0
 MayClose count log x s place HungUp = HeardOut End x s
 MayClose count log x s place ReadFault = HeardOut Failed x s
 MayClose count log x s place DaemonEnd = AllStop count log × (place ≡ length (history log))
 MayClose count log x s place TooManyRequests = (s.requests ≡ most_requests) × (most_requests < length (requests (input_bytes x.got)))
 MayClose count log x s place Overrun = s.cap ≤ length s.kept
-MayClose count log x s place NoMemory = Unit {0}
+MayClose count log x s place CloseNoMemory = CutShort x s
 
 abbrev pub ClosesFor : ℕ → List Entry → Taking Piece → SessionView → Option (ℕ × Close) → Type 0
 ClosesFor count log x s None = Unit {0}

@@ -7,7 +7,7 @@ use Rattle.report_book.specs.declared.fault.BookFault.{BookFault}
 use Rattle.serve_pieces.specs.declared.piece.Piece.TheVariants.{Input}
 use Rattle.session_core.specs.declared.mark.Close.TheVariants.{NoMemory}
 use Rattle.hub_promise.specs.Steps.{SessionStep, with_got}
-use Rattle.hub_promise.proofs.Sessions.{heard_step, hung_step}
+use Rattle.hub_promise.proofs.Sessions.{cut_short, heard_step, hung_step}
 use Rattle.gps_hub.proofs.session.hear.Goals as goal
 
 pub returns-in-Ok-clause-step : goal.returns-in-Ok-clause-step
@@ -24,7 +24,7 @@ returns-in-Ok-clause-answer g c =
 pub returns-in-Err-clause-step : goal.returns-in-Err-clause-step
 returns-in-Err-clause-step g c = λ x.
     let P : BookView → Type 0 = λ b. HangsUp c.args.s NoMemory b c.hang_up.new.book in
-    hung_step c.args.book.now c.hang_up.new.book c.args.s NoMemory (Input c.args.bytes.now) x c.show.ensures.holds c.requires.open_one (λ _ _ _ _ _. tt) (subst P c.in-Err.ensures.unchanged c.hang_up.ensures)
+    hung_step c.args.book.now c.hang_up.new.book c.args.s NoMemory (Input c.args.bytes.now) x c.show.ensures.holds c.requires.open_one (λ _ _ _ shown answered. cut_short x (Input c.args.bytes.now) shown tt answered) (subst P c.in-Err.ensures.unchanged c.hang_up.ensures)
 
 pub returns-in-Err-clause-answer : goal.returns-in-Err-clause-answer
 returns-in-Err-clause-answer g c =

@@ -1,5 +1,5 @@
 use gps_lane::{Rx, Tx};
-use gps_outside::{Sink, Source};
+use gps_outside::{ClientSink, Source};
 use hub_promise::DeviceEnd;
 use output_lines::SessionEnd;
 use serve_pieces::Piece;
@@ -21,7 +21,7 @@ pub struct DeviceDone<S: Source, R> {
 /// What is left of a session: its source and its sink, both ends of its input lane, the receiving end of its outlet, and whether all its
 /// items were written.
 #[derive(Drop)]
-pub struct SessionDone<S: Source, K: Sink, R> {
+pub struct SessionDone<S: Source, K: ClientSink, R> {
     pub number: u32,
     pub source: S,
     pub sink: K,

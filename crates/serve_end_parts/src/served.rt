@@ -5,7 +5,7 @@ ghost use Rattle.serve_end_parts.specs.Lines.{book_text, monitor_text, session_t
 use crate::{DeviceDone, MonitorDone, SessionDone};
 use gps_fixed::{Bytes, NoMemory};
 use gps_lane::Tx;
-use gps_outside::{Sink, Source};
+use gps_outside::{ClientSink, Source};
 use gps_world::World;
 use output_lines::{push_closing_line, push_reading_line, push_unit_line};
 use report_book::Book;
@@ -36,7 +36,7 @@ pub struct Served<W: World, R: Wait + Copy> {
 }
 
 #[tactic(auto, using(crate::proofs::Texts::not_closed, crate::proofs::Texts::not_there, crate::proofs::Texts::was_closed))]
-fn push_session<S: Source, K: Sink, R: Wait + Copy>(
+fn push_session<S: Source, K: ClientSink, R: Wait + Copy>(
     out: &mut Bytes,
     book: &Book<Tx<Item, R>>,
     session: &SessionDone<S, K, R>,
@@ -52,7 +52,7 @@ fn push_session<S: Source, K: Sink, R: Wait + Copy>(
     push_closing_line(out, session.number, session.end, why, items)
 }
 
-fn push_sessions<S: Source, K: Sink, R: Wait + Copy>(
+fn push_sessions<S: Source, K: ClientSink, R: Wait + Copy>(
     out: &mut Bytes,
     book: &Book<Tx<Item, R>>,
     sessions: &[SessionDone<S, K, R>],
@@ -108,7 +108,7 @@ fn push_monitors(out: &mut Bytes, monitors: &[MonitorDone]) -> Result<(), NoMemo
     Ok(())
 }
 
-fn lines_of<S: Source, K: Sink, R: Wait + Copy>(
+fn lines_of<S: Source, K: ClientSink, R: Wait + Copy>(
     alloc: Global,
     book: &Book<Tx<Item, R>>,
     sessions: &[SessionDone<S, K, R>],

@@ -1,28 +1,31 @@
 -- What the counts of the sources say once the threads have ended.
-use Rattle.std.proofs.Common.{◌≡◌, ℕ, ◌<◌, inl, inr, List, [], ◌∷◌, ◌++◌, Option, Some, None, sym, subst, arith}
+use Rattle.std.proofs.Common.{◌≡◌, ℕ, ◌<◌, true, inl, inr, List, [], ◌∷◌, ◌++◌, Option, Some, None, sym, subst, arith}
 use Rattle.gps_lane.specs.Ends.{Putting}
 use Rattle.gps_outside.specs.Counts.{Rose, Tally}
 use Rattle.gps_outside.specs.Told.{Stream}
-use Rattle.serve_pieces.specs.declared.piece.Ending.{Ending}
-use Rattle.serve_pieces.specs.declared.piece.Ending.TheVariants.{Failed}
 use Rattle.serve_pieces.specs.declared.piece.Piece.{Piece}
-use Rattle.serve_threads.specs.Reading.{Reads, ReadsLines}
+use Rattle.serve_workers.specs.Readings.{Meets}
+use Rattle.serve_threads.specs.Reading.{Reads, ReadsLines, counts}
 use Rattle.serve_threads.specs.declared.reading.ReaderDone.{ReaderDone}
 use Rattle.serve_end_parts.specs.declared.done.DeviceDone.{DeviceDone}
 use Rattle.serve_end_settling.specs.declared.device.DeviceRun.{DeviceRun}
-use Rattle.serve_end_settling.specs.Failing.{DeviceFailed, EdgeFailed, RunFailed, AnyOf, SourceFailed, source_of}
-use Rattle.serve_end_settling.specs.Runs.{EachRun, EdgeCause, RunCause}
+use Rattle.serve_end_settling.specs.Failing.{AnyOf, DeviceFailed, EdgeFailed, EdgeSaysFailed, MetFault, RunFailed, SaysFailed, SourceFailed, source_of}
+use Rattle.serve_end_settling.specs.Runs.{EachRun, EdgeCause, ReaderCause, RunCause}
 
 rose_some : (before now : ℕ) → Rose before now → 0 < now
 rose_some before now rose = omega (arith, rose)
 
-pub reads_cause : (part : Piece → List ℕ) (P : Piece → Type 0) (ending : Option Ending) (tx tx' : Putting Piece) (before after : Option Stream) (old new : Tally)
-    → Reads part P ending tx tx' before after old new → ending ≡ Some Failed → 0 < new.faults
-reads_cause part P ending tx tx' before after old new reads failed = rose_some old.faults new.faults (reads.failed failed)
+cause_of : {S R : Type 0} (faults : S → ℕ) (run : ReaderDone S R) (old : ℕ) → Meets run.failed run.ending old (faults run.source) → ReaderCause faults run
+cause_of faults run old meets = record { rose = λ e. rose_some old (faults run.source) (meets.rose e); said = meets.said }
 
-pub lines_cause : (ending : Option Ending) (tx tx' : Putting Piece) (before after : Option Stream) (old new : Tally)
-    → ReadsLines ending tx tx' before after old new → ending ≡ Some Failed → 0 < new.faults
-lines_cause ending tx tx' before after old new reads failed = rose_some old.faults new.faults (reads.failed failed)
+pub reads_cause : {S R : Type 0} (faults : S → ℕ) (run : ReaderDone S R) (part : Piece → List ℕ) (P : Piece → Type 0) (tx tx' : Putting Piece) (before after : Option Stream)
+    (old : Tally) (quiets : ℕ)
+    → Reads part P run.failed run.ending tx tx' before after old (counts (faults run.source) quiets) → ReaderCause faults run
+reads_cause faults run part P tx tx' before after old quiets reads = cause_of faults run old.faults reads.meets
+
+pub lines_cause : {S R : Type 0} (faults : S → ℕ) (run : ReaderDone S R) (tx tx' : Putting Piece) (before after : Option Stream) (old : Tally) (quiets : ℕ)
+    → ReadsLines run.failed run.ending tx tx' before after old (counts (faults run.source) quiets) → ReaderCause faults run
+lines_cause faults run tx tx' before after old quiets reads = cause_of faults run old.faults reads.meets
 
 pub each_run_more : {X : Type 0} (P : X → Type 0) (runs : List X) (run : X) → EachRun P runs → P run → EachRun P (runs ++ run ∷ [])
 each_run_more P [] run each p = (p, tt)
@@ -38,13 +41,24 @@ failed_last P (first ∷ xs) x p = inr (failed_last P xs x p)
 
 edge_failed : {S R : Type 0} (faults : S → ℕ) (edges : Option (ReaderDone S R)) → EdgeFailed edges → EdgeCause faults edges → SourceFailed faults (source_of edges)
 edge_failed faults None failed cause = absurd failed
-edge_failed faults (Some run) failed cause = cause failed
+edge_failed faults (Some run) failed cause = cause.rose failed
 
-pub bytes_failed : {S R : Type 0} (faults : S → ℕ) (run : DeviceRun S R) → RunCause faults run → run.bytes.ending ≡ Some Failed → RunFailed faults run
-bytes_failed faults run cause failed = inl (cause.bytes failed)
+pub bytes_failed : {S R : Type 0} (faults : S → ℕ) (run : DeviceRun S R) → RunCause faults run → run.bytes.failed ≡ true → RunFailed faults run
+bytes_failed faults run cause failed = inl (cause.bytes.rose failed)
 
 pub edges_failed : {S R : Type 0} (faults : S → ℕ) (run : DeviceRun S R) → RunCause faults run → EdgeFailed run.edges → RunFailed faults run
 edges_failed faults run cause failed = inr (edge_failed faults run.edges failed cause.edges)
+
+edge_met : {S R : Type 0} (faults : S → ℕ) (edges : Option (ReaderDone S R)) → EdgeSaysFailed edges → EdgeCause faults edges → EdgeFailed edges
+edge_met faults None said cause = absurd said
+edge_met faults (Some run) said cause = cause.said said
+
+-- a fault that a lane was told of was met
+pub said_met : {S R : Type 0} (faults : S → ℕ) (run : DeviceRun S R) → RunCause faults run → SaysFailed run → MetFault run
+said_met faults run cause said = elim said [
+  | inl bytes ↦ inl (cause.bytes.said bytes)
+  | inr lines ↦ inr (edge_met faults run.edges lines cause.edges)
+]
 
 -- the device that is handed back has the sources of its readers
 pub failed_done : {S R : Type 0} (faults : S → ℕ) (device : DeviceDone S R) (run : DeviceRun S R)

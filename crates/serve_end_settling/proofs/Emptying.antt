@@ -39,6 +39,7 @@ wrote_on end rx mid rx' before between after faults faults' faults'' one two = r
   lane = two.lane ∙ ap (λ (x : Taking (List ℕ)). record { lane = x.lane; got = rx'.got }) one.lane;
   faults_stay = let p = one.faults_stay in let q = two.faults_stay in omega arith;
   failed = λ e. let p = one.faults_stay in let q = two.failed e in omega (arith, q);
+  sound = λ e. two.sound e ∙ one.sound refl;
 }
 
 pub wrote_none : (rx : Taking (List ℕ)) (now : Option (List ℕ)) (faults : ℕ) → Wrote Drained rx rx now now faults faults
@@ -47,6 +48,7 @@ wrote_none rx now faults = record {
   lane = refl;
   faults_stay = omega arith;
   failed = λ (e : Drained ≡ WriteFault). absurd (cc);
+  sound = λ e. refl;
 }
 
 one_item : (got : List (List ℕ)) (item : List ℕ) (before after : Option (List ℕ)) → Goes (Appends item) before after → Writes Drained got (got ++ item ∷ []) before after
@@ -58,14 +60,15 @@ part_of_item got item before after wrote = record { fresh = item ∷ []; gets = 
 -- one item more was got, and written
 pub wrote_item : (rx mid rx' : Taking (List ℕ)) (item : List ℕ) (before between after : Option (List ℕ)) (faults faults' faults'' : ℕ)
     → Wrote Drained rx mid before between faults faults' → rx' ≡ record mid { got = mid.got ++ item ∷ [] }
-    → Goes (Appends item) between after → faults' ≤ faults'' → Wrote Drained rx rx' before after faults faults''
-wrote_item rx mid rx' item before between after faults faults' faults'' one is wrote stay =
+    → Goes (Appends item) between after → faults'' ≡ faults' → Wrote Drained rx rx' before after faults faults''
+wrote_item rx mid rx' item before between after faults faults' faults'' one is wrote same =
     wrote_on Drained rx mid rx' before between after faults faults' faults'' one (record {
       writes = subst (λ (l : List (List ℕ)). Writes Drained mid.got l between after) (sym (ap (λ (x : Taking (List ℕ)). x.got) is))
           (one_item mid.got item between after wrote);
       lane = ap (λ (x : Taking (List ℕ)). record { lane = x.lane; got = rx'.got }) is;
-      faults_stay = stay;
+      faults_stay = omega (arith, same);
       failed = λ (e : Drained ≡ WriteFault). absurd (cc);
+      sound = λ e. same;
     })
 
 -- one item more was got, and a part of it written
@@ -79,6 +82,7 @@ wrote_part rx mid rx' item before between after faults faults' faults'' one is w
       lane = ap (λ (x : Taking (List ℕ)). record { lane = x.lane; got = rx'.got }) is;
       faults_stay = stay;
       failed = λ e. rose;
+      sound = λ (e : WriteFault ≡ Drained). absurd (cc);
     })
 
 first_part : (piece more x y : List ℕ) → AppendsPart piece x y → AppendsPart (piece ++ more) x y
@@ -100,6 +104,7 @@ wrote_less rx mid rx' item before after faults faults' one is =
       lane = ap (λ (x : Taking (List ℕ)). record { lane = x.lane; got = rx'.got }) (is ∙ ap (λ (x : Taking (List ℕ)). record { lane = x.lane; got = mid.got ++ more }) one.lane);
       faults_stay = one.faults_stay;
       failed = one.failed;
+      sound = one.sound;
     }
 
 -- the writer drained its lane, and the writing goes on

@@ -1,18 +1,27 @@
 -- Which devices had a source that failed.
-use Rattle.std.specs.Prelude.{◌≡◌, ◌<◌, ◌⊎◌, ℕ, List, [], ◌∷◌, Option, Some, None, option_map}
+use Rattle.std.specs.Prelude.{◌≡◌, ◌<◌, ◌⊎◌, ℕ, true, List, [], ◌∷◌, Option, Some, None, option_map}
 use Rattle.serve_pieces.specs.declared.piece.Ending.TheVariants.{Failed}
 use Rattle.serve_threads.specs.declared.reading.ReaderDone.{ReaderDone}
 use Rattle.serve_end_parts.specs.declared.done.DeviceDone.{DeviceDone}
 use Rattle.serve_end_settling.specs.declared.device.DeviceRun.{DeviceRun}
 
--- the reader of its edges says that its source failed
+-- the reader of its edges met a fault
 abbrev pub EdgeFailed : {S R : Type 0} → Option (ReaderDone S R) → Type 0
 EdgeFailed None = ⊥
-EdgeFailed (Some run) = run.ending ≡ Some Failed
+EdgeFailed (Some run) = run.failed ≡ true
 
--- a reader of the device says that its source failed
+-- a reader of the device met a fault
+abbrev pub MetFault : {S R : Type 0} → DeviceRun S R → Type 0
+MetFault run = (run.bytes.failed ≡ true) ⊎ EdgeFailed run.edges
+
+-- the reader of its edges told its lane that the source failed
+abbrev pub EdgeSaysFailed : {S R : Type 0} → Option (ReaderDone S R) → Type 0
+EdgeSaysFailed None = ⊥
+EdgeSaysFailed (Some run) = run.ending ≡ Some Failed
+
+-- a reader of the device told its lane so
 abbrev pub SaysFailed : {S R : Type 0} → DeviceRun S R → Type 0
-SaysFailed run = (run.bytes.ending ≡ Some Failed) ⊎ EdgeFailed run.edges
+SaysFailed run = (run.bytes.ending ≡ Some Failed) ⊎ EdgeSaysFailed run.edges
 
 -- the faults of the source are above 0
 abbrev pub SourceFailed : {S : Type 0} → (S → ℕ) → Option S → Type 0

@@ -1,5 +1,5 @@
 -- What the readers of the devices did.
-use Rattle.std.specs.Prelude.{◌≡◌, ◌<◌, ℕ, List, [], ◌∷◌, Option, Some, None}
+use Rattle.std.specs.Prelude.{◌≡◌, ◌<◌, ℕ, true, List, [], ◌∷◌, Option, Some, None}
 use Rattle.gps_fixed.specs.Moment.{Moment}
 use Rattle.gps_lane.specs.Ends.{Putting}
 use Rattle.gps_outside.specs.declared.source.Source.{Ghosts as SourceGhosts}
@@ -45,23 +45,28 @@ EdgesRan facts None None = Unit {0}
 EdgesRan facts None (Some run) = ⊥
 EdgesRan facts (Some start) None = ⊥
 EdgesRan facts (Some start) (Some run) =
-    ReadsLines run.ending start.pieces run.pieces (facts.content start.source) (facts.content run.source)
+    ReadsLines run.failed run.ending start.pieces run.pieces (facts.content start.source) (facts.content run.source)
     (counts (facts.faults start.source) (facts.quiets start.source)) (counts (facts.faults run.source) (facts.quiets run.source))
 
 -- both readers of a device did their work on what they began with
 pub record Ran {S R : Type 0} (may : Option (List Moment)) (facts : SourceFacts S) (start : ReaderStarts S) (run : DeviceRun S R) : Type 0 where
-  pub bytes : Reads device_part (IsDevicePiece may) run.bytes.ending start.bytes.pieces run.bytes.pieces
+  pub bytes : Reads device_part (IsDevicePiece may) run.bytes.failed run.bytes.ending start.bytes.pieces run.bytes.pieces
       (facts.content start.bytes.source) (facts.content run.bytes.source)
       (counts (facts.faults start.bytes.source) (facts.quiets start.bytes.source)) (counts (facts.faults run.bytes.source) (facts.quiets run.bytes.source))
   pub edges : EdgesRan facts start.edges run.edges
 
+-- a reader met a fault only if the faults of its source are above 0, and told its lane of one only if it met one
+pub record ReaderCause {S R : Type 0} (faults : S → ℕ) (run : ReaderDone S R) : Type 0 where
+  pub rose : run.failed ≡ true → 0 < faults run.source
+  pub said : run.ending ≡ Some Failed → run.failed ≡ true
+
 abbrev pub EdgeCause : {S R : Type 0} → (S → ℕ) → Option (ReaderDone S R) → Type 0
 EdgeCause faults None = Unit {0}
-EdgeCause faults (Some run) = run.ending ≡ Some Failed → 0 < faults run.source
+EdgeCause faults (Some run) = ReaderCause faults run
 
--- a reader of the device failed only if the faults of its source are above 0
+-- the same of both readers of a device
 pub record RunCause {S R : Type 0} (faults : S → ℕ) (run : DeviceRun S R) : Type 0 where
-  pub bytes : run.bytes.ending ≡ Some Failed → 0 < faults run.bytes.source
+  pub bytes : ReaderCause faults run.bytes
   pub edges : EdgeCause faults run.edges
 
 abbrev pub EachRun : {X : Type 0} → (X → Type 0) → List X → Type 0

@@ -1,7 +1,6 @@
 ghost use Rattle.std.specs.Prelude.{◌≡◌, ◌↔◌, List, Option, Some, true};
 ghost use Rattle.gps_fixed.specs.Moment.{Moment};
-ghost use Rattle.serve_pieces.specs.declared.piece.Ending.{Ending};
-ghost use Rattle.serve_end_settling.specs.Failing.{EdgeFailed, RunFailed, SaysFailed, source_of};
+ghost use Rattle.serve_end_settling.specs.Failing.{EdgeFailed, MetFault, RunFailed, SaysFailed, source_of};
 ghost use Rattle.serve_end_settling.specs.Lanes.{AreEnds, OneMoreOfEach, Settles, SettlesSome, lanes, tx_of};
 ghost use Rattle.serve_end_settling.specs.Runs.{Ran, ReaderStarts, RunCause, StartsEmpty, source_facts};
 
@@ -9,7 +8,7 @@ use crate::reader::{SettledReader, settle_reader};
 use gps_lane::{Rx, Tx};
 use gps_outside::Source;
 use serve_end_parts::{DeviceDone, DeviceEnd};
-use serve_pieces::{Ending, Piece};
+use serve_pieces::Piece;
 use serve_threads::ReaderDone;
 use std::sync::Wait;
 
@@ -20,32 +19,24 @@ pub struct DeviceRun<S: Source, R: Wait + Copy> {
     pub edges: Option<ReaderDone<S, R>>,
 }
 
-fn failed<S: Source, R>(reader: &ReaderDone<S, R>) -> bool
-    ensures { (result ≡ true) ↔ (reader.now.ending ≡ Some Ending.Failed) }
-{
-    match reader.ending {
-        Some(Ending::Failed) => true,
-        Some(Ending::End | Ending::NoMemory) | None => false,
-    }
-}
-
 fn edges_failed<S: Source, R>(edges: &Option<ReaderDone<S, R>>) -> bool
     ensures { (result ≡ true) ↔ EdgeFailed edges.now }
 {
     match edges {
-        Some(reader) => failed(reader),
+        Some(reader) => reader.failed,
         None => false,
     }
 }
 
-/// Whether a reader of a device says that its source failed.
-#[tactic(auto, using(crate::proofs::Causes::bytes_failed, crate::proofs::Causes::edges_failed))]
+/// Whether a source of a device failed, as its readers met it.
+#[tactic(auto, using(crate::proofs::Causes::bytes_failed, crate::proofs::Causes::edges_failed, crate::proofs::Causes::said_met))]
 pub fn device_failed<S: Source, R: Wait + Copy>(run: &DeviceRun<S, R>) -> bool
     requires { RunCause S.faults run.now }
-    ensures said { (result ≡ true) ↔ SaysFailed run.now }
+    ensures met { (result ≡ true) ↔ MetFault run.now }
+    ensures said { SaysFailed run.now → result ≡ true }
     ensures counted { result ≡ true → RunFailed S.faults run.now }
 {
-    if failed(&run.bytes) {
+    if run.bytes.failed {
         true
     } else {
         edges_failed(&run.edges)

@@ -38,6 +38,7 @@ pub(crate) fn settle_reader<S: Source, R: Wait + Copy>(
         source,
         pieces,
         ending: _,
+        failed: _,
     } = reader;
     let mut tx = pieces;
     let mut rx = rx;

@@ -1,4 +1,4 @@
-ghost use Rattle.std.specs.Prelude.{◌≡◌, ◌<◌, ◌≤◌, ◌++◌, ℕ, List, [], length, Option, IfNone, false};
+ghost use Rattle.std.specs.Prelude.{◌≡◌, ◌<◌, ◌≤◌, ◌++◌, ℕ, List, [], length, Option, IfNone, false, true};
 ghost use Rattle.std.specs.Option.{option_to_list};
 ghost use Rattle.book_sessions.specs.MemberView.{MemberView};
 ghost use Rattle.gps_lane.specs.Ends.{Taking};
@@ -12,7 +12,7 @@ ghost use Rattle.serve_end_settling.specs.Outlets.{Empties, IsOutletOf, given_to
 
 use crate::reader::{SettledReader, settle_reader};
 use gps_lane::{Rx, Tx};
-use gps_outside::{Sink, Source, write_all};
+use gps_outside::{ClientSink, Source, send_all};
 use report_book::Book;
 use serve_end_parts::{SessionDone, SessionEnd};
 use serve_pieces::Piece;
@@ -51,16 +51,17 @@ fn next_item<R: Wait + Copy>(
 }
 
 /// Writes an item; false if the sink failed.
-fn write_item<K: Sink>(sink: &mut K, item: Item) -> bool
+fn write_item<K: ClientSink>(sink: &mut K, item: Item) -> bool
     ensures bytes { WritesAll result item (K.written sink.old) (K.written sink.new) }
     ensures faults_stay { K.faults sink.old ≤ K.faults sink.new }
     ensures failed { result ≡ false → Rose (K.faults sink.old) (K.faults sink.new) }
+    ensures fails_only { result ≡ true → K.faults sink.new ≡ K.faults sink.old }
 {
-    write_all(sink, item.bytes())
+    send_all(sink, item.bytes())
 }
 
 /// Writes the items that a session's outlet still holds, until it holds none or the sink fails.
-fn drain<K: Sink, R: Wait + Copy>(
+fn drain<K: ClientSink, R: Wait + Copy>(
     rt: &R,
     book: &mut Book<Tx<Item, R>>,
     number: u32,
@@ -87,7 +88,7 @@ fn drain<K: Sink, R: Wait + Copy>(
 }
 
 /// Writes what a session's outlet still holds, if its writer wrote all that it got; else at most one more item is got, and not written.
-fn settle_outlet<K: Sink, R: Wait + Copy>(
+fn settle_outlet<K: ClientSink, R: Wait + Copy>(
     rt: &R,
     book: &mut Book<Tx<Item, R>>,
     number: u32,
@@ -118,7 +119,7 @@ fn settle_outlet<K: Sink, R: Wait + Copy>(
 
 /// Puts together what is left of a session, and settles its two lanes. Of its input lane at most one more piece is got. What its outlet still
 /// holds is written, if its writer wrote all that it got.
-pub fn session_done<S: Source, K: Sink, R: Wait + Copy>(
+pub fn session_done<S: Source, K: ClientSink, R: Wait + Copy>(
     rt: &R,
     book: &mut Book<Tx<Item, R>>,
     number: u32,

@@ -1,29 +1,28 @@
 -- What a reader did from its start to its end.
-use Rattle.std.specs.Prelude.{◌≡◌, ℕ, ◌≤◌, List, Option, Some}
+use Rattle.std.specs.Prelude.{◌≡◌, ℕ, ◌≤◌, Bool, List, Option}
 use Rattle.gps_lane.specs.Ends.{Putting}
-use Rattle.gps_outside.specs.Counts.{Rose, Tally}
+use Rattle.gps_outside.specs.Counts.{Tally}
 use Rattle.gps_outside.specs.Told.{Stream}
 use Rattle.serve_pieces.specs.declared.piece.Ending.{Ending}
-use Rattle.serve_pieces.specs.declared.piece.Ending.TheVariants.{Failed}
 use Rattle.serve_pieces.specs.declared.piece.Piece.{Piece}
 use Rattle.serve_workers.specs.EdgeLines.{HandsLines}
-use Rattle.serve_workers.specs.Readings.{HandsOn}
+use Rattle.serve_workers.specs.Readings.{HandsOn, Meets}
 
 abbrev pub counts : ℕ → ℕ → Tally
 counts faults quiets = record { faults = faults; quiets = quiets }
 
--- It put what it took into its lane, and failed only if the source's faults rose.
-pub record Reads (part : Piece → List ℕ) (P : Piece → Type 0) (ending : Option Ending) (tx tx' : Putting Piece) (before after : Option Stream) (old new : Tally) : Type 0 where
+-- It put what it took into its lane, and met a fault exactly if the source's faults rose.
+pub record Reads (part : Piece → List ℕ) (P : Piece → Type 0) (failed : Bool) (ending : Option Ending) (tx tx' : Putting Piece) (before after : Option Stream) (old new : Tally) : Type 0 where
   pub hands : HandsOn part P ending tx.put tx'.put before after
   pub lane : tx' ≡ record tx { put = tx'.put; is_open = tx'.is_open }
   pub faults_stay : old.faults ≤ new.faults
   pub quiets_stay : old.quiets ≤ new.quiets
-  pub failed : ending ≡ Some Failed → Rose old.faults new.faults
+  pub meets : Meets failed ending old.faults new.faults
 
 -- The same of a device's edges.
-pub record ReadsLines (ending : Option Ending) (tx tx' : Putting Piece) (before after : Option Stream) (old new : Tally) : Type 0 where
+pub record ReadsLines (failed : Bool) (ending : Option Ending) (tx tx' : Putting Piece) (before after : Option Stream) (old new : Tally) : Type 0 where
   pub hands : HandsLines ending tx.put tx'.put before after
   pub lane : tx' ≡ record tx { put = tx'.put; is_open = tx'.is_open }
   pub faults_stay : old.faults ≤ new.faults
   pub quiets_stay : old.quiets ≤ new.quiets
-  pub failed : ending ≡ Some Failed → Rose old.faults new.faults
+  pub meets : Meets failed ending old.faults new.faults

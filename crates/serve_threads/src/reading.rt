@@ -16,12 +16,15 @@ use std::snapshot::Snapshot;
 use std::sync::{Mutex, Wait};
 use std::thread::{Promise, Scope};
 
-/// What a reader hands back: its source, its end of the lane, and how the source ended, if it was not told to end before.
+/// What a reader hands back: its source, its end of the lane, what it told its lane of the source's end, if it was not told to end before, and
+/// whether the source failed.
 #[derive(Drop)]
 pub struct ReaderDone<S: Source, R> {
     pub source: S,
     pub pieces: Tx<Piece, R>,
     pub ending: Option<Ending>,
+    /// Whether its source failed.
+    pub failed: bool,
 }
 
 /// A device reader promises that it put what it took from this source into this lane.
@@ -37,7 +40,7 @@ impl<S: Source, R, D: Dials> Promise<ReaderDone<S, R>> for DeviceReading<S, R, D
     ghost use Rattle.serve_workers.specs.Readings.{IsDevicePiece};
     ghost use Rattle.serve_threads.specs.Reading.{Reads, counts};
 
-    ghost kept_by = { λ p r. Reads device_part (IsDevicePiece D.may) r.ending p.pieces.value r.pieces
+    ghost kept_by = { λ p r. Reads device_part (IsDevicePiece D.may) r.failed r.ending p.pieces.value r.pieces
         (S.content p.source.value) (S.content r.source)
         (counts (S.faults p.source.value) (S.quiets p.source.value)) (counts (S.faults r.source) (S.quiets r.source)) };
 }
@@ -52,7 +55,7 @@ pub struct EdgeReading<S: Source, R> {
 impl<S: Source, R> Promise<ReaderDone<S, R>> for EdgeReading<S, R> {
     ghost use Rattle.serve_threads.specs.Reading.{ReadsLines, counts};
 
-    ghost kept_by = { λ p r. ReadsLines r.ending p.pieces.value r.pieces
+    ghost kept_by = { λ p r. ReadsLines r.failed r.ending p.pieces.value r.pieces
         (S.content p.source.value) (S.content r.source)
         (counts (S.faults p.source.value) (S.quiets p.source.value)) (counts (S.faults r.source) (S.quiets r.source)) };
 }
@@ -70,12 +73,12 @@ pub fn device_reader<S: Source, C: Clock, D: Dials, R: Wait + Copy>(
     pump: &Bell,
 ) -> ReaderDone<S, R>
     requires open { pieces.is_open ≡ true }
-    ensures { Reads device_part (IsDevicePiece D.may) result.ending pieces result.pieces (S.content source) (S.content result.source)
+    ensures { Reads device_part (IsDevicePiece D.may) result.failed result.ending pieces result.pieces (S.content source) (S.content result.source)
         (counts (S.faults source) (S.quiets source)) (counts (S.faults result.source) (S.quiets result.source)) }
 {
     let mut source = source;
     let mut pieces = pieces;
-    let ending = read_device(
+    let end = read_device(
         rt,
         alloc,
         &mut source,
@@ -88,7 +91,8 @@ pub fn device_reader<S: Source, C: Clock, D: Dials, R: Wait + Copy>(
     ReaderDone {
         source,
         pieces,
-        ending,
+        ending: end.told,
+        failed: end.failed,
     }
 }
 
@@ -104,17 +108,18 @@ pub fn session_reader<S: Source, R: Wait + Copy>(
     pump: &Bell,
 ) -> ReaderDone<S, R>
     requires open { pieces.is_open ≡ true }
-    ensures reads { Reads input_part IsInputPiece result.ending pieces result.pieces (S.content source) (S.content result.source)
+    ensures reads { Reads input_part IsInputPiece result.failed result.ending pieces result.pieces (S.content source) (S.content result.source)
         (counts (S.faults source) (S.quiets source)) (counts (S.faults result.source) (S.quiets result.source)) }
     ensures read { Goes (WasRead (S.faults result.source) (S.quiets result.source)) (S.content source) (S.content result.source) }
 {
     let mut source = source;
     let mut pieces = pieces;
-    let ending = read_session(rt, alloc, &mut source, &mut pieces, own, pump, alone.span());
+    let end = read_session(rt, alloc, &mut source, &mut pieces, own, pump, alone.span());
     ReaderDone {
         source,
         pieces,
-        ending,
+        ending: end.told,
+        failed: end.failed,
     }
 }
 
@@ -166,16 +171,17 @@ pub fn edge_reader<S: Source, R: Wait + Copy>(
     pump: &Bell,
 ) -> ReaderDone<S, R>
     requires open { pieces.is_open ≡ true }
-    ensures { ReadsLines result.ending pieces result.pieces (S.content source) (S.content result.source) (counts (S.faults source) (S.quiets source))
-        (counts (S.faults result.source) (S.quiets result.source)) }
+    ensures { ReadsLines result.failed result.ending pieces result.pieces (S.content source) (S.content result.source)
+        (counts (S.faults source) (S.quiets source)) (counts (S.faults result.source) (S.quiets result.source)) }
 {
     let mut source = source;
     let mut pieces = pieces;
-    let ending = read_edges(rt, alloc, &mut source, &mut pieces, own, pump, alone.span());
+    let end = read_edges(rt, alloc, &mut source, &mut pieces, own, pump, alone.span());
     ReaderDone {
         source,
         pieces,
-        ending,
+        ending: end.told,
+        failed: end.failed,
     }
 }
 

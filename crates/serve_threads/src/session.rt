@@ -5,7 +5,7 @@ use crate::bells::SessionBells;
 use crate::reading::{ReaderDone, session_reader};
 use crate::work::{Work, start};
 use gps_lane::{Bell, Rx, Tx};
-use gps_outside::{Sink, Source};
+use gps_outside::{ClientSink, Source};
 use serve_pieces::Piece;
 use serve_workers::{WriterEnd, write_items};
 use session_core::Item;
@@ -16,7 +16,7 @@ use std::thread::{Promise, Scope, Threads};
 
 /// What a writer hands back.
 #[derive(Drop)]
-pub struct WriterDone<K: Sink, R> {
+pub struct WriterDone<K: ClientSink, R> {
     pub sink: K,
     pub items: Rx<Item, R>,
     pub end: WriterEnd,
@@ -24,14 +24,14 @@ pub struct WriterDone<K: Sink, R> {
 
 /// What the two threads of a session hand back.
 #[derive(Drop)]
-pub struct LinkDone<S: Source, K: Sink, R> {
+pub struct LinkDone<S: Source, K: ClientSink, R> {
     pub reader: ReaderDone<S, R>,
     pub writer: WriterDone<K, R>,
 }
 
 /// What a session's threads work with.
 #[derive(Drop)]
-pub struct SessionLink<S: Source, K: Sink, R> {
+pub struct SessionLink<S: Source, K: ClientSink, R> {
     pub source: S,
     pub sink: K,
     pub pieces: Tx<Piece, R>,
@@ -40,12 +40,12 @@ pub struct SessionLink<S: Source, K: Sink, R> {
 
 /// A writer promises that it wrote to this sink what it got of this lane.
 #[derive(Drop)]
-pub struct Writing<K: Sink, R> {
+pub struct Writing<K: ClientSink, R> {
     pub sink: Snapshot<K>,
     pub items: Snapshot<Rx<Item, R>>,
 }
 
-impl<K: Sink, R> Promise<WriterDone<K, R>> for Writing<K, R> {
+impl<K: ClientSink, R> Promise<WriterDone<K, R>> for Writing<K, R> {
     ghost use Rattle.serve_threads.specs.Sessions.{Wrote};
 
     ghost kept_by = { λ p r. Wrote r.end p.items.value r.items (K.written p.sink.value) (K.written r.sink) (K.faults p.sink.value) (K.faults r.sink) };
@@ -53,17 +53,17 @@ impl<K: Sink, R> Promise<WriterDone<K, R>> for Writing<K, R> {
 
 /// A session's threads promise that both did their work on this link.
 #[derive(Drop)]
-pub struct Attending<S: Source, K: Sink, R> {
+pub struct Attending<S: Source, K: ClientSink, R> {
     pub link: Snapshot<SessionLink<S, K, R>>,
 }
 
-impl<S: Source, K: Sink, R> Promise<LinkDone<S, K, R>> for Attending<S, K, R> {
+impl<S: Source, K: ClientSink, R> Promise<LinkDone<S, K, R>> for Attending<S, K, R> {
     ghost use Rattle.serve_threads.specs.Sessions.{SessionRuns};
 
     ghost kept_by = { λ p r. SessionRuns S.content S.faults S.quiets K.written K.faults p.link.value r };
 }
 
-fn session_writer<K: Sink, R: Wait + Copy>(
+fn session_writer<K: ClientSink, R: Wait + Copy>(
     rt: &R,
     alloc: Global,
     items: Rx<Item, R>,
@@ -85,7 +85,7 @@ pub fn attend<
     's,
     E,
     S: Source + Send + 's,
-    K: Sink + Send + 's,
+    K: ClientSink + Send + 's,
     R: Threads + Wait + Copy + Send + Sync + 's,
 >(
     rt: R,
@@ -136,7 +136,7 @@ pub fn start_session<
     's,
     E,
     S: Source + Send + 's,
-    K: Sink + Send + 's,
+    K: ClientSink + Send + 's,
     R: Threads + Wait + Copy + Send + Sync + 's,
 >(
     rt: R,

@@ -1,6 +1,7 @@
 -- The steps of a reader of lines, one after another, and its end.
 use Rattle.std.proofs.Common.{◌≡◌, ℕ, List, [], ◌++◌, Option, Some, None, IfSome, inl, inr, refl, sym, ◌∙◌, ap, subst, append_assoc, append-nil}
 use Rattle.std.proofs.lemmas.List.{map-append}
+use Rattle.std.proofs.lemmas.Option.{same_Some}
 use Rattle.gps_outside.specs.Told.{Stream, Goes, Stays, Passes, IsAtEnd, MayLose}
 use Rattle.gps_outside.specs.ReadSteps.{TakesAll, TakesSome}
 use Rattle.gps_outside.proofs.Going.{goes_as, goes_on}
@@ -238,10 +239,20 @@ handed_lines (Some said) last put mid before after same cuts = record {
   took = rw same cuts.took;
 }
 
--- no last piece
-pub told_to_end : (put mid : List Piece) (before after : Option Stream) → CutsLines None put mid before after → HandsLines None put mid before after
-told_to_end put mid before after cuts =
-    record { bytes = cuts.bytes; lines = cuts.lines; puts = cuts.puts ∙ sym (append-nil (put ++ line_pieces cuts.lines)); are = cuts.are; took = cuts.took }
+-- the same if nothing may have been met, because the reader was told to end
+pub handed_lines_by : (met told : Option Ending) (put mid : List Piece) (before after : Option Stream)
+    → IfSome told (λ last. met ≡ Some last)
+    → CutsLines met put mid before after → HandsLines told put (mid ++ last_piece told) before after
+handed_lines_by None None put mid before after same cuts = record {
+  bytes = cuts.bytes;
+  lines = cuts.lines;
+  puts = ap (λ l. l ++ []) cuts.puts;
+  are = cuts.are;
+  took = cuts.took;
+}
+handed_lines_by None (Some said) put mid before after same cuts = absurd cc
+handed_lines_by (Some last) None put mid before after same cuts = handed_lines None last put mid before after tt cuts
+handed_lines_by (Some last) (Some said) put mid before after same cuts = handed_lines (Some said) last put mid before after (sym (same_Some last said same)) cuts
 
 pub ends_as : (ending ending' : Ending) (bytes : List ℕ) (kept : LineCutterView) (put put' : List Piece) (before after : Option Stream)
     → ending ≡ ending' → EdgeLineSteps (Over ending) bytes kept put put' before after → EdgeLineSteps (Over ending') bytes kept put put' before after
@@ -249,9 +260,9 @@ ends_as ending ending' bytes kept put put' before after is turns = subst (λ (e 
 
 -- the reading was out of memory, and only that was put
 pub lines_refused : (result : Option Ending) (put : List Piece) (now : Option Stream)
-    → IfSome result (λ said. said ≡ NoMemory) → HandsLines result put (put ++ last_piece result) now now
+    → IfSome result (λ said. Some NoMemory ≡ Some said) → HandsLines result put (put ++ last_piece result) now now
 lines_refused result put now same =
-    handed_lines result NoMemory put put now now same
+    handed_lines_by (Some NoMemory) result put put now now same
     (record { bytes = []; lines = []; puts = sym (append-nil put); are = (edge_lines [] ++ last_edge_line [], refl); took = stop_took now now (stays now) })
 
 took_closed : (result : Option Ending) (bytes : List ℕ) (before now after : Option Stream)

@@ -6,6 +6,7 @@ use Rattle.std.proofs.lemmas.List.Folds.{concat-append}
 use Rattle.gps_outside.specs.Told.{Goes, Appends, AppendsPart}
 use Rattle.gps_outside.proofs.Going.{goes_as}
 use Rattle.gps_outside.proofs.Writing.{appends_on, part_on, appends_none}
+use Rattle.serve_workers.specs.declared.writer.WriterEnd.{WriterEnd}
 use Rattle.serve_workers.specs.declared.writer.WriterEnd.TheVariants.{Drained, WriteFault}
 use Rattle.serve_workers.specs.Writing.{Writes, Gathers}
 
@@ -139,3 +140,15 @@ over_part_written item piece got now before after end same w one = record {
 pub begun_with : (item joined : List ℕ) (got now : List (List ℕ)) (before after : Option (List ℕ)) → joined ≡ item
     → WrittenBut (concat (item ∷ [])) got now before after → WrittenBut joined got now before after
 begun_with item joined got now before after is w = subst (λ l. WrittenBut l got now before after) (append-nil item ∙ sym is) w
+
+all_is_part : (bytes x y : List ℕ) → Appends bytes x y → AppendsPart bytes x y
+all_is_part bytes x y p = (bytes, (([], sym (append-nil bytes)), p))
+
+-- what was written and not delivered is a part of what was due
+pub undelivered : (end : WriterEnd) (got now : List (List ℕ)) (before after : Option (List ℕ)) → Writes end got now before after → Writes WriteFault got now before after
+undelivered Drained got now before after w = record {
+  fresh = w.fresh;
+  gets = w.gets;
+  wrote = goes_as (Appends (concat w.fresh)) (AppendsPart (concat w.fresh)) before after (all_is_part (concat w.fresh)) w.wrote;
+}
+undelivered WriteFault got now before after w = w

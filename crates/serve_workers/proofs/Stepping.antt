@@ -1,5 +1,5 @@
 -- The steps of a reader, one after another.
-use Rattle.std.proofs.Common.{◌≡◌, ℕ, ◌+◌, ◌≤◌, List, [], ◌∷◌, ◌++◌, length, take, Option, Some, None, IfSome, ◌⊎◌, subst, inl, inr, refl, sym, ◌∙◌, ap, append_assoc, append-nil, length-append, arith}
+use Rattle.std.proofs.Common.{◌≡◌, ℕ, Bool, ◌+◌, ◌≤◌, List, [], ◌∷◌, ◌++◌, length, take, Option, Some, None, IfSome, ◌⊎◌, subst, inl, inr, refl, sym, ◌∙◌, ap, append_assoc, append-nil, length-append, arith}
 use Rattle.std.specs.List.{flat_map}
 use Rattle.std.proofs.lemmas.List.{nil_from_length}
 use Rattle.std.proofs.lemmas.List.Concat.{flat_map-append}
@@ -17,7 +17,7 @@ use Rattle.serve_pieces.specs.declared.piece.Ending.TheVariants as ending
 use Rattle.serve_pieces.specs.declared.piece.Piece.{Piece}
 use Rattle.serve_workers.specs.declared.readers.ReaderStep.{ReaderStep}
 use Rattle.serve_workers.specs.declared.readers.ReaderStep.TheVariants.{On, Over, Closed}
-use Rattle.serve_workers.specs.Readings.{Each, HandsOn, StepHasCause, Took, TookIn, TakesMore, ReaderSteps, WasRead, last_piece, over}
+use Rattle.serve_workers.specs.Readings.{Each, HandsOn, Meets, StepHasCause, Took, TookIn, TakesMore, ReaderSteps, WasRead, is_fault, last_piece, over}
 
 got_some : (n : ℕ) (buf : List ℕ) (faults quiets : ℕ) (x y : Stream) → (1 ≤ n) × (n ≤ length buf) → Passes (take n buf) x y → WasRead faults quiets x y
 got_some n buf faults quiets x y fits passed = inl (grind (arith, common_steps))
@@ -301,20 +301,44 @@ handed part P (Some said) last put mid before after same turns = record {
   took = rw same turns.took;
 }
 
+-- the same if nothing may have been met, because the reader was told to end
+pub handed_by : (part : Piece → List ℕ) (P : Piece → Type 0) (met told : Option Ending) (put mid : List Piece) (before after : Option Stream)
+    → IfSome told (λ last. met ≡ Some last)
+    → ReaderSteps part P (over met) put mid before after → HandsOn part P told put (mid ++ last_piece told) before after
+handed_by part P None None put mid before after same turns = record {
+  pieces = turns.pieces;
+  puts = ap (λ l. l ++ []) turns.puts;
+  good = turns.good;
+  took = turns.took;
+}
+handed_by part P None (Some said) put mid before after same turns = absurd cc
+handed_by part P (Some last) None put mid before after same turns = handed part P None last put mid before after tt turns
+handed_by part P (Some last) (Some said) put mid before after same turns =
+    handed part P (Some said) last put mid before after (sym (same_Some last said same)) turns
+
+-- a fault that was met, and what was told of it
+not_said : {X : Type 0} (told : Option Ending) (last : Ending) → IfSome told (λ said. Some last ≡ Some said) → (last ≡ ending.Failed → X) → told ≡ Some ending.Failed → X
+not_said None last same other is = absurd cc
+not_said (Some said) last same other is = other (same_Some last said same ∙ same_Some said ending.Failed is)
+
+met_by : (met told : Option Ending) (before now : ℕ) → IfSome told (λ last. met ≡ Some last) → StepHasCause (over met) before now → Meets (is_fault met) told before now
+met_by None None before now same cause = record { rose = λ e. absurd cc; same = λ e. cause; said = λ e. absurd cc }
+met_by None (Some said) before now same cause = absurd cc
+met_by (Some ending.End) told before now same cause = record { rose = λ e. absurd cc; same = λ e. cause; said = not_said told ending.End same (λ e. absurd cc) }
+met_by (Some ending.NoMemory) told before now same cause = record { rose = λ e. absurd cc; same = λ e. cause; said = not_said told ending.NoMemory same (λ e. absurd cc) }
+met_by (Some ending.Failed) told before now same cause = record { rose = λ e. cause; same = λ e. absurd cc; said = λ e. refl }
+
+pub meets : (met told : Option Ending) (failed : Bool) (before now : ℕ) → failed ≡ is_fault met → IfSome told (λ last. met ≡ Some last)
+    → StepHasCause (over met) before now → Meets failed told before now
+meets met told failed before now is same cause = subst (λ f. Meets f told before now) (sym is) (met_by met told before now same cause)
+
 -- only the last piece was put, or nothing
-pub handed_last : (part : Piece → List ℕ) (P : Piece → Type 0) (result : Option Ending) (last : Ending) (put : List Piece) (before after : Option Stream)
-    → IfSome result (λ said. said ≡ last) → Took (Some last) [] before after → HandsOn part P result put (put ++ last_piece result) before after
-handed_last part P result last put before after same took = handed part P result last put put before after same (none_put part P last put before after took)
+pub handed_last : (part : Piece → List ℕ) (P : Piece → Type 0) (told : Option Ending) (last : Ending) (put : List Piece) (before after : Option Stream)
+    → IfSome told (λ said. Some last ≡ Some said) → Took (Some last) [] before after → HandsOn part P told put (put ++ last_piece told) before after
+handed_last part P told last put before after same took = handed_by part P (Some last) told put put before after same (none_put part P last put before after took)
 
 -- a source that was closed and not read
 pub refused : (part : Piece → List ℕ) (P : Piece → Type 0) (result : Option Ending) (put : List Piece) (before after : Option Stream)
-    → Goes MayLose before after → IfSome result (λ said. said ≡ ending.NoMemory) → HandsOn part P result put (put ++ last_piece result) before after
+    → Goes MayLose before after → IfSome result (λ said. Some ending.NoMemory ≡ Some said) → HandsOn part P result put (put ++ last_piece result) before after
 refused part P result put before after closed same =
     handed_last part P result ending.NoMemory put before after same (goes_as MayLose (TakesMore []) before after (λ x y p. some_more [] x y (lost_some x y p)) closed)
-
--- that it failed was said only if its faults rose
-pub said_cause : (result : Option Ending) (last : Ending) (before now : ℕ)
-    → IfSome result (λ said. said ≡ last) → StepHasCause (Over last) before now → result ≡ Some ending.Failed → Rose before now
-said_cause None last before now same cause is = absurd (none-some ending.Failed is)
-said_cause (Some said) last before now same cause is =
-    subst (λ (e : Ending). StepHasCause (Over e) before now) (sym same ∙ same_Some said ending.Failed is) cause

@@ -1,5 +1,5 @@
 -- What a reader took from its source, and what it put into its lane.
-use Rattle.std.specs.Prelude.{◌≡◌, ℕ, ◌≤◌, ◌<◌, ◌⊎◌, List, [], ◌∷◌, ◌++◌, length, Option, Some, None}
+use Rattle.std.specs.Prelude.{◌≡◌, ℕ, ◌≤◌, ◌<◌, ◌⊎◌, Bool, true, false, List, [], ◌∷◌, ◌++◌, length, Option, Some, None}
 use Rattle.std.specs.List.{flat_map}
 use Rattle.gps_fixed.specs.Moment.{Moment}
 use Rattle.gps_outside.specs.Counts.{Rose}
@@ -79,10 +79,23 @@ abbrev pub over : Option Ending → ReaderStep
 over None = Closed
 over (Some ending) = Over ending
 
--- the cause of a step's answer
+-- what the source's faults say of a step's answer: they rose exactly if the source failed
 abbrev pub StepHasCause : ReaderStep → ℕ → ℕ → Type 0
-StepHasCause On before now = Unit {0}
-StepHasCause (Over End) before now = Unit {0}
+StepHasCause On before now = now ≡ before
+StepHasCause (Over End) before now = now ≡ before
 StepHasCause (Over Failed) before now = Rose before now
-StepHasCause (Over NoMemory) before now = Unit {0}
-StepHasCause Closed before now = Unit {0}
+StepHasCause (Over NoMemory) before now = now ≡ before
+StepHasCause Closed before now = now ≡ before
+
+-- the source failed
+abbrev pub is_fault : Option Ending → Bool
+is_fault None = false
+is_fault (Some End) = false
+is_fault (Some Failed) = true
+is_fault (Some NoMemory) = false
+
+-- A reader met a fault exactly if its source's faults rose. It tells its lane of a fault only if it met one.
+pub record Meets (failed : Bool) (told : Option Ending) (faults faults' : ℕ) : Type 0 where
+  pub rose : failed ≡ true → Rose faults faults'
+  pub same : failed ≡ false → faults' ≡ faults
+  pub said : told ≡ Some Failed → failed ≡ true

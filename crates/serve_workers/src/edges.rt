@@ -1,14 +1,12 @@
-ghost use Rattle.std.specs.Prelude.{◌≡◌, ◌≤◌, ℕ, List, [], Some, true};
-ghost use Rattle.gps_outside.specs.Counts.{Rose};
-ghost use Rattle.serve_pieces.specs.declared.piece.Ending.{Ending};
+ghost use Rattle.std.specs.Prelude.{◌≡◌, ◌≤◌, ℕ, List, [], true};
 ghost use Rattle.serve_pieces.specs.Sizes.{IsShort};
 ghost use Rattle.line_cut.specs.Standing.{StandsFor};
-ghost use Rattle.serve_workers.specs.Readings.{StepHasCause, over};
+ghost use Rattle.serve_workers.specs.Readings.{Meets, StepHasCause, over};
 ghost use Rattle.serve_workers.specs.EdgeLines.{edge_limit, PutsLine, PutsLines, PutsLast, EdgeLineSteps, CutsLines, HandsLines};
 
 use crate::pauses::pause;
-use crate::puts::{put, put_ending};
-use crate::readers::{READ, ReaderStep, Span};
+use crate::puts::put;
+use crate::readers::{READ, ReaderEnd, ReaderStep, Span, tell};
 use gps_lane::{Bell, Tx};
 use gps_outside::{ReadStep, Source};
 use line_cut::{Last, Limit, LineCutter, Next, text_of};
@@ -217,23 +215,23 @@ fn put_edges<S: Source, R: Wait + Copy>(
     own: &Bell,
     pump: &Bell,
     span: Span,
-) -> Option<Ending>
+) -> ReaderEnd
     requires open { pieces.old.is_open ≡ true }
-    ensures hands { HandsLines result pieces.old.put pieces.new.put (S.content source.old) (S.content source.new) }
+    ensures hands { HandsLines result.told pieces.old.put pieces.new.put (S.content source.old) (S.content source.new) }
     ensures lane { pieces.new ≡ record pieces.old { put = pieces.new.put } }
     ensures faults_stay { S.faults source.old ≤ S.faults source.new }
     ensures quiets_stay { S.quiets source.old ≤ S.quiets source.new }
-    ensures failed { result ≡ Some Ending.Failed → Rose (S.faults source.old) (S.faults source.new) }
+    ensures meets { Meets result.failed result.told (S.faults source.old) (S.faults source.new) }
 {
     if span == Span::Nothing {
-        return put_ending(rt, pieces, Ending::NoMemory, own, pump);
+        return tell(rt, pieces, Some(Ending::NoMemory), own, pump);
     }
-    let ending = cut_all(rt, alloc, source, pieces, own, pump)?;
-    put_ending(rt, pieces, ending, own, pump)
+    let met = cut_all(rt, alloc, source, pieces, own, pump);
+    tell(rt, pieces, met, own, pump)
 }
 
 /// Reads the lines of an edges file to its end, and puts each that has at most 64 bytes without its line end, LF or CR
-/// LF; the last may lack it. The last piece tells how the source ended. None: it was told to end before that was put, as
+/// LF; the last may lack it. The last piece tells how the source ended, unless the reader was told to end before that was put, as
 /// [`read_device`](crate::read_device). In whatever way it ends, the source is closed.
 #[tactic(auto, using(crate::proofs::LineStepping::lines_closed))]
 pub fn read_edges<S: Source, R: Wait + Copy>(
@@ -244,15 +242,15 @@ pub fn read_edges<S: Source, R: Wait + Copy>(
     own: &Bell,
     pump: &Bell,
     span: Span,
-) -> Option<Ending>
+) -> ReaderEnd
     requires open { pieces.old.is_open ≡ true }
-    ensures hands { HandsLines result pieces.old.put pieces.new.put (S.content source.old) (S.content source.new) }
+    ensures hands { HandsLines result.told pieces.old.put pieces.new.put (S.content source.old) (S.content source.new) }
     ensures lane { pieces.new ≡ record pieces.old { put = pieces.new.put } }
     ensures faults_stay { S.faults source.old ≤ S.faults source.new }
     ensures quiets_stay { S.quiets source.old ≤ S.quiets source.new }
-    ensures failed { result ≡ Some Ending.Failed → Rose (S.faults source.old) (S.faults source.new) }
+    ensures meets { Meets result.failed result.told (S.faults source.old) (S.faults source.new) }
 {
-    let ending = put_edges(rt, alloc, source, pieces, own, pump, span);
+    let end = put_edges(rt, alloc, source, pieces, own, pump, span);
     source.finish();
-    ending
+    end
 }

@@ -18,6 +18,6 @@ mod writer;
 
 pub use edges::read_edges;
 pub use monitor::run_monitor;
-pub use readers::{Span, read_device, read_session};
+pub use readers::{ReaderEnd, Span, read_device, read_session};
 pub use shared_clock::{Dials, SharedClock};
 pub use writer::{WriterEnd, write_items};

@@ -1,10 +1,10 @@
-ghost use Rattle.std.specs.Prelude.{◌≡◌, ◌≤◌, [], Some, true};
+ghost use Rattle.std.specs.Prelude.{◌≡◌, ◌≤◌, ◌++◌, [], IfSome, Some, true};
 ghost use Rattle.gps_outside.specs.Counts.{Rose};
 ghost use Rattle.gps_outside.specs.Told.{Goes};
 ghost use Rattle.serve_pieces.specs.declared.piece.Ending.{Ending};
 ghost use Rattle.serve_pieces.specs.Carried.{device_part, input_part};
 ghost use Rattle.serve_workers.specs.declared.readers.ReaderStep.TheVariants.{Over};
-ghost use Rattle.serve_workers.specs.Readings.{HandsOn, ReaderSteps, StepHasCause, Took, over, WasRead, IsDevicePiece, IsInputPiece};
+ghost use Rattle.serve_workers.specs.Readings.{HandsOn, IsDevicePiece, IsInputPiece, Meets, ReaderSteps, StepHasCause, Took, WasRead, is_fault, last_piece, over};
 
 use crate::maker::{Maker, Requests, Stamped};
 use crate::pauses::pause;
@@ -26,6 +26,15 @@ pub enum Span {
     Whole,
     /// Nothing, because there is no thread for it, and no other thread may wait in a read of it; it says that it was out of memory.
     Nothing,
+}
+
+/// How a reader ended.
+#[derive(Clone, Copy, Debug, PartialEq, Eq)]
+pub struct ReaderEnd {
+    /// What it told its lane of its source's end; none if it was told to end before.
+    pub told: Option<Ending>,
+    /// Whether its source failed.
+    pub failed: bool,
 }
 
 /// What one step of a reader comes to.
@@ -134,7 +143,39 @@ fn read_and_close<M: Maker, S: Source, R: Wait + Copy>(
     ending
 }
 
-/// Reads a source to its end, puts what each read gave, and behind it how the source ended. In whatever way it ends, the source is
+fn is_fault(met: Option<Ending>) -> bool
+    ensures { result ≡ is_fault met }
+{
+    match met {
+        Some(Ending::Failed) => true,
+        Some(Ending::End | Ending::NoMemory) | None => false,
+    }
+}
+
+/// Puts how a source ended, unless the reader was told to end before.
+pub(crate) fn tell<R: Wait + Copy>(
+    rt: &R,
+    pieces: &mut Tx<Piece, R>,
+    met: Option<Ending>,
+    own: &Bell,
+    pump: &Bell,
+) -> ReaderEnd
+    requires open { pieces.old.is_open ≡ true }
+    ensures puts { pieces.new ≡ record pieces.old { put = pieces.old.put ++ last_piece result.told } }
+    ensures told { IfSome result.told (λ last. met ≡ Some last) }
+    ensures failed { result.failed ≡ is_fault met }
+{
+    let told = match met {
+        Some(ending) => put_ending(rt, pieces, ending, own, pump),
+        None => None,
+    };
+    ReaderEnd {
+        told,
+        failed: is_fault(met),
+    }
+}
+
+/// Reads a source to its end, puts what each read gave, and after it how the source ended. In whatever way it ends, the source is
 /// closed.
 fn read_all<M: Maker, S: Source, R: Wait + Copy>(
     rt: &R,
@@ -144,17 +185,17 @@ fn read_all<M: Maker, S: Source, R: Wait + Copy>(
     pieces: &mut Tx<Piece, R>,
     own: &Bell,
     pump: &Bell,
-) -> Option<Ending>
+) -> ReaderEnd
     requires open { pieces.old.is_open ≡ true }
-    ensures hands { HandsOn M.part M.good result pieces.old.put pieces.new.put (S.content source.old) (S.content source.new) }
+    ensures hands { HandsOn M.part M.good result.told pieces.old.put pieces.new.put (S.content source.old) (S.content source.new) }
     ensures lane { pieces.new ≡ record pieces.old { put = pieces.new.put } }
     ensures read { Goes (WasRead (S.faults source.new) (S.quiets source.new)) (S.content source.old) (S.content source.new) }
     ensures faults_stay { S.faults source.old ≤ S.faults source.new }
     ensures quiets_stay { S.quiets source.old ≤ S.quiets source.new }
-    ensures failed { result ≡ Some Ending.Failed → Rose (S.faults source.old) (S.faults source.new) }
+    ensures meets { Meets result.failed result.told (S.faults source.old) (S.faults source.new) }
 {
-    let ending = read_and_close(rt, alloc, maker, source, pieces, own, pump);
-    put_ending(rt, pieces, ending?, own, pump)
+    let met = read_and_close(rt, alloc, maker, source, pieces, own, pump);
+    tell(rt, pieces, met, own, pump)
 }
 
 /// Closes a source, and puts that its reader was out of memory.
@@ -165,16 +206,16 @@ fn refuse<M: Maker, S: Source, R: Wait + Copy>(
     pieces: &mut Tx<Piece, R>,
     own: &Bell,
     pump: &Bell,
-) -> Option<Ending>
+) -> ReaderEnd
     requires open { pieces.old.is_open ≡ true }
-    ensures hands { HandsOn M.part M.good result pieces.old.put pieces.new.put (S.content source.old) (S.content source.new) }
+    ensures hands { HandsOn M.part M.good result.told pieces.old.put pieces.new.put (S.content source.old) (S.content source.new) }
     ensures lane { pieces.new ≡ record pieces.old { put = pieces.new.put } }
     ensures faults { S.faults source.new ≡ S.faults source.old }
     ensures quiets { S.quiets source.new ≡ S.quiets source.old }
-    ensures failed { result ≡ Some Ending.Failed → ⊥ }
+    ensures meets { Meets result.failed result.told (S.faults source.old) (S.faults source.new) }
 {
     source.finish();
-    put_ending(rt, pieces, Ending::NoMemory, own, pump)
+    tell(rt, pieces, Some(Ending::NoMemory), own, pump)
 }
 
 /// Closes a source and reads it once, which therefore does not wait. What comes all the same is dropped.
@@ -196,7 +237,7 @@ fn read_closed<S: Source>(source: &mut S) -> Ending
 }
 
 /// Reads a device to its end. Each read that gives bytes makes a piece of them, with the clock's stamp; the last piece
-/// tells how the source ended. None: it was told to end before that was put, by its own bell, which was closed before a read
+/// tells how the source ended, unless the reader was told to end before that was put, by its own bell, which was closed before a read
 /// that gave nothing, or before a piece was put; that piece is dropped.
 ///
 /// A reader that reads nothing tells that it was out of memory, and does not wait.
@@ -211,13 +252,13 @@ pub fn read_device<S: Source, C: Clock, D: Dials, R: Wait + Copy>(
     own: &Bell,
     pump: &Bell,
     span: Span,
-) -> Option<Ending>
+) -> ReaderEnd
     requires open { pieces.old.is_open ≡ true }
-    ensures hands { HandsOn device_part (IsDevicePiece D.may) result pieces.old.put pieces.new.put (S.content source.old) (S.content source.new) }
+    ensures hands { HandsOn device_part (IsDevicePiece D.may) result.told pieces.old.put pieces.new.put (S.content source.old) (S.content source.new) }
     ensures lane { pieces.new ≡ record pieces.old { put = pieces.new.put } }
     ensures faults_stay { S.faults source.old ≤ S.faults source.new }
     ensures quiets_stay { S.quiets source.old ≤ S.quiets source.new }
-    ensures failed { result ≡ Some Ending.Failed → Rose (S.faults source.old) (S.faults source.new) }
+    ensures meets { Meets result.failed result.told (S.faults source.old) (S.faults source.new) }
 {
     if span == Span::Nothing {
         return refuse(rt, &Stamped(clock), source, pieces, own, pump);
@@ -235,18 +276,18 @@ pub fn read_session<S: Source, R: Wait + Copy>(
     own: &Bell,
     pump: &Bell,
     span: Span,
-) -> Option<Ending>
+) -> ReaderEnd
     requires open { pieces.old.is_open ≡ true }
-    ensures hands { HandsOn input_part IsInputPiece result pieces.old.put pieces.new.put (S.content source.old) (S.content source.new) }
+    ensures hands { HandsOn input_part IsInputPiece result.told pieces.old.put pieces.new.put (S.content source.old) (S.content source.new) }
     ensures lane { pieces.new ≡ record pieces.old { put = pieces.new.put } }
     ensures read { Goes (WasRead (S.faults source.new) (S.quiets source.new)) (S.content source.old) (S.content source.new) }
     ensures faults_stay { S.faults source.old ≤ S.faults source.new }
     ensures quiets_stay { S.quiets source.old ≤ S.quiets source.new }
-    ensures failed { result ≡ Some Ending.Failed → Rose (S.faults source.old) (S.faults source.new) }
+    ensures meets { Meets result.failed result.told (S.faults source.old) (S.faults source.new) }
 {
     if span == Span::Nothing {
         let ending = read_closed(source);
-        return put_ending(rt, pieces, ending, own, pump);
+        return tell(rt, pieces, Some(ending), own, pump);
     }
     read_all(rt, alloc, &Requests, source, pieces, own, pump)
 }

@@ -1,12 +1,12 @@
-ghost use Rattle.std.specs.Prelude.{◌≡◌, ◌<◌, ◌≤◌, [], ◌++◌, true, false, length};
+ghost use Rattle.std.specs.Prelude.{◌≡◌, ◌<◌, ◌≤◌, ◌⊎◌, ℕ, List, [], ◌++◌, true, false, length, Option};
 ghost use Rattle.gps_outside.specs.Counts.{Rose};
 ghost use Rattle.gps_outside.specs.declared.sink.WriteStep.{WriteStep};
-ghost use Rattle.gps_outside.specs.Writes.{FitsPiece, Writes as WritesPiece, WritesAll};
+ghost use Rattle.gps_outside.specs.Writes.{FailsOnly, FitsPiece, Writes as WritesPiece, WritesAll};
 ghost use Rattle.serve_workers.specs.declared.writer.WriterEnd.{WriterEnd};
 ghost use Rattle.serve_workers.specs.Writing.{Gathers, Writes};
 
 use gps_lane::{Bell, Rx};
-use gps_outside::{Sink, WriteStep};
+use gps_outside::{ClientSink, WriteStep};
 use session_core::Item;
 use std::alloc::Global;
 use std::sync::Wait;
@@ -14,7 +14,7 @@ use std::sync::Wait;
 /// How the writing of a session ended.
 #[derive(Clone, Copy, Debug, PartialEq, Eq)]
 pub enum WriterEnd {
-    /// All items that were got were written.
+    /// All items that were received were written, and delivered if the writer was the last to write.
     Drained,
     /// The sink failed.
     WriteFault,
@@ -24,10 +24,11 @@ pub enum WriterEnd {
 const ROOM: usize = 16_384;
 
 /// Writes a piece. Once the bell is closed, the sink is told before each write that what is still to be written is bounded.
-fn write_piece<K: Sink>(own: &Bell, sink: &mut K, piece: &[u8]) -> bool
+fn write_piece<K: ClientSink>(own: &Bell, sink: &mut K, piece: &[u8]) -> bool
     ensures bytes { WritesAll result piece.now (K.written sink.old) (K.written sink.new) }
     ensures faults_stay { K.faults sink.old ≤ K.faults sink.new }
     ensures failed { result ≡ false → Rose (K.faults sink.old) (K.faults sink.new) }
+    ensures fails_only { result ≡ true → K.faults sink.new ≡ K.faults sink.old }
 {
     let mut rest = piece;
     'writes: while !rest.is_empty() {
@@ -39,7 +40,7 @@ fn write_piece<K: Sink>(own: &Bell, sink: &mut K, piece: &[u8]) -> bool
     true
 }
 
-fn tell_end<K: Sink>(own: &Bell, sink: &mut K)
+fn tell_end<K: ClientSink>(own: &Bell, sink: &mut K)
     ensures bytes { K.written sink.new ≡ K.written sink.old }
     ensures faults { K.faults sink.new ≡ K.faults sink.old }
 {
@@ -48,12 +49,13 @@ fn tell_end<K: Sink>(own: &Bell, sink: &mut K)
     }
 }
 
-fn write_some<K: Sink>(own: &Bell, sink: &mut K, piece: &[u8]) -> WriteStep
+fn write_some<K: ClientSink>(own: &Bell, sink: &mut K, piece: &[u8]) -> WriteStep
     requires some { 0 < length piece.now }
     ensures fits { FitsPiece result (length piece.now) }
     ensures bytes { WritesPiece result piece.now (K.written sink.old) (K.written sink.new) }
     ensures faults_stay { K.faults sink.old ≤ K.faults sink.new }
     ensures failed { result ≡ WriteStep.Failed → Rose (K.faults sink.old) (K.faults sink.new) }
+    ensures fails_only { FailsOnly result (K.faults sink.old) (K.faults sink.new) }
 {
     tell_end(own, sink);
     sink.write(piece)
@@ -96,7 +98,7 @@ fn begin(joined: &mut Vec<u8>, item: &Item) -> bool
 
 /// Writes the items of a session until its bell is closed and none waits: all that wait in one write, as far as the buffer
 /// holds them. It sleeps on its bell only after a round that found none.
-fn write_on<K: Sink, R: Wait + Copy>(
+fn write_on<K: ClientSink, R: Wait + Copy>(
     rt: &R,
     items: &mut Rx<Item, R>,
     own: &Bell,
@@ -108,6 +110,7 @@ fn write_on<K: Sink, R: Wait + Copy>(
     ensures lane { items.new ≡ record items.old { got = items.new.got } }
     ensures faults_stay { K.faults sink.old ≤ K.faults sink.new }
     ensures failed { result ≡ WriterEnd.WriteFault → Rose (K.faults sink.old) (K.faults sink.new) }
+    ensures sound { result ≡ WriterEnd.Drained → K.faults sink.new ≡ K.faults sink.old }
 {
     let mut joined = room;
     'rounds: for _ in rt.forever() {
@@ -140,12 +143,28 @@ fn write_on<K: Sink, R: Wait + Copy>(
     unreachable!()
 }
 
-/// Writes the items of a session until its bell is closed and none waits, or its sink fails, and says then that nothing
-/// follows, so that a reader of the same socket ends.
+/// Brings what was written to the client, which also ends a read of the same socket.
+#[tactic(auto, using(crate::proofs::Rounds::undelivered))]
+fn deliver<K: ClientSink>(sink: &mut K, end: WriterEnd) -> WriterEnd
+    ensures writes { (got got' : List (List ℕ)) (before : Option (List ℕ)) → Writes end got got' before (K.written sink.old)
+        → Writes result got got' before (K.written sink.new) }
+    ensures faults_stay { K.faults sink.old ≤ K.faults sink.new }
+    ensures failed { result ≡ WriterEnd.WriteFault → (end ≡ WriterEnd.WriteFault) ⊎ Rose (K.faults sink.old) (K.faults sink.new) }
+    ensures sound { result ≡ WriterEnd.Drained → (end ≡ WriterEnd.Drained) × (K.faults sink.new ≡ K.faults sink.old) }
+{
+    let delivered = sink.deliver();
+    if delivered {
+        return end;
+    }
+    WriterEnd::WriteFault
+}
+
+/// Writes the items of a session until its bell is closed and none waits, or its sink fails, and brings them then to the client. That ends a
+/// read of the same socket.
 ///
 /// It asks for 16 KB once, to join what waits; if they are refused, it writes item by item. Once its bell is closed, the sink is told that it
 /// ends soon, so that a client that takes little at a time does not hold it.
-pub fn write_items<K: Sink, R: Wait + Copy>(
+pub fn write_items<K: ClientSink, R: Wait + Copy>(
     rt: &R,
     alloc: Global,
     items: &mut Rx<Item, R>,
@@ -156,12 +175,12 @@ pub fn write_items<K: Sink, R: Wait + Copy>(
     ensures lane { items.new ≡ record items.old { got = items.new.got } }
     ensures faults_stay { K.faults sink.old ≤ K.faults sink.new }
     ensures failed { result ≡ WriterEnd.WriteFault → Rose (K.faults sink.old) (K.faults sink.new) }
+    ensures sound { result ≡ WriterEnd.Drained → K.faults sink.new ≡ K.faults sink.old }
 {
     let room = match Vec::with_capacity(alloc, ROOM) {
         Ok(room) => room,
         Err(_) => Vec::new(alloc),
     };
     let end = write_on(rt, items, own, sink, room);
-    sink.finish();
-    end
+    deliver(sink, end)
 }

@@ -20,5 +20,5 @@ pub items-preserved : goal.items-preserved
 items-preserved g c = record {
   book = c.next_item.ensures.book ∙ c.items.invariant.book;
   wrote = wrote_item c.args.items.now c.items.items c.next_item.new.items c.in-Some-next_item.item _ _ _ _ _ _ c.items.invariant.wrote c.in-Some-next_item.ensures.items
-      c.if-not-write_item.ensures.bytes c.if-not-write_item.ensures.faults_stay;
+      c.if-not-write_item.ensures.bytes (c.if-not-write_item.ensures.fails_only refl);
 }

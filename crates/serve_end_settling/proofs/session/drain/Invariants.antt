@@ -6,5 +6,5 @@ use Rattle.serve_end_settling.proofs.session.drain.Given as goal
 abbrev pub invariant-items : goal.invariant-items
 invariant-items g l = record {
   book : l.book ≡ l.initial.book;
-  wrote : Wrote Drained l.initial.items l.items (g.K.Sink.written l.initial.sink) (g.K.Sink.written l.sink) (g.K.Sink.faults l.initial.sink) (g.K.Sink.faults l.sink);
+  wrote : Wrote Drained l.initial.items l.items (g.K.ClientSink.written l.initial.sink) (g.K.ClientSink.written l.sink) (g.K.ClientSink.faults l.initial.sink) (g.K.ClientSink.faults l.sink);
 }

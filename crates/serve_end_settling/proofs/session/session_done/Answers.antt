@@ -11,6 +11,6 @@ returns-clause-one_more g c = λ link runs none.
 pub returns-clause-wrote : goal.returns-clause-wrote
 returns-clause-wrote g c = λ link runs.
     let P : WriterEnd → Type 0 = λ e.
-    Wrote e link.items c.settle_outlet-sink.result.items (g.K.Sink.written link.sink) (g.K.Sink.written c.settle_outlet-sink.result.sink) (g.K.Sink.faults link.sink)
-    (g.K.Sink.faults c.settle_outlet-sink.result.sink) in
-    subst P (sym c.session_end.ensures) (c.settle_outlet-sink.ensures.wrote link.items (g.K.Sink.written link.sink) (g.K.Sink.faults link.sink) runs.wrote)
+    Wrote e link.items c.settle_outlet-sink.result.items (g.K.ClientSink.written link.sink) (g.K.ClientSink.written c.settle_outlet-sink.result.sink) (g.K.ClientSink.faults link.sink)
+    (g.K.ClientSink.faults c.settle_outlet-sink.result.sink) in
+    subst P (sym c.session_end.ensures) (c.settle_outlet-sink.ensures.wrote link.items (g.K.ClientSink.written link.sink) (g.K.ClientSink.faults link.sink) runs.wrote)

@@ -10,7 +10,7 @@ reads-preserved g c = record {
   limit = c.in-On.ensures.limit ∙ c.reads.invariant.limit;
   turns = line_turns_on On _ _ _ _ _ _ _ _ _ c.reads.invariant.turns c.in-On.ensures.turns;
   lane = c.cut_once.ensures.lane ∙ ap (λ (end : Putting Piece). record end { put = c.cut_once.new.pieces.put }) c.reads.invariant.lane;
-  faults = omega (arith, c.reads.invariant.faults, c.cut_once.ensures.faults_stay);
+  faults = c.in-On.ensures.failed ∙ c.reads.invariant.faults;
   quiets = omega (arith, c.reads.invariant.quiets, c.cut_once.ensures.quiets_stay);
 }
 

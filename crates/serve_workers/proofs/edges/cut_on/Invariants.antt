@@ -8,6 +8,6 @@ invariant-reads g l = record {
   limit : l.cutter.limit ≡ edge_limit;
   turns : EdgeLineSteps On [] l.cutter l.initial.pieces.put l.pieces.put (g.S.Source.content l.initial.source) (g.S.Source.content l.source);
   lane : l.pieces ≡ record l.initial.pieces { put = l.pieces.put };
-  faults : g.S.Source.faults l.initial.source ≤ g.S.Source.faults l.source;
+  faults : g.S.Source.faults l.source ≡ g.S.Source.faults l.initial.source;
   quiets : g.S.Source.quiets l.initial.source ≤ g.S.Source.quiets l.source;
 }

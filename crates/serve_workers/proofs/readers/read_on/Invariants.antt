@@ -7,6 +7,6 @@ abbrev pub invariant-reads : goal.invariant-reads
 invariant-reads g l = record {
   turns : ReaderSteps g.M.Maker.part g.M.Maker.good On l.initial.pieces.put l.pieces.put (g.S.Source.content l.initial.source) (g.S.Source.content l.source);
   lane : l.pieces ≡ record l.initial.pieces { put = l.pieces.put };
-  faults : g.S.Source.faults l.initial.source ≤ g.S.Source.faults l.source;
+  faults : g.S.Source.faults l.source ≡ g.S.Source.faults l.initial.source;
   quiets : g.S.Source.quiets l.initial.source ≤ g.S.Source.quiets l.source;
 }

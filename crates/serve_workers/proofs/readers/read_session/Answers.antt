@@ -1,8 +1,10 @@
-use Rattle.serve_workers.proofs.Stepping.{handed_last, said_cause}
+use Rattle.std.proofs.Common.{Some}
+use Rattle.serve_workers.proofs.Stepping.{handed_last, meets}
 use Rattle.serve_workers.proofs.readers.read_session.Goals as goal
 
 pub returns-then-eq-clause-hands : goal.returns-then-eq-clause-hands
-returns-then-eq-clause-hands g c = rw c.put_ending.ensures.puts (handed_last _ _ c.put_ending.result c.read_closed-ending.result _ _ _ c.put_ending.ensures.ending c.read_closed-ending.ensures.took)
+returns-then-eq-clause-hands g c = rw c.tell.ensures.puts (handed_last _ _ c.tell.result.told c.read_closed-ending.result _ _ _ c.tell.ensures.told c.read_closed-ending.ensures.took)
 
-pub returns-then-eq-clause-failed : goal.returns-then-eq-clause-failed
-returns-then-eq-clause-failed g c is = said_cause c.put_ending.result c.read_closed-ending.result _ _ c.put_ending.ensures.ending c.read_closed-ending.ensures.failed is
+pub returns-then-eq-clause-meets : goal.returns-then-eq-clause-meets
+returns-then-eq-clause-meets g c =
+    meets (Some c.read_closed-ending.result) c.tell.result.told c.tell.result.failed _ _ c.tell.ensures.failed c.tell.ensures.told c.read_closed-ending.ensures.failed

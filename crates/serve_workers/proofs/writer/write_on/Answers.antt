@@ -4,7 +4,7 @@ use Rattle.serve_workers.proofs.Rounds.{all_written, begun_with, buffer_part_wri
 use Rattle.serve_workers.proofs.writer.write_on.Goals as goal
 
 pub rounds-init : goal.rounds-init
-rounds-init g c = record { writes = none_written _ _ _ c.requires; lane = refl; faults = omega arith }
+rounds-init g c = record { writes = none_written _ _ _ c.requires; lane = refl; faults = refl }
 
 pub returns-then-not-write_piece-clause-writes : goal.returns-then-not-write_piece-clause-writes
 returns-then-not-write_piece-clause-writes g c =
@@ -17,7 +17,7 @@ rounds-preserved-then-begin g c = record {
       (buffer_written (Some c.in-Some-over.item) _ _ _ _ _ _ _ _ _ _ c.as_slice.ensures.value refl c.rounds.invariant.writes c.in-Some-over.ensures.gathers
       c.if-not-write_piece.ensures.bytes);
   lane = c.gather-over.ensures.lane ∙ ap (λ (end : Taking (List ℕ)). record { lane = end.lane; got = c.gather-over.new.items.got }) c.rounds.invariant.lane;
-  faults = omega (arith, c.rounds.invariant.faults, c.write_piece.ensures.faults_stay);
+  faults = c.if-not-write_piece.ensures.fails_only refl ∙ c.rounds.invariant.faults;
 }
 
 pub returns-then-not-write_piece-2-clause-writes : goal.returns-then-not-write_piece-2-clause-writes
@@ -34,7 +34,7 @@ rounds-preserved-in-Some-over g c = record {
       c.if-not-write_piece.ensures.bytes)
       c.if-not-write_piece-2.ensures.bytes;
   lane = c.gather-over.ensures.lane ∙ ap (λ (end : Taking (List ℕ)). record { lane = end.lane; got = c.gather-over.new.items.got }) c.rounds.invariant.lane;
-  faults = omega (arith, c.rounds.invariant.faults, c.write_piece.ensures.faults_stay, c.write_piece-in-Some-over.ensures.faults_stay);
+  faults = c.if-not-write_piece-2.ensures.fails_only refl ∙ c.if-not-write_piece.ensures.fails_only refl ∙ c.rounds.invariant.faults;
 }
 
 pub returns-then-closed-clause-writes : goal.returns-then-closed-clause-writes
@@ -48,7 +48,7 @@ rounds-preserved-then-nothing g c = record {
   writes = buffer_written None _ _ _ _ _ _ _ _ _ _ c.as_slice.ensures.value c.clear.ensures.items c.rounds.invariant.writes c.in-None-over.ensures.gathers
       c.if-not-write_piece.ensures.bytes;
   lane = c.gather-over.ensures.lane ∙ ap (λ (end : Taking (List ℕ)). record { lane = end.lane; got = c.gather-over.new.items.got }) c.rounds.invariant.lane;
-  faults = omega (arith, c.rounds.invariant.faults, c.write_piece.ensures.faults_stay);
+  faults = c.if-not-write_piece.ensures.fails_only refl ∙ c.rounds.invariant.faults;
 }
 
 pub rounds-preserved : goal.rounds-preserved
@@ -56,5 +56,5 @@ rounds-preserved g c = record {
   writes = buffer_written None _ _ _ _ _ _ _ _ _ _ c.as_slice.ensures.value c.clear.ensures.items c.rounds.invariant.writes c.in-None-over.ensures.gathers
       c.if-not-write_piece.ensures.bytes;
   lane = c.gather-over.ensures.lane ∙ ap (λ (end : Taking (List ℕ)). record { lane = end.lane; got = c.gather-over.new.items.got }) c.rounds.invariant.lane;
-  faults = omega (arith, c.rounds.invariant.faults, c.write_piece.ensures.faults_stay);
+  faults = c.if-not-write_piece.ensures.fails_only refl ∙ c.rounds.invariant.faults;
 }

@@ -4,7 +4,7 @@ use Rattle.serve_workers.proofs.writer.write_on.Given as goal
 
 abbrev pub invariant-rounds : goal.invariant-rounds
 invariant-rounds g l = record {
-  writes : WrittenBut l.joined.items l.initial.items.got l.items.got (g.K.Sink.written l.initial.sink) (g.K.Sink.written l.sink);
+  writes : WrittenBut l.joined.items l.initial.items.got l.items.got (g.K.ClientSink.written l.initial.sink) (g.K.ClientSink.written l.sink);
   lane : l.items ≡ record l.initial.items { got = l.items.got };
-  faults : g.K.Sink.faults l.initial.sink ≤ g.K.Sink.faults l.sink;
+  faults : g.K.ClientSink.faults l.sink ≡ g.K.ClientSink.faults l.initial.sink;
 }

@@ -62,7 +62,7 @@ bytes_served may facts x run rx ready settles =
       unread = ready.fresh.unread;
       ending = run.bytes.ending;
       hands = hands;
-      failed = λ (e : run.bytes.ending ≡ Some Failed). let rose = ready.ran.bytes.failed e in omega (arith, rose);
+      failed = λ (e : run.bytes.ending ≡ Some Failed). let rose = ready.ran.bytes.meets.rose (ready.ran.bytes.meets.said e) in omega (arith, rose);
       lane = record {
         one = settles.one;
         begins = settles.begins;
@@ -90,7 +90,7 @@ lines_served facts (Some start) (Some first) (Some rx) (Some rx') (Some reader) 
       unread = fresh.1;
       ending = reader.ending;
       hands = hands;
-      failed = λ (e : reader.ending ≡ Some Failed). let rose = ran.failed e in omega (arith, rose);
+      failed = λ (e : reader.ending ≡ Some Failed). let rose = ran.meets.rose (ran.meets.said e) in omega (arith, rose);
       lane = record {
         one = settles.one;
         begins = settles.begins;

@@ -135,6 +135,9 @@ module _ {G S K R : Type 0} (told : DaemonSettings) (facts : WorldFacts G S K) (
       count = at.door.count;
       few = at.door.few;
       none_early = at.door.none_early;
+      served = at.door.served;
+      order = at.door.order;
+      links_are = at.door.links_are;
       each = at.door.each;
       asked = untold_asked links at.door.taken at.gate at.door.asked;
       closed = λ (e : at.done ≡ true). elim (at.door.closed e) [ inl none ↦ inl tt | inr fault ↦ inr fault ];

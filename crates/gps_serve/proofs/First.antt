@@ -1,5 +1,5 @@
 -- If a device was lost by the fault of a source, a reader of it says so, and the status is 3.
-use Rattle.std.proofs.Common.{◌≡◌, ◌↔◌, ◌⊎◌, inl, inr, ℕ, Bool, true, false, ◌||◌, zero, suc, List, [], ◌∷◌, ◌++◌, map, Option, Some, None, is_some, option_map, refl, sym, ◌∙◌, ap, subst, arith}
+use Rattle.std.proofs.Common.{◌≡◌, ◌<◌, ◌⊎◌, inl, inr, ℕ, Bool, true, false, ◌||◌, zero, suc, List, [], ◌∷◌, ◌++◌, map, Option, Some, None, is_some, option_map, refl, sym, ◌∙◌, ap, subst, arith}
 use Rattle.std.specs.List.{All, list_all}
 use Rattle.gps_fixed.specs.Moment.{Moment}
 use Rattle.gps_lane.specs.Ends.{Putting, Taking}
@@ -13,7 +13,7 @@ use Rattle.serve_pieces.specs.declared.piece.Ending.TheVariants.{End, Failed, No
 use Rattle.serve_pieces.specs.declared.piece.Piece.{Piece}
 use Rattle.serve_threads.specs.declared.reading.ReaderDone.{ReaderDone}
 use Rattle.serve_end_settling.specs.declared.device.DeviceRun.{DeviceRun}
-use Rattle.serve_end_settling.specs.Failing.{EdgeFailed, SaysFailed, AnyOf}
+use Rattle.serve_end_settling.specs.Failing.{AnyOf, DeviceFailed, EdgeFailed, EdgeSaysFailed, MetFault, SaysFailed, SourceFailed, source_of}
 use Rattle.serve_end_settling.specs.Lanes.{tx_of}
 use Rattle.serve_end_settling.specs.Runs.{EachRun, EdgesRan, SourceFacts}
 use Rattle.serve_end_settling.proofs.Causes.{each_run_more}
@@ -26,10 +26,14 @@ use Rattle.gps_serve.specs.Whole.{EdgesWhole, IsWhole}
 use Rattle.gps_serve.proofs.Lost.{neither, one_false}
 use Rattle.gps_serve.proofs.Whole.{bytes_told, lines_told}
 
-not_said : {Says : Type 0} (failed : Bool) → ((failed ≡ true) ↔ Says) → failed ≡ false → Says → ⊥
+not_said : {Says : Type 0} (failed : Bool) → (Says → failed ≡ true) → failed ≡ false → Says → ⊥
 not_said failed said none says =
-    let yes : failed ≡ true = said.1 says in
+    let yes : failed ≡ true = said says in
     absurd (cc (yes, none))
+
+not_true : (b : Bool) → (b ≡ true → ⊥) → b ≡ false
+not_true true not = absurd (not refl)
+not_true false not = refl
 
 -- a lane that says so was put into by a reader that says so
 bytes_say : {S R : Type 0} (may : Option (List Moment)) (facts : SourceFacts S) (x : InletsView) (run : DeviceRun S R) → DeviceReady may facts x run
@@ -41,7 +45,7 @@ bytes_say may facts x run ready tells =
     ∙ tells
 
 lines_say : {S R : Type 0} (facts : SourceFacts S) (start : Option (EdgeStart S R)) (first : Option (Taking Piece)) (reader : Option (ReaderDone S R))
-    → IsFreshEdge facts start first → EdgesRan facts (option_map edge_start_of start) reader → TellsFault (tx_of reader) → EdgeFailed reader
+    → IsFreshEdge facts start first → EdgesRan facts (option_map edge_start_of start) reader → TellsFault (tx_of reader) → EdgeSaysFailed reader
 lines_say facts start first None fresh ran tells = absurd tells
 lines_say facts None first (Some reader) fresh ran tells = absurd ran
 lines_say facts (Some start) None (Some reader) fresh ran tells = absurd fresh
@@ -50,7 +54,7 @@ lines_say facts (Some start) (Some first) (Some reader) fresh ran tells =
 
 -- no reader of a device says so, and so its lanes do not
 pub tells_none : {S R : Type 0} (may : Option (List Moment)) (facts : SourceFacts S) (x : InletsView) (run : DeviceRun S R) (device : DeviceDone S R) (failed : Bool)
-    → DeviceReady may facts x run → device.bytes_tx ≡ run.bytes.pieces → device.edges_tx ≡ tx_of run.edges → ((failed ≡ true) ↔ SaysFailed run) → failed ≡ false
+    → DeviceReady may facts x run → device.bytes_tx ≡ run.bytes.pieces → device.edges_tx ≡ tx_of run.edges → (SaysFailed run → failed ≡ true) → failed ≡ false
     → TellsNoFault device
 tells_none may facts x run device failed ready bytes_tx edges_tx said none = record {
   bytes = λ (tells : ending_of device.bytes_tx.put ≡ Some Failed).
@@ -72,6 +76,55 @@ pub untold_more : {S R : Type 0} (before now failed : Bool) (devices devices' : 
 untold_more before now failed devices devices' device so one is more e =
     let none = neither before now (sym is ∙ e) in
     subst (EachRun TellsNoFault) (sym more) (each_run_more TellsNoFault devices device (so none.0) (one none.1))
+
+-- the source of a reader that met no fault has none
+edge_sound : {S R : Type 0} (facts : SourceFacts S) (start : Option (EdgeStart S R)) (first : Option (Taking Piece)) (reader : Option (ReaderDone S R))
+    → IsFreshEdge facts start first → EdgesRan facts (option_map edge_start_of start) reader → (EdgeFailed reader → ⊥) → SourceFailed facts.faults (source_of reader) → ⊥
+edge_sound facts start first None fresh ran met some = some
+edge_sound facts None first (Some reader) fresh ran met some = absurd ran
+edge_sound facts (Some start) None (Some reader) fresh ran met some = absurd fresh
+edge_sound facts (Some start) (Some first) (Some reader) fresh ran met some =
+    let none = ran.meets.same (not_true reader.failed met) in
+    let new = fresh.1.no_fault in
+    absurd (omega (arith, some, none, new))
+
+-- a device whose readers met no fault has no source that failed
+pub none_failed : {S R : Type 0} (may : Option (List Moment)) (facts : SourceFacts S) (x : InletsView) (run : DeviceRun S R) (device : DeviceDone S R) (failed : Bool)
+    → DeviceReady may facts x run → device.source ≡ Some run.bytes.source → device.edges ≡ source_of run.edges → (MetFault run → failed ≡ true) → failed ≡ false
+    → DeviceFailed facts.faults device → ⊥
+none_failed {S} may facts x run device failed ready source edges met none some = elim some [
+  | inl bytes ↦
+      let rose : SourceFailed facts.faults (Some run.bytes.source) = subst (SourceFailed facts.faults) source bytes in
+      let same = ready.ran.bytes.meets.same (not_true run.bytes.failed (λ e. not_said failed met none (inl e))) in
+      let new = ready.fresh.unread.no_fault in
+      absurd (omega (arith, rose, same, new))
+  | inr lines ↦
+      edge_sound facts ready.start.edges ready.first.edges run.edges ready.fresh.edges ready.ran.edges (λ e. not_said failed met none (inr e))
+      (subst (SourceFailed facts.faults) edges lines)
+]
+
+any_split : {X : Type 0} (P : X → Type 0) (xs : List X) (x : X) → AnyOf P (xs ++ x ∷ []) → AnyOf P xs ⊎ P x
+any_split P [] x some = elim some [ inl this ↦ inr this | inr none ↦ absurd none ]
+any_split P (y ∷ xs) x some = elim some [
+  | inl this ↦ inl (inl this)
+  | inr later ↦ elim (any_split P xs x later) [ inl front ↦ inl (inr front) | inr last ↦ inr last ]
+]
+
+-- of each device
+pub missed_begin : {X : Type 0} (P : X → Type 0) (xs : List X) → xs ≡ [] → AnyOf P xs → ⊥
+missed_begin P [] none some = some
+missed_begin P (x ∷ xs) none some = absurd cc
+
+pub missed_more : {X : Type 0} (P : X → Type 0) (before now failed : Bool) (xs xs' : List X) (x : X) → (before ≡ false → AnyOf P xs → ⊥) → (now ≡ false → P x → ⊥)
+    → failed ≡ (before || now) → xs' ≡ xs ++ x ∷ [] → failed ≡ false → AnyOf P xs' → ⊥
+missed_more P before now failed xs xs' x so one is more e some =
+    let none = neither before now (sym is ∙ e) in
+    elim (any_split P xs x (subst (AnyOf P) more some)) [ inl front ↦ so none.0 front | inr last ↦ one none.1 last ]
+
+-- a fault that was met gives status 3
+pub three_if : {X : Type 0} (failed : Bool) (status : ℕ) → (failed ≡ true → status ≡ 3) → (failed ≡ false → X → ⊥) → X → status ≡ 3
+three_if true status three missed some = three refl
+three_if false status three missed some = absurd (missed refl some)
 
 -- a device is lost by a fault as one of its sources failed
 fault_of : (bytes edges : Ending) (end : Option DeviceEnd) → end ≡ Some (end_of bytes edges) → end ≡ Some ReadFault → (bytes ≡ Failed) ⊎ (edges ≡ Failed)
@@ -146,10 +199,10 @@ pub first_of : {S R : Type 0} (may : Option (List Moment)) (facts : SourceFacts 
 first_of may facts devices true status three untold whole lost = three refl
 first_of may facts devices false status three untold whole lost = absurd (none_lost may facts devices (untold refl) whole lost)
 
--- if no device is there, none was lost
-pub no_devices : {S R : Type 0} (devices : List (DeviceDone S R)) (status : ℕ) → devices ≡ [] → AnyOf WasLostByFault devices → status ≡ 3
-no_devices [] status none lost = absurd lost
-no_devices (device ∷ devices) status none lost = absurd (cc)
+-- if no device is there, none was lost, and none failed
+pub no_devices : {X : Type 0} (P : X → Type 0) (devices : List X) (status : ℕ) → devices ≡ [] → AnyOf P devices → status ≡ 3
+no_devices P [] status none lost = absurd lost
+no_devices P (device ∷ devices) status none lost = absurd (cc)
 
 -- of each of them, by its number
 all_of_each : {X : Type 0} (P : X → Type 0) (xs : List X) → EachRun P xs → All P xs

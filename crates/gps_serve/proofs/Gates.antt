@@ -41,15 +41,18 @@ gate_served {G} {S} {K} {R} facts queue told gate full no_memory lacks seat runs
     let ways = map_length way_of tended.links in
     let same : length (map way_of tended.links) ≡ length sessions = omega (arith, ran, left, ways) in
     let takes = tended.tends.takes in
+    let served = links_served sources sinks tended.links runs sessions tended.seated.unused tended.seated.each tended.ran are in
     record {
       taken = tended.tends.taken;
       passed = takes.passed;
       few = subst (λ n. n + full ≤ length tended.tends.taken) same takes.few;
       count = λ (e : lacks ≡ false) (f : full < 2 ^ 64 - 1). takes.count (so e) f ∙ ap (λ n. n + full) same;
       none_early = λ (f : length sessions < 64). takes.full (subst (λ n. n < 64) (sym same) f);
+      served = map way_of tended.links;
+      order = takes.order;
+      links_are = served;
       each = λ (e : length tended.tends.taken ≡ length sessions).
-          subst (λ (l : List (Way S K)). AllZip (ServesLink sources sinks) l sessions) (takes.each (e ∙ sym same))
-          (links_served sources sinks tended.links runs sessions tended.seated.unused tended.ran are);
+          subst (λ (l : List (Way S K)). AllZip (ServesLink sources sinks) l sessions) (takes.each (e ∙ sym same)) served;
       asked = elim tended.tends.asked [ inl never ↦ absurd (cc never) | inr was ↦ was ];
       closed = tended.tends.closed;
     }

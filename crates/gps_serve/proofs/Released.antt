@@ -78,12 +78,12 @@ input_still old new number x y named same is free = ap (λ (p : Putting Piece). 
 
 -- ---- what is written of what is got
 
-pub item_written : (item : List ℕ) (end : WriterEnd) (between after : Option (List ℕ)) (faults faults' : ℕ) → end ≡ Drained → WritesAll true item between after → faults ≤ faults'
+pub item_written : (item : List ℕ) (end : WriterEnd) (between after : Option (List ℕ)) (faults faults' : ℕ) → end ≡ Drained → WritesAll true item between after → faults' ≡ faults
     → WritesItem item end Drained between after faults faults'
-item_written item end between after faults faults' is wrote stay = record {
+item_written item end between after faults faults' is wrote same = record {
   wrote = λ rx mid before first so.
       wrote_item rx mid (record mid { got = mid.got ++ item ∷ [] }) item before between after first faults faults'
-      (subst (λ (e : WriterEnd). Wrote e rx mid before between first faults) is so) refl wrote stay;
+      (subst (λ (e : WriterEnd). Wrote e rx mid before between first faults) is so) refl wrote same;
 }
 
 pub item_cut : (item : List ℕ) (end : WriterEnd) (between after : Option (List ℕ)) (faults faults' : ℕ) → end ≡ Drained → WritesAll false item between after → faults ≤ faults'
@@ -191,13 +191,13 @@ module _ {S K R : Type 0} (content : S → Option Stream) (faults quiets : S →
       → SessionRuns content faults quiets written sink_faults link (record { reader = record run.reader { pieces = pieces }; writer = writer })
   runs_on pieces writer same on runs =
       let P : Putting Piece → Type 0 = λ p.
-      Reads input_part IsInputPiece run.reader.ending link.pieces p (content link.source) (content run.reader.source) (counts (faults link.source) (quiets link.source))
+      Reads input_part IsInputPiece run.reader.failed run.reader.ending link.pieces p (content link.source) (content run.reader.source) (counts (faults link.source) (quiets link.source))
       (counts (faults run.reader.source) (quiets run.reader.source)) in
       let reads : P (record run.reader.pieces { is_open = pieces.is_open }) = record {
         hands = runs.reads.hands;
         lane = ap (λ (p : Putting Piece). record p { is_open = pieces.is_open }) runs.reads.lane;
         faults_stay = runs.reads.faults_stay;
         quiets_stay = runs.reads.quiets_stay;
-        failed = runs.reads.failed;
+        meets = runs.reads.meets;
       } in
       record { reads = subst P (sym same) reads; read = runs.read; wrote = on.wrote link.items (written link.sink) (sink_faults link.sink) runs.wrote }

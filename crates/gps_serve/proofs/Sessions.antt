@@ -85,7 +85,7 @@ module _ {S K R : Type 0} (sources : SourceFacts S) (sinks : SinkFacts K) where
           hands = subst (λ (s : S). HandsOn input_part IsInputPiece run.reader.ending [] done.input_tx.put (sources.content link.source) (sources.content s)) (sym source)
               (subst (λ (t : Putting Piece). HandsOn input_part IsInputPiece run.reader.ending [] t.put (sources.content link.source) (sources.content run.reader.source)) (sym tx) hands);
           failed = subst (λ (s : S). run.reader.ending ≡ Some Failed → 0 < sources.faults s) (sym source)
-              (λ (e : run.reader.ending ≡ Some Failed). let rose = ready.ran.reads.failed e in omega (arith, rose));
+              (λ (e : run.reader.ending ≡ Some Failed). let rose = ready.ran.reads.meets.rose (ready.ran.reads.meets.said e) in omega (arith, rose));
           read = subst (λ (s : S). Goes (WasRead (sources.faults s) (sources.quiets s)) (sources.content link.source) (sources.content s)) (sym source) ready.ran.read;
           one = subst (λ (t : Putting Piece). done.input_rx.lane ≡ t.lane) (sym tx) settles.one;
           begins = subst (λ (t : Putting Piece). BeginsWith done.input_rx.got t.put) (sym tx) settles.begins;
@@ -108,6 +108,7 @@ module _ {S K R : Type 0} (sources : SourceFacts S) (sinks : SinkFacts K) where
         all = λ (e : done.end ≡ Drained). empties.all (ap writer_end e);
         writes = subst (λ got. Writes (writer_end done.end) got done.items_rx.got (sinks.written link.sink) (sinks.written done.sink)) ready.unused.0 w.writes;
         failed = λ (e : done.end ≡ WriteFault). w.failed (ap writer_end e);
+        sound = λ (e : done.end ≡ Drained). w.sound (ap writer_end e) ∙ ready.unwritten.no_fault;
       }
 
   -- the same of the session that has this number

@@ -31,13 +31,13 @@ use Rattle.serve_threads.specs.declared.session.SessionLink.{SessionLink}
 use Rattle.serve_threads.specs.declared.session.LinkDone.{LinkDone}
 use Rattle.serve_threads.specs.Sessions.{SessionRuns}
 use Rattle.serve_workers.specs.EdgeLines.{TookLines}
-use Rattle.serve_workers.specs.Readings.{IsDevicePiece, IsInputPiece, TakesMore, Took}
+use Rattle.serve_workers.specs.Readings.{HandsOn, IsDevicePiece, IsInputPiece, TakesMore, Took, WasRead}
 use Rattle.serve_workers.specs.Writing.{Writes}
 use Rattle.gps_serve.specs.declared.starts.DeviceStart.{DeviceStart}
 use Rattle.gps_serve.specs.declared.starts.EdgeStart.{EdgeStart}
 use Rattle.gps_serve.specs.Facts.{SinkFacts}
 use Rattle.gps_serve.specs.Served.{BytesHeld, EdgesHeld, IsFirstOf, ServesLink, SourceHeld, TakesFirst}
-use Rattle.gps_serve.specs.Doors.{EachLink, IsUnused, way_of}
+use Rattle.gps_serve.specs.Doors.{EachLink, IsNewLink, IsUnused, way_of}
 use Rattle.gps_serve.specs.Readies.{IsLeftOfLink}
 use Rattle.gps_serve.specs.Runs.{DeviceReads, EdgesRead, IsLeftOf, RanOn, TakesBy}
 use Rattle.gps_serve.specs.Starts.{IsFreshDevice, IsFreshEdge, edge_source_of, edge_start_of, edges_at, sources_at}
@@ -205,20 +205,28 @@ module _ {S R : Type 0} (facts : SourceFacts S) where
 
 -- the same of sessions, and what was written to their sinks
 pub links_served : {S K R : Type 0} (sources : SourceFacts S) (sinks : SinkFacts K) (links : List (SessionLink S K R)) (runs : List (LinkDone S K R)) (sessions : List (SessionDone S K R))
-    → EachLink IsUnused links → AllZip (SessionRuns sources.content sources.faults sources.quiets sinks.written sinks.faults) links runs
+    → EachLink IsUnused links → EachLink (IsNewLink sources.content sources.faults sources.quiets sinks.written sinks.faults) links → AllZip (SessionRuns sources.content sources.faults sources.quiets sinks.written sinks.faults) links runs
     → AllZip (IsLeftOfLink sources sinks) runs sessions → AllZip (ServesLink sources sinks) (map way_of links) sessions
-links_served sources sinks [] [] [] unused ran are = tt
-links_served sources sinks [] [] (s ∷ sessions) unused ran are = absurd are
-links_served sources sinks [] (run ∷ runs) sessions unused ran are = absurd ran
-links_served sources sinks (link ∷ links) [] sessions unused ran are = absurd ran
-links_served sources sinks (link ∷ links) (run ∷ runs) [] unused ran are = absurd are
-links_served {S} sources sinks (link ∷ links) (run ∷ runs) (s ∷ sessions) unused ran are =
+links_served sources sinks [] [] [] unused new ran are = tt
+links_served sources sinks [] [] (s ∷ sessions) unused new ran are = absurd are
+links_served sources sinks [] (run ∷ runs) sessions unused new ran are = absurd ran
+links_served sources sinks (link ∷ links) [] sessions unused new ran are = absurd ran
+links_served sources sinks (link ∷ links) (run ∷ runs) [] unused new ran are = absurd are
+links_served {S} sources sinks (link ∷ links) (run ∷ runs) (s ∷ sessions) unused new ran are =
+    let before = sources.content link.source in
+    let hands : HandsOn input_part IsInputPiece run.reader.ending [] run.reader.pieces.put before (sources.content run.reader.source) =
+    subst (λ put. HandsOn input_part IsInputPiece run.reader.ending put run.reader.pieces.put before (sources.content run.reader.source)) unused.0.1 ran.0.reads.hands in
     let wrote = are.0.sink link ran.0 in (
       record {
+        unread = new.0.0;
+        ending = run.reader.ending;
+        hands = subst (λ (x : S). HandsOn input_part IsInputPiece run.reader.ending [] s.input_tx.put before (sources.content x)) (sym are.0.source)
+            (subst (λ (t : Putting Piece). HandsOn input_part IsInputPiece run.reader.ending [] t.put before (sources.content run.reader.source)) (sym are.0.input) hands);
+        read = subst (λ (x : S). Goes (WasRead (sources.faults x) (sources.quiets x)) before (sources.content x)) (sym are.0.source) ran.0.read;
         reads = subst (λ (x : S). Goes TakesFirst (sources.content link.source) (sources.content x)) (sym are.0.source)
             (took_first run.reader.ending (flat_map input_part ran.0.reads.hands.pieces) (sources.content link.source) (sources.content run.reader.source) ran.0.reads.hands.took);
         writes = subst (λ got. Writes (writer_end s.end) got s.items_rx.got (sinks.written link.sink) (sinks.written s.sink)) unused.0.0 wrote.writes;
         failed = λ (e : s.end ≡ WriteFault). wrote.failed (ap writer_end e);
       },
-      links_served sources sinks links runs sessions unused.1 ran.1 are.1,
+      links_served sources sinks links runs sessions unused.1 new.1 ran.1 are.1,
     )

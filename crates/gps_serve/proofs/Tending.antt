@@ -6,7 +6,7 @@ use Rattle.gps_outside.specs.Links.{HasNoLink, PassLinks}
 use Rattle.gps_outside.specs.Told.{Goes, Stays}
 use Rattle.gps_outside.proofs.Going.{goes_as, goes_on}
 use Rattle.serve_threads.specs.declared.session.SessionLink.{SessionLink}
-use Rattle.gps_serve.specs.Doors.{Deals, DoorNow, NoneLeft, Taken, Tends, WasAsked, Way, door_now, way_of}
+use Rattle.gps_serve.specs.Doors.{Deals, DoorNow, IsSublist, NoneLeft, Taken, Tends, WasAsked, Way, door_now, way_of}
 
 no_more : {L : Type 0} (links after : List L) → [] ≡ links ++ after → after ≡ []
 no_more [] after is = sym is
@@ -43,6 +43,19 @@ pub begun : {L : Type 0} (told : Option (List L)) → Goes (PassLinks []) told t
 begun None = tt
 begun (Some links) = refl
 
+-- one link more was taken, and dropped
+one_more_taken : {X : Type 0} (xs ys : List X) (y : X) → IsSublist xs ys → IsSublist xs (ys ++ y ∷ [])
+one_more_taken [] ys y sub = tt
+one_more_taken (x ∷ xs) [] y sub = absurd sub
+one_more_taken (x ∷ xs) (z ∷ ys) y sub = elim sub [ inl same ↦ inl (same.0, one_more_taken xs ys y same.1) | inr later ↦ inr (one_more_taken (x ∷ xs) ys y later) ]
+
+-- one link more was taken, and is that of a session
+both_more : {X : Type 0} (xs ys : List X) (y : X) → IsSublist xs ys → IsSublist (xs ++ y ∷ []) (ys ++ y ∷ [])
+both_more [] [] y sub = inl (refl, tt)
+both_more [] (z ∷ ys) y sub = inr (both_more [] ys y tt)
+both_more (x ∷ xs) [] y sub = absurd sub
+both_more (x ∷ xs) (z ∷ ys) y sub = elim sub [ inl same ↦ inl (same.0, both_more xs ys y same.1) | inr later ↦ inr (both_more (x ∷ xs) ys y later) ]
+
 module _ {S K : Type 0} (told : Option (List (Way S K))) where
   len_one : (taken : List (Way S K)) (way : Way S K) → length (taken ++ way ∷ []) ≡ length taken + 1
   len_one taken way = length-append taken (way ∷ [])
@@ -59,6 +72,7 @@ module _ {S K : Type 0} (told : Option (List (Way S K))) where
         count = λ (e : y.no_memory ≡ false) (f : y.full < 2 ^ 64 - 1). so.count (sym memory ∙ e) (subst (λ n. n < 2 ^ 64 - 1) full f) ∙ ap (λ n. length links + n) (sym full);
         full = λ (f : length links < 64). full ∙ so.full f;
         each = so.each;
+        order = so.order;
       }
       )
 
@@ -82,6 +96,7 @@ module _ {S K : Type 0} (told : Option (List (Way S K))) where
               full = λ (f : length links' < 64). seated.1 ∙ so.full (omega (arith, f, grown));
               each = λ (e : length (taken ++ way ∷ []) ≡ length links').
                   seated.0 ∙ ap (λ l. l ++ way ∷ []) (so.each (omega (arith, e, more, grown)));
+              order = subst (λ l. IsSublist l (taken ++ way ∷ [])) (sym seated.0) (both_more links taken way so.order);
             }
         | inr (inl crowded) ↦
             let same : length links' ≡ length links = ap length crowded.0 in
@@ -99,6 +114,7 @@ module _ {S K : Type 0} (told : Option (List (Way S K))) where
                   omega (arith, before, more, same, fits);
               full = λ (f : length links' < 64). let many = crowded.3 in absurd (omega (arith, f, same, many));
               each = λ (e : length (taken ++ way ∷ []) ≡ length links'). let few = so.few in absurd (omega (arith, e, more, same, few));
+              order = subst (λ l. IsSublist l (taken ++ way ∷ [])) (sym crowded.0) (one_more_taken links taken way so.order);
             }
         | inr (inr lacked) ↦
             let same : length links' ≡ length links = ap length lacked.0 in
@@ -109,6 +125,7 @@ module _ {S K : Type 0} (told : Option (List (Way S K))) where
               count = λ (e : y.no_memory ≡ false) (f : y.full < 2 ^ 64 - 1). absurd (cc (e, lacked.2));
               full = λ (f : length links' < 64). lacked.1 ∙ so.full (omega (arith, f, same));
               each = λ (e : length (taken ++ way ∷ []) ≡ length links'). let few = so.few in absurd (omega (arith, e, more, same, few));
+              order = subst (λ l. IsSublist l (taken ++ way ∷ [])) (sym lacked.0) (one_more_taken links taken way so.order);
             }
       ]
 
@@ -178,6 +195,7 @@ module _ {S K : Type 0} (told : Option (List (Way S K))) where
       count = λ (e : x.no_memory ≡ false) (f : x.full < 2 ^ 64 - 1). let none : x.full ≡ 0 = full in omega (arith, none);
       full = λ (f : 0 < 64). full;
       each = λ (e : 0 ≡ 0). refl;
+      order = tt;
     };
     asked = inl refl;
     closed = λ (e : done ≡ true). absurd (cc (e, open_still));

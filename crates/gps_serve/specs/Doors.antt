@@ -58,6 +58,12 @@ Way S K = S × K
 abbrev pub way_of : {S K R : Type 0} → SessionLink S K R → Way S K
 way_of link = (link.source, link.sink)
 
+-- the one list is the other with some left out, in order
+abbrev pub IsSublist : {X : Type 0} → List X → List X → Type 0
+IsSublist [] ys = Unit {0}
+IsSublist (x ∷ xs) [] = ⊥
+IsSublist (x ∷ xs) (y ∷ ys) = ((x ≡ y) × IsSublist xs ys) ⊎ IsSublist (x ∷ xs) ys
+
 -- the door as it stands: the links that are left, if it tells them, and its counts; and how many links were dropped because too many sessions
 -- were there, live or not yet released, and whether it was out of memory
 pub record DoorNow (S K : Type 0) : Type 0 where
@@ -79,8 +85,8 @@ abbrev pub WasAsked : {S K : Type 0} → Option (List (Way S K)) → List (Way S
 WasAsked told taken now = (0 < length taken) ⊎ (0 < now.quiets) ⊎ (0 < now.faults) ⊎ NoneLeft told now.left
 
 -- The links that were taken are the next of those that the door had, in order. Each is that of a session, or was dropped: out of memory, or
--- because too many sessions were there, and then at least 64 were admitted. It was out of memory only if a link was dropped for that. If none was
--- dropped, the k-th is that of session k.
+-- because too many sessions were there, and then at least 64 were admitted. It was out of memory only if a link was dropped for that. Those of
+-- sessions stand in the order of the sessions; if none was dropped, the k-th is that of session k.
 pub record Taken {S K : Type 0} (told : Option (List (Way S K))) (now : DoorNow S K) (sessions : List (Way S K)) (taken : List (Way S K)) : Type 0 where
   pub passed : Goes (PassLinks taken) told now.left
   pub few : length sessions + now.full ≤ length taken
@@ -88,6 +94,7 @@ pub record Taken {S K : Type 0} (told : Option (List (Way S K))) (now : DoorNow 
   pub count : now.no_memory ≡ false → now.full < 2 ^ 64 - 1 → length taken ≡ length sessions + now.full
   pub full : length sessions < 64 → now.full ≡ 0
   pub each : length taken ≡ length sessions → sessions ≡ taken
+  pub order : IsSublist sessions taken
 
 -- So far the door was tended: it was asked, unless it is still to be asked, and says that it has closed or failed only if no link is left or its
 -- faults rose.

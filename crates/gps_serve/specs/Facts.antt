@@ -1,7 +1,7 @@
 -- What the sources, sinks and doors of a world tell, and what they count.
 use Rattle.std.specs.Prelude.{ℕ, List, Option}
 use Rattle.gps_outside.specs.declared.door.Door.{Ghosts as DoorGhosts}
-use Rattle.gps_outside.specs.declared.sink.Sink.{Ghosts as SinkGhosts}
+use Rattle.gps_outside.specs.declared.client_sink.ClientSink.{Ghosts as SinkGhosts}
 use Rattle.gps_outside.specs.declared.source.Source.{Ghosts as SourceGhosts}
 use Rattle.serve_end_settling.specs.Runs.{SourceFacts, source_facts}
 use Rattle.gps_serve.specs.Doors.{Way}

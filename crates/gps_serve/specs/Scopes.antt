@@ -4,7 +4,7 @@ use Rattle.std.specs.List.{AllZip}
 use Rattle.std.specs.Vec.{vec_len}
 use Rattle.gps_fixed.specs.Moment.{Moment}
 use Rattle.gps_outside.specs.declared.door.Door.{Ghosts as DoorGhosts}
-use Rattle.gps_outside.specs.declared.sink.Sink.{Ghosts as SinkGhosts}
+use Rattle.gps_outside.specs.declared.client_sink.ClientSink.{Ghosts as SinkGhosts}
 use Rattle.gps_outside.specs.declared.source.Source.{Ghosts as SourceGhosts}
 use Rattle.gps_hub.specs.declared.naming.HubNaming.{Ghosts as HubGhosts}
 use Rattle.hub_door.specs.declared.naming.DoorNaming.{Ghosts as DoorNamingGhosts}

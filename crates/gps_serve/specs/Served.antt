@@ -30,7 +30,7 @@ use Rattle.hub_promise.specs.declared.ends.DeviceEnd.{DeviceEnd}
 use Rattle.hub_promise.specs.declared.ends.DeviceEnd.TheVariants.{Ended}
 use Rattle.hub_promise.specs.Parts.{InletsView}
 use Rattle.serve_end_settling.specs.Runs.{SourceFacts}
-use Rattle.gps_serve.specs.Doors.{NoneLeft, Way}
+use Rattle.gps_serve.specs.Doors.{IsSublist, NoneLeft, Way}
 use Rattle.gps_serve.specs.Starts.{IsUnreadBy}
 use Rattle.gps_serve.specs.Facts.{SinkFacts, WorldFacts}
 
@@ -92,7 +92,7 @@ pub record InputServed {S K R : Type 0} (facts : SourceFacts S) (done : SessionD
 
 -- What is left of a session's outlet: its receiving end, which has the name that the book knows. The items that were got of it begin those that the
 -- book gave it, and are all of them if the session was drained. Their bytes were written to its sink, to which nothing was written before; all
--- of them, unless the sink failed.
+-- of them, unless the sink failed. The sink of a session that was drained has no fault: it wrote and delivered all.
 pub record OutletServed {S K R : Type 0} (facts : SinkFacts K) (a : MemberView) (done : SessionDone S K R) : Type 0 where
   pub first : K
   pub unwritten : IsUnwritten (facts.written first) (facts.faults first)
@@ -101,6 +101,7 @@ pub record OutletServed {S K R : Type 0} (facts : SinkFacts K) (a : MemberView) 
   pub all : done.end ≡ Drained → done.items_rx.got ≡ a.session.kept
   pub writes : Writes (writer_end done.end) [] done.items_rx.got (facts.written first) (facts.written done.sink)
   pub failed : done.end ≡ WriteFault → Rose (facts.faults first) (facts.faults done.sink)
+  pub sound : done.end ≡ Drained → facts.faults done.sink ≡ 0
 
 -- the units that have a monitor
 abbrev pub watched_units : ℕ → List UnitView → List UnitView
@@ -119,17 +120,22 @@ pub record MonitorServed (tries : ℕ) (no_memory : Bool) (u : UnitView) (done :
 abbrev pub TakesFirst : Stream → Stream → Type 0
 TakesFirst before after = IsPrefix after.taken (before.taken ++ before.left)
 
--- A session's source and sink are those of the link: the bytes taken from the source are the first of those of the link's, and the bytes of the items
--- that were got of the session's outlet were written behind what was written to the link's sink.
+-- A session's source and sink are those of the link. Nothing was taken from the link's source before; it was read, and what was put into the session's
+-- input lane is what was taken from it, with the ending that it had. The bytes of the items that were got of the session's outlet were written behind
+-- what was written to the link's sink.
 pub record ServesLink {S K R : Type 0} (sources : SourceFacts S) (sinks : SinkFacts K) (way : Way S K) (done : SessionDone S K R) : Type 0 where
+  pub unread : IsUnreadBy sources way.0
+  pub ending : Option Ending
+  pub hands : HandsOn input_part IsInputPiece ending [] done.input_tx.put (sources.content way.0) (sources.content done.source)
+  pub read : Goes (WasRead (sources.faults done.source) (sources.quiets done.source)) (sources.content way.0) (sources.content done.source)
   pub reads : Goes TakesFirst (sources.content way.0) (sources.content done.source)
   pub writes : Writes (writer_end done.end) [] done.items_rx.got (sinks.written way.1) (sinks.written done.sink)
   pub failed : done.end ≡ WriteFault → Rose (sinks.faults way.1) (sinks.faults done.sink)
 
 -- What is left of the door. The links that were taken are the next of those that it told. They are at least as many as the sessions and `full` together,
 -- and exactly as many unless the daemon was out of memory or `full` is at its greatest value; `full` counts the links that were dropped because too many
--- sessions were there, and is 0 before 64 were admitted. If none was dropped, session k has the k-th. The door was asked; and it is said to have closed or
--- failed only if no link is left or its faults rose.
+-- sessions were there, and is 0 before 64 were admitted. Each session has the source and the sink of a link that was taken, in order; if none was dropped,
+-- session k has those of the k-th. The door was asked; and it is said to have closed or failed only if no link is left or its faults rose.
 pub record GateServed {G S K R : Type 0} (facts : WorldFacts G S K) (told : Option (List (Way S K))) (full : ℕ) (no_memory done : Bool)
     (sessions : List (SessionDone S K R)) (gate : G) : Type 0 where
   pub taken : List (Way S K)
@@ -137,6 +143,9 @@ pub record GateServed {G S K R : Type 0} (facts : WorldFacts G S K) (told : Opti
   pub few : length sessions + full ≤ length taken
   pub count : no_memory ≡ false → full < 2 ^ 64 - 1 → length taken ≡ length sessions + full
   pub none_early : length sessions < 64 → full ≡ 0
+  pub served : List (Way S K)
+  pub order : IsSublist served taken
+  pub links_are : AllZip (ServesLink facts.sources facts.sinks) served sessions
   pub each : length taken ≡ length sessions → AllZip (ServesLink facts.sources facts.sinks) taken sessions
   pub asked : (0 < length taken) ⊎ (0 < facts.gates.quiets gate) ⊎ (0 < facts.gates.faults gate) ⊎ NoneLeft told (facts.gates.links gate)
   pub closed : done ≡ true → NoneLeft told (facts.gates.links gate) ⊎ (0 < facts.gates.faults gate)

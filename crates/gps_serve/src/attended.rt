@@ -5,7 +5,7 @@ ghost use Rattle.gps_serve.specs.Released.{AreEndsOf};
 use crate::floor::Floor;
 use crate::release::release_lanes;
 use gps_hub::{DoorSeat, HubNaming};
-use gps_outside::{Sink, Source};
+use gps_outside::{ClientSink, Source};
 use serve_threads::{Attending, LinkDone, SessionLink, Work};
 use std::marker::Model;
 use std::snapshot::Snapshot;
@@ -14,13 +14,13 @@ use std::thread::Threads;
 
 /// A session's threads at work, or what they handed back. Contracts see the link on which they work.
 #[derive(Drop)]
-pub(crate) struct Attended<S: Source, K: Sink, R: Wait + Copy> {
+pub(crate) struct Attended<S: Source, K: ClientSink, R: Wait + Copy> {
     link: Snapshot<SessionLink<S, K, R>>,
     work: Option<Work<LinkDone<S, K, R>, Attending<S, K, R>>>,
     run: Option<LinkDone<S, K, R>>,
 }
 
-impl<S: Source, K: Sink, R: Wait + Copy> Model for Attended<S, K, R> {
+impl<S: Source, K: ClientSink, R: Wait + Copy> Model for Attended<S, K, R> {
     ghost use Rattle.std.specs.Prelude.{◌≡◌, IfSome, IsSome, None};
     ghost use Rattle.serve_threads.specs.declared.session.SessionLink.{SessionLink};
     ghost use Rattle.serve_threads.specs.Sessions.{SessionRuns};
@@ -34,7 +34,7 @@ impl<S: Source, K: Sink, R: Wait + Copy> Model for Attended<S, K, R> {
         × (a.work ≡ None → IsSome a.run) };
 }
 
-impl<S: Source, K: Sink, R: Wait + Copy> Attended<S, K, R> {
+impl<S: Source, K: ClientSink, R: Wait + Copy> Attended<S, K, R> {
     pub(crate) fn new(
         link: Snapshot<SessionLink<S, K, R>>,
         work: Work<LinkDone<S, K, R>, Attending<S, K, R>>,

@@ -13,7 +13,7 @@ use crate::seated::{Seated, Sessions};
 use gps_fixed::NoMemory;
 use gps_hub::{DoorSeat, HubNaming};
 use gps_lane::Bell;
-use gps_outside::{Door, DoorStep, Sink, Source};
+use gps_outside::{ClientSink, Door, DoorStep, Source};
 use report_book::BookFault;
 use serve_end_parts::SessionDone;
 use serve_threads::{Bells, LinkDone, SessionLink, start_session};
@@ -30,7 +30,7 @@ const REST: u64 = 1;
 #[derive(Drop)]
 pub(crate) struct DoorDone<
     S: Source,
-    K: Sink,
+    K: ClientSink,
     G: Door<In = S, Out = K>,
     J: HubNaming,
     R: Wait + Copy,
@@ -48,7 +48,7 @@ pub(crate) struct DoorDone<
 
 /// The door worker.
 #[derive(Drop)]
-struct Doorman<S: Source, K: Sink, G: Door<In = S, Out = K>, J: HubNaming, R: Wait + Copy> {
+struct Doorman<S: Source, K: ClientSink, G: Door<In = S, Out = K>, J: HubNaming, R: Wait + Copy> {
     gate: G,
     seat: DoorSeat<J>,
     sessions: Sessions<S, K, R>,
@@ -64,7 +64,7 @@ struct Doorman<S: Source, K: Sink, G: Door<In = S, Out = K>, J: HubNaming, R: Wa
 #[derive(Drop)]
 pub(crate) struct DoorBegin<
     S: Source,
-    K: Sink,
+    K: ClientSink,
     G: Door<In = S, Out = K>,
     J: HubNaming,
     R: Wait + Copy,
@@ -80,7 +80,7 @@ pub(crate) struct DoorBegin<
     pub(crate) ghost not_done: { seat.done ≡ false },
 }
 
-impl<S: Source, K: Sink, G: Door<In = S, Out = K>, J: HubNaming, R: Wait + Copy> Doorman<
+impl<S: Source, K: ClientSink, G: Door<In = S, Out = K>, J: HubNaming, R: Wait + Copy> Doorman<
     S,
     K,
     G,
@@ -406,7 +406,7 @@ pub(crate) fn tend<
     's,
     E,
     S: Source + Send + 's,
-    K: Sink + Send + 's,
+    K: ClientSink + Send + 's,
     G: Door<In = S, Out = K> + Send + 's,
     J: HubNaming + Send + Sync + 's,
     R: Threads + Wait + Copy + Send + Sync + 's,

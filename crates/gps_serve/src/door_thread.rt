@@ -3,7 +3,7 @@ ghost use Rattle.std.specs.Prelude.{◌≡◌, IfSome};
 use crate::door::{DoorBegin, DoorDone, tend};
 use crate::floor::Floor;
 use gps_hub::HubNaming;
-use gps_outside::{Door, Sink, Source};
+use gps_outside::{ClientSink, Door, Source};
 use serve_threads::{Bells, Work, start_if};
 use std::alloc::Global;
 use std::marker::PhantomData;
@@ -19,7 +19,7 @@ pub(crate) struct Tending<G: Door, J: HubNaming> {
     marker: PhantomData<J>,
 }
 
-impl<S: Source, K: Sink, G: Door<In = S, Out = K>, J: HubNaming, R: Wait + Copy> Promise<
+impl<S: Source, K: ClientSink, G: Door<In = S, Out = K>, J: HubNaming, R: Wait + Copy> Promise<
     DoorDone<S, K, G, J, R>,
 > for Tending<G, J> {
     ghost use Rattle.serve_threads.specs.Sessions.{SessionRuns};
@@ -36,7 +36,7 @@ pub(crate) fn start_door<
     's,
     E,
     S: Source + Send + 's,
-    K: Sink + Send + 's,
+    K: ClientSink + Send + 's,
     G: Door<In = S, Out = K> + Send + 's,
     J: HubNaming + Send + Sync + 's,
     R: Threads + Wait + Copy + Send + Sync + 's,

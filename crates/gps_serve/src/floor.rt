@@ -1,4 +1,4 @@
-ghost use Rattle.std.specs.Prelude.{◌≡◌, ◌<◌, [], length, IfOk, IfErr, IfSome, OnOk, OnErr, true, false};
+ghost use Rattle.std.specs.Prelude.{◌≡◌, ◌≤◌, ◌<◌, ◌*◌, [], length, IfOk, IfErr, IfSome, OnOk, OnErr, true, false};
 ghost use Rattle.std.specs.List.{All};
 ghost use Rattle.gps_serve.specs.declared.floor.Burst.TheVariants.{Over};
 ghost use Rattle.gps_hub.specs.Admitting.{IsCrowded};
@@ -15,6 +15,7 @@ use report_book::{BookFault, UnitStep};
 use serve_pieces::Piece;
 use serve_threads::SessionBells;
 use session_core::Item;
+use std::alloc::Global;
 use std::sync::{Arc, Wait};
 
 /// The most pieces of devices that a burst takes. The lock is held for a burst, so it is short: at 64 clients most of it is their lanes.
@@ -64,6 +65,26 @@ pub(crate) struct Floor<J: HubNaming, R: Wait + Copy> {
     pub(crate) has_refused: bool,
     pub(crate) ghost devices_are: { devices ≡ length J.terms.names },
     pub(crate) ghost units_are: { units ≡ length J.terms.segments },
+}
+
+/// What stands behind the lock, with no session.
+pub(crate) fn floor_of<J: HubNaming, R: Wait + Copy>(
+    alloc: Global,
+    hub: Hub<J, R>,
+    devices: u8,
+) -> Floor<J, R>
+    requires few { devices ≤ 8 }
+    requires devices { devices ≡ length J.terms.names }
+    requires units { 2 * devices ≡ length J.terms.segments }
+{
+    Floor {
+        hub,
+        devices,
+        units: 2 * devices,
+        next: 0,
+        sessions: Vec::new(alloc),
+        has_refused: false,
+    }
 }
 
 impl<J: HubNaming, R: Wait + Copy> Floor<J, R> {

@@ -3,11 +3,11 @@
 ghost use Rattle.gps_serve.specs.Facts.{world_facts};
 ghost use Rattle.gps_serve.specs.Logged.{EndedAreLogged};
 
-use gps_outside::{Door, Sink, Source};
+use gps_outside::{ClientSink, Door, Source};
 
 /// If a device has ended, its bytes in the log of the run are all bytes of its source, in order and each once.
 ///
 /// The premises are the clauses `at_end` and `held` of [`serve`](crate::serve).
-pub fn ended_devices_are_logged_whole<S: Source, K: Sink, G: Door<In = S, Out = K>, R>()
-    ensures { EndedAreLogged R (world_facts S.Source K.Sink G.Door) }
+pub fn ended_devices_are_logged_whole<S: Source, K: ClientSink, G: Door<In = S, Out = K>, R>()
+    ensures { EndedAreLogged R (world_facts S.Source K.ClientSink G.Door) }
 {}

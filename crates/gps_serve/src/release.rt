@@ -10,7 +10,7 @@ ghost use Rattle.gps_serve.specs.Released.{AreEndsOf, GotMore, WritesItem, Write
 use crate::floor::Floor;
 use gps_hub::{DoorSeat, Hub, HubNaming};
 use gps_lane::Rx;
-use gps_outside::{Sink, Source, write_all};
+use gps_outside::{ClientSink, Source, send_all};
 use serve_threads::{LinkDone, WriterDone};
 use serve_workers::WriterEnd;
 use session_core::Item;
@@ -58,7 +58,7 @@ fn drop_items<J: HubNaming, R: Wait + Copy>(
 
 /// Gets the next items of a closed session whose sink has failed, under one lock. False if none is left.
 #[tactic(auto, using(crate::proofs::Released::skipped_on))]
-fn skip_items<K: Sink, J: HubNaming, R: Wait + Copy>(
+fn skip_items<K: ClientSink, J: HubNaming, R: Wait + Copy>(
     rt: &R,
     floor: &Mutex<Floor<J, R>>,
     seat: &mut DoorSeat<J>,
@@ -92,14 +92,14 @@ fn next_item<J: HubNaming, R: Wait + Copy>(
 
 /// Writes an item, unless the sink had failed.
 #[tactic(auto, using(crate::proofs::Released::item_written, crate::proofs::Released::item_cut, crate::proofs::Released::item_skipped))]
-fn write_item<K: Sink>(end: WriterEnd, sink: &mut K, item: Item) -> WriterEnd
+fn write_item<K: ClientSink>(end: WriterEnd, sink: &mut K, item: Item) -> WriterEnd
     ensures { WritesItem item end result (K.written sink.old) (K.written sink.new) (K.faults sink.old) (K.faults sink.new) }
 {
     match end {
         WriterEnd::WriteFault => return WriterEnd::WriteFault,
         WriterEnd::Drained => {}
     }
-    if write_all(sink, item.bytes()) {
+    if send_all(sink, item.bytes()) {
         return WriterEnd::Drained;
     }
     WriterEnd::WriteFault
@@ -107,7 +107,7 @@ fn write_item<K: Sink>(end: WriterEnd, sink: &mut K, item: Item) -> WriterEnd
 
 /// Gets the next item of a closed session's outlet, and writes it unless the sink had failed. False if there is none.
 #[tactic(auto, using(crate::proofs::Released::none_on))]
-fn write_next<K: Sink, J: HubNaming, R: Wait + Copy>(
+fn write_next<K: ClientSink, J: HubNaming, R: Wait + Copy>(
     rt: &R,
     floor: &Mutex<Floor<J, R>>,
     seat: &mut DoorSeat<J>,
@@ -127,7 +127,7 @@ fn write_next<K: Sink, J: HubNaming, R: Wait + Copy>(
 }
 
 /// Gets the next item of a closed session's outlet, and writes it; or the next ones, if its sink has failed. False if none is left.
-fn get_next<K: Sink, J: HubNaming, R: Wait + Copy>(
+fn get_next<K: ClientSink, J: HubNaming, R: Wait + Copy>(
     rt: &R,
     floor: &Mutex<Floor<J, R>>,
     seat: &mut DoorSeat<J>,
@@ -147,7 +147,7 @@ fn get_next<K: Sink, J: HubNaming, R: Wait + Copy>(
 
 /// Gets the items that a closed session's outlet still holds, and writes them until the sink fails. No item is written under the lock.
 #[tactic(auto, using(crate::proofs::Released::on_none, crate::proofs::Released::outlet_still))]
-fn empty_outlet<K: Sink, J: HubNaming, R: Wait + Copy>(
+fn empty_outlet<K: ClientSink, J: HubNaming, R: Wait + Copy>(
     rt: &R,
     floor: &Mutex<Floor<J, R>>,
     seat: &mut DoorSeat<J>,
@@ -170,7 +170,7 @@ fn empty_outlet<K: Sink, J: HubNaming, R: Wait + Copy>(
 /// Gets what the two lanes of a closed session hold, so that they need no memory from then on. Items are written, if the writer wrote all that
 /// it got.
 #[tactic(auto, using(crate::proofs::Released::input_still))]
-pub(crate) fn release_lanes<S: Source, K: Sink, J: HubNaming, R: Wait + Copy>(
+pub(crate) fn release_lanes<S: Source, K: ClientSink, J: HubNaming, R: Wait + Copy>(
     rt: &R,
     floor: &Mutex<Floor<J, R>>,
     seat: &mut DoorSeat<J>,

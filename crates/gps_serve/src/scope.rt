@@ -19,7 +19,7 @@ use crate::status::{are_whole, device_lacks, either, session_lacks};
 use crate::waker::{Waker, wake_readers};
 use gps_fixed::NoMemory;
 use gps_hub::HubNaming;
-use gps_outside::{Clock, Door, Sink, Source};
+use gps_outside::{ClientSink, Clock, Door, Source};
 use serve_end_settling::DeviceRun;
 use serve_threads::{Bells, MonitorPromise, MonitorStart, ReadingsDone, Work, start_monitor};
 use serve_workers::{Dials, SharedClock};
@@ -32,7 +32,7 @@ use std::thread::{Scope, Threads};
 #[derive(Drop)]
 pub(crate) struct Setup<
     S: Source,
-    K: Sink,
+    K: ClientSink,
     G: Door<In = S, Out = K>,
     D: Dials,
     J: HubNaming,
@@ -63,7 +63,7 @@ pub(crate) struct Setup<
 #[derive(Drop)]
 pub(crate) struct Ended<
     S: Source,
-    K: Sink,
+    K: ClientSink,
     G: Door<In = S, Out = K>,
     J: HubNaming,
     R: Wait + Copy,
@@ -73,7 +73,7 @@ pub(crate) struct Ended<
     pub(crate) door: DoorDone<S, K, G, J, R>,
 }
 
-impl<S: Source, K: Sink, G: Door<In = S, Out = K>, J: HubNaming, R: Wait + Copy> Ended<
+impl<S: Source, K: ClientSink, G: Door<In = S, Out = K>, J: HubNaming, R: Wait + Copy> Ended<
     S,
     K,
     G,
@@ -113,7 +113,7 @@ pub(crate) fn room<T: Drop>(alloc: Global, count: usize) -> Result<Vec<T>, NoMem
 /// Makes the room.
 pub(crate) fn set_up<
     S: Source,
-    K: Sink,
+    K: ClientSink,
     G: Door<In = S, Out = K>,
     D: Dials,
     J: HubNaming,
@@ -249,7 +249,7 @@ fn work<
     's,
     E,
     S: Source + Send + 's,
-    K: Sink + Send + 's,
+    K: ClientSink + Send + 's,
     G: Door<In = S, Out = K> + Send + 's,
     C: Clock + Send + 's,
     J: HubNaming + Send + Sync + 's,
@@ -268,7 +268,7 @@ fn work<
     setup: Setup<S, K, G, D, J, R>,
 ) -> Option<Ended<S, K, G, J, R>>
     ensures fails { FailsIf G.faults setup.door.gate result }
-    ensures tended { TendedIf (source_facts S.Source) (sink_facts K.Sink)
+    ensures tended { TendedIf (source_facts S.Source) (sink_facts K.ClientSink)
         (gate_facts G.Door) setup.door.queue setup.door.gate result }
     ensures causes { CausesIf S.faults result }
     ensures ran { RanIf D.may (source_facts S.Source) setup.starts.items result }
@@ -318,7 +318,7 @@ fn work<
 pub(crate) fn in_scope<
     'e,
     S: Source + Send + 'e,
-    K: Sink + Send + 'e,
+    K: ClientSink + Send + 'e,
     G: Door<In = S, Out = K> + Send + 'e,
     C: Clock + Send + 'e,
     J: HubNaming + Send + Sync + 'e,
@@ -336,7 +336,7 @@ pub(crate) fn in_scope<
     setup: Setup<S, K, G, D, J, R>,
 ) -> Option<Ended<S, K, G, J, R>>
     ensures fails { FailsIf G.faults setup.door.gate result }
-    ensures tended { TendedIf (source_facts S.Source) (sink_facts K.Sink)
+    ensures tended { TendedIf (source_facts S.Source) (sink_facts K.ClientSink)
         (gate_facts G.Door) setup.door.queue setup.door.gate result }
     ensures causes { CausesIf S.faults result }
     ensures ran { RanIf D.may (source_facts S.Source) setup.starts.items result }

@@ -8,7 +8,7 @@ use crate::attended::Attended;
 use crate::floor::Floor;
 use gps_fixed::NoMemory;
 use gps_hub::{DoorSeat, HubNaming};
-use gps_outside::{Sink, Source};
+use gps_outside::{ClientSink, Source};
 use serve_threads::{LinkDone, SessionBells};
 use std::alloc::Global;
 use std::sync::{Arc, Mutex, Wait};
@@ -16,14 +16,14 @@ use std::thread::Threads;
 
 /// A session's threads, and their bells.
 #[derive(Drop)]
-pub(crate) struct Seated<S: Source, K: Sink, R: Wait + Copy> {
+pub(crate) struct Seated<S: Source, K: ClientSink, R: Wait + Copy> {
     pub(crate) attended: Attended<S, K, R>,
     pub(crate) bells: Arc<SessionBells>,
 }
 
 /// The sessions that were admitted, in order, with room for what they hand back.
 #[derive(Drop)]
-pub(crate) struct Sessions<S: Source, K: Sink, R: Wait + Copy> {
+pub(crate) struct Sessions<S: Source, K: ClientSink, R: Wait + Copy> {
     pub(crate) seated: Vec<Seated<S, K, R>>,
     // Those whose lanes were not dropped yet.
     pub(crate) live: Vec<usize>,
@@ -37,7 +37,7 @@ pub(crate) struct Sessions<S: Source, K: Sink, R: Wait + Copy> {
 pub(crate) const MOST: usize = 80;
 
 /// Joins the threads of a session, and gets what its lanes hold once it is closed. False if it is not closed yet.
-fn release_at<S: Source, K: Sink, J: HubNaming, R: Threads + Wait + Copy>(
+fn release_at<S: Source, K: ClientSink, J: HubNaming, R: Threads + Wait + Copy>(
     seated: &mut Vec<Seated<S, K, R>>,
     rt: &R,
     floor: &Mutex<Floor<J, R>>,
@@ -58,7 +58,7 @@ fn release_at<S: Source, K: Sink, J: HubNaming, R: Threads + Wait + Copy>(
     seated[session].attended.release(rt, floor, seat, number)
 }
 
-impl<S: Source, K: Sink, R: Wait + Copy> Sessions<S, K, R> {
+impl<S: Source, K: ClientSink, R: Wait + Copy> Sessions<S, K, R> {
     pub(crate) fn none(alloc: Global) -> Sessions<S, K, R>
         ensures { result.seated.items ≡ [] }
     {

@@ -25,7 +25,7 @@ ghost use Rattle.gps_serve.specs.Whole.{IsWhole};
 ghost use Rattle.gps_serve.specs.Works.{WatchersRan, monitored};
 
 use crate::door::{DoorBegin, DoorDone};
-use crate::floor::{Burst, Floor};
+use crate::floor::{Burst, Floor, floor_of};
 use crate::ground::{Ground, prepare};
 use crate::lanes::DeviceLanes;
 use crate::rings::Rings;
@@ -34,7 +34,7 @@ use crate::settling::{DevicesDone, devices_done, monitors_done, sessions_done};
 use crate::status::{DaemonOutcome, all_ended, lacked};
 use gps_fixed::NoMemory;
 use gps_hub::{DoorSeat, Hub, HubNaming, Parted};
-use gps_outside::{Door, Sink, Source};
+use gps_outside::{ClientSink, Door, Source};
 use gps_world::World;
 use serve_end_parts::{DeviceDone, MonitorDone, Plan, Served};
 use serve_workers::{Dials, SharedClock};
@@ -64,6 +64,7 @@ fn nothing<W: World, R: Wait + Copy>(alloc: Global, world: W, stop: Stop) -> Ser
     ensures three { result.status ≡ 3 → stop ≡ Stop.Input }
     ensures eight { result.status ≡ 8 → stop ≡ Stop.Listen }
     ensures seven { result.status ≡ 7 → result.no_memory ≡ true }
+    ensures met { AnyOf (DeviceFailed W.In.faults) result.devices.items → result.status ≡ 3 }
     ensures first { AnyOf WasLostByFault result.devices.items → result.status ≡ 3 }
     ensures untold { (result.status ≡ 3) ⊎ All TellsNoFault result.devices.items }
     ensures door { SourceFailed W.Gate.faults result.gate → (result.status ≡ 3) ⊎ (result.status ≡ 8) }
@@ -196,6 +197,7 @@ fn gather<W: World, J: HubNaming, D: Dials, R: Wait + Copy>(
     ensures three { result.status ≡ 3 → AnyOf (DeviceFailed W.In.faults) result.devices.items }
     ensures eight { result.status ≡ 8 → SourceFailed W.Gate.faults result.gate }
     ensures seven { result.status ≡ 7 → result.no_memory ≡ true }
+    ensures met { AnyOf (DeviceFailed W.In.faults) result.devices.items → result.status ≡ 3 }
     ensures first { AnyOf WasLostByFault result.devices.items → result.status ≡ 3 }
     ensures untold { (result.status ≡ 3) ⊎ All TellsNoFault result.devices.items }
     ensures door { SourceFailed W.Gate.faults result.gate → (result.status ≡ 3) ⊎ (result.status ≡ 8) }
@@ -205,7 +207,7 @@ fn gather<W: World, J: HubNaming, D: Dials, R: Wait + Copy>(
     ensures readers { result.no_memory ≡ false → ReadersHadMemory result.devices.items result.sessions.items }
     ensures left { AllZip IsLeftOf ended.runs.items result.devices.items }
     ensures at_end { IfSome result.book (AtEnd (start_with (settings_of J.terms numbers.queue numbers.tries) D.may (W.Gate.links first.value))
-        (world_facts W.In.Source W.Out.Sink W.Gate.Door) (handed_back result)) }
+        (world_facts W.In.Source W.Out.ClientSink W.Gate.Door) (handed_back result)) }
 {
     let by_threads = ended.threads_lack();
     let Ended {
@@ -257,24 +259,8 @@ fn gather<W: World, J: HubNaming, D: Dials, R: Wait + Copy>(
     }
 }
 
-/// What stands behind the lock, with no session.
-fn floor_of<J: HubNaming, R: Wait + Copy>(alloc: Global, hub: Hub<J, R>, devices: u8) -> Floor<J, R>
-    requires few { devices ≤ 8 }
-    requires devices { devices ≡ length J.terms.names }
-    requires units { 2 * devices ≡ length J.terms.segments }
-{
-    Floor {
-        hub,
-        devices,
-        units: 2 * devices,
-        next: 0,
-        sessions: Vec::new(alloc),
-        has_refused: false,
-    }
-}
-
 /// What the door worker begins with.
-fn begin_of<S: Source, K: Sink, G: Door<In = S, Out = K>, J: HubNaming, R: Wait + Copy>(
+fn begin_of<S: Source, K: ClientSink, G: Door<In = S, Out = K>, J: HubNaming, R: Wait + Copy>(
     alloc: Global,
     gate: G,
     seat: DoorSeat<J>,
@@ -332,6 +318,7 @@ fn run<
     ensures three { result.status ≡ 3 → AnyOf (DeviceFailed W.In.faults) result.devices.items }
     ensures eight { result.status ≡ 8 → SourceFailed W.Gate.faults result.gate }
     ensures seven { result.status ≡ 7 → result.no_memory ≡ true }
+    ensures met { AnyOf (DeviceFailed W.In.faults) result.devices.items → result.status ≡ 3 }
     ensures first { AnyOf WasLostByFault result.devices.items → result.status ≡ 3 }
     ensures untold { (result.status ≡ 3) ⊎ All TellsNoFault result.devices.items }
     ensures door { SourceFailed W.Gate.faults result.gate → (result.status ≡ 3) ⊎ (result.status ≡ 8) }
@@ -343,7 +330,7 @@ fn run<
     ensures reads { IsSome result.book
         → AllZip (DeviceReads (source_facts W.In.Source)) ground.lanes.starts.items result.devices.items }
     ensures at_end { IfSome result.book (AtEnd (start_with (settings_of J.terms numbers.queue numbers.tries) D.may (W.Gate.links gate))
-        (world_facts W.In.Source W.Out.Sink W.Gate.Door) (handed_back result)) }
+        (world_facts W.In.Source W.Out.ClientSink W.Gate.Door) (handed_back result)) }
 {
     let Ground {
         book,
@@ -397,6 +384,7 @@ pub fn serve<W: World, R: Threads + Wait + Copy + Send + Sync>(
     ensures three { result.status ≡ 3 → AnyOf (DeviceFailed W.In.faults) result.devices.items ⊎ Rose (W.input_faults world) (W.input_faults result.world) }
     ensures eight { result.status ≡ 8 → SourceFailed W.Gate.faults result.gate ⊎ Rose (W.listen_faults world) (W.listen_faults result.world) }
     ensures seven { result.status ≡ 7 → result.no_memory ≡ true }
+    ensures met { AnyOf (DeviceFailed W.In.faults) result.devices.items → result.status ≡ 3 }
     ensures first { AnyOf WasLostByFault result.devices.items → result.status ≡ 3 }
     ensures untold { (result.status ≡ 3) ⊎ All TellsNoFault result.devices.items }
     ensures door { SourceFailed W.Gate.faults result.gate → (result.status ≡ 3) ⊎ (result.status ≡ 8) }
@@ -407,7 +395,7 @@ pub fn serve<W: World, R: Threads + Wait + Copy + Send + Sync>(
     ensures none { result.book ≡ None → ((result.status ≡ 3) × Rose (W.input_faults world) (W.input_faults result.world))
         ⊎ ((result.status ≡ 8) × Rose (W.listen_faults world) (W.listen_faults result.world)) ⊎ (result.status ≡ 7) }
     ensures at_end { IfSome result.book
-        (AtEnd (start_in W.World (settings_in plan) world) (world_facts W.In.Source W.Out.Sink W.Gate.Door) (handed_back result)) }
+        (AtEnd (start_in W.World (settings_in plan) world) (world_facts W.In.Source W.Out.ClientSink W.Gate.Door) (handed_back result)) }
     ensures whole { IsSome result.book → All (IsWhole (dial_of (W.stamps world)) (source_facts W.In.Source)) result.devices.items }
     ensures held { GivenOnce (plan.inputs.items ++ places_in plan.edges.items) → IsSome result.book
         → AllZip (BytesHeld (W.behind world) (source_facts W.In.Source)) plan.inputs.items result.devices.items

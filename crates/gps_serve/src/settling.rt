@@ -16,7 +16,7 @@ ghost use Rattle.gps_serve.specs.Statuses.{TellsNoFault};
 use crate::status::either;
 use gps_hub::{DeviceEnd, Inlets};
 use gps_lane::{Rx, Tx};
-use gps_outside::{Sink, Source};
+use gps_outside::{ClientSink, Source};
 use report_book::Book;
 use serve_end_parts::{DeviceDone, MonitorDone, SessionDone};
 use serve_end_settling::{DeviceRun, device_done, device_failed, monitor_done, session_done};
@@ -56,6 +56,7 @@ fn left_of<S: Source, D: Dials, R: Wait + Copy>(
     ensures served { DeviceServed D.may (source_facts S.Source) inlets result.device }
     ensures end { result.device.end ≡ end }
     ensures failed { result.failed ≡ true → DeviceFailed S.faults result.device }
+    ensures missed { result.failed ≡ false → DeviceFailed S.faults result.device → ⊥ }
     ensures untold { result.failed ≡ false → TellsNoFault result.device }
     ensures source { result.device.source ≡ Some run.bytes.source }
     ensures edges { result.device.edges ≡ source_of run.edges }
@@ -91,6 +92,7 @@ pub(crate) fn devices_done<S: Source, D: Dials, R: Wait + Copy>(
     ensures served { AllZip (DeviceServed D.may (source_facts S.Source)) inlets.items result.devices.items }
     ensures ends { map (λ device. device.end) result.devices.items ≡ ends.items }
     ensures failed { result.failed ≡ true → AnyOf (DeviceFailed S.faults) result.devices.items }
+    ensures missed { result.failed ≡ false → AnyOf (DeviceFailed S.faults) result.devices.items → ⊥ }
     ensures untold { result.failed ≡ false → EachRun TellsNoFault result.devices.items }
     ensures left { AllZip IsLeftOf runs.items result.devices.items }
 {
@@ -110,7 +112,7 @@ pub(crate) fn devices_done<S: Source, D: Dials, R: Wait + Copy>(
 
 /// What is left of a session.
 #[tactic(auto, using(crate::proofs::Sessions::outlet_name, crate::proofs::Sessions::outlet_served))]
-fn settled<S: Source, K: Sink, R: Wait + Copy>(
+fn settled<S: Source, K: ClientSink, R: Wait + Copy>(
     rt: &R,
     book: &mut Book<Tx<Item, R>>,
     number: u32,
@@ -119,32 +121,32 @@ fn settled<S: Source, K: Sink, R: Wait + Copy>(
 ) -> SessionDone<S, K, R>
     requires there { number < length book.old.sessions }
     requires ready { (free : MemberView)
-        → SessionReady (source_facts S.Source) (sink_facts K.Sink) (get_or book.old.sessions number free) input run }
+        → SessionReady (source_facts S.Source) (sink_facts K.ClientSink) (get_or book.old.sessions number free) input run }
     ensures book { book.new ≡ book.old }
     ensures number { result.number ≡ number }
-    ensures link { IsLeftOfLink (source_facts S.Source) (sink_facts K.Sink) run result }
+    ensures link { IsLeftOfLink (source_facts S.Source) (sink_facts K.ClientSink) run result }
     ensures input { InputLeft (source_facts S.Source) input result }
-    ensures outlet { (free : MemberView) → OutletServed (sink_facts K.Sink) (get_or book.old.sessions number free) result }
+    ensures outlet { (free : MemberView) → OutletServed (sink_facts K.ClientSink) (get_or book.old.sessions number free) result }
 {
     session_done(rt, book, number, run, input)
 }
 
 /// Puts together what is left of the sessions, in order.
 #[tactic(auto, using(crate::proofs::Sessions::sessions_begin, crate::proofs::Zips::ran_begin))]
-pub(crate) fn sessions_done<S: Source, K: Sink, R: Wait + Copy>(
+pub(crate) fn sessions_done<S: Source, K: ClientSink, R: Wait + Copy>(
     rt: &R,
     book: &mut Book<Tx<Item, R>>,
     runs: Vec<LinkDone<S, K, R>>,
     inputs: Vec<Rx<Piece, R>>,
     room: Vec<SessionDone<S, K, R>>,
 ) -> Vec<SessionDone<S, K, R>>
-    requires ready { AreReady (source_facts S.Source) (sink_facts K.Sink) book.old.sessions inputs.items runs.items }
+    requires ready { AreReady (source_facts S.Source) (sink_facts K.ClientSink) book.old.sessions inputs.items runs.items }
     requires none { room.items ≡ [] }
     requires empty { vec_len room ≡ 0 }
     requires enough { vec_len runs ≤ vec_capacity room }
     ensures book { book.new ≡ book.old }
-    ensures served { AllServed (source_facts S.Source) (sink_facts K.Sink) book.old.sessions inputs.items result.items }
-    ensures links { AllZip (IsLeftOfLink (source_facts S.Source) (sink_facts K.Sink)) runs.items result.items }
+    ensures served { AllServed (source_facts S.Source) (sink_facts K.ClientSink) book.old.sessions inputs.items result.items }
+    ensures links { AllZip (IsLeftOfLink (source_facts S.Source) (sink_facts K.ClientSink)) runs.items result.items }
 {
     let mut done = room;
     let mut runs = runs.into_iter();

@@ -7,7 +7,7 @@ ghost use Rattle.gps_serve.specs.Statuses.{lacks_memory};
 
 use gps_hub::{DeviceEnd, Ending};
 use gps_lane::Tx;
-use gps_outside::{Sink, Source};
+use gps_outside::{ClientSink, Source};
 use report_book::Book;
 use serve_end_settling::DeviceRun;
 use serve_threads::{LinkDone, ReaderDone, ReadingsDone};
@@ -122,7 +122,9 @@ fn ends_lack(ends: &[Option<DeviceEnd>]) -> bool
 }
 
 /// Whether the reader of any session ended because it was out of memory.
-pub(crate) fn session_lacks<S: Source, K: Sink, R: Wait + Copy>(runs: &[LinkDone<S, K, R>]) -> bool
+pub(crate) fn session_lacks<S: Source, K: ClientSink, R: Wait + Copy>(
+    runs: &[LinkDone<S, K, R>],
+) -> bool
     ensures { result ≡ list_any link_lacks runs.now }
 {
     runs.iter().any(|run| is_short(run.reader.ending))

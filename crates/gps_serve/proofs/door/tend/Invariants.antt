@@ -4,7 +4,7 @@ use Rattle.gps_serve.proofs.door.tend.Given as goal
 
 abbrev pub invariant-asks : goal.invariant-asks
 invariant-asks g l = record {
-  seated : AreSeated (IsNewLink g.S.Source.content g.S.Source.faults g.S.Source.quiets g.K.Sink.written g.K.Sink.faults) l.queue
+  seated : AreSeated (IsNewLink g.S.Source.content g.S.Source.faults g.S.Source.quiets g.K.ClientSink.written g.K.ClientSink.faults) l.queue
       (links_at l.doorman.sessions.seated.items) l.doorman.seat;
   tends : Tends (g.G.Door.links l.fn.begin.gate)
       (door_now (g.G.Door.links l.doorman.gate) (g.G.Door.faults l.doorman.gate) (g.G.Door.quiets l.doorman.gate) l.doorman.full l.doorman.no_memory)

@@ -4,4 +4,4 @@ use Rattle.gps_serve.proofs.laws.ended_devices_are_logged_whole.Goals as goal
 
 pub returns : goal.returns
 returns g c =
-    ended_are_logged _ (world_facts g.S.Source g.K.Sink g.G.Door)
+    ended_are_logged _ (world_facts g.S.Source g.K.ClientSink g.G.Door)

@@ -4,10 +4,10 @@ use Rattle.gps_serve.proofs.release.empty_outlet.Goals as goal
 
 pub returns-then-not-get_next-clause-on : goal.returns-then-not-get_next-clause-on
 returns-then-not-get_next-clause-on g c =
-    on_more g.K.Sink.written g.K.Sink.faults c.args.writer.now c.items.writer c.get_next.new.writer c.items.invariant.on c.if-not-get_next.ensures.on
+    on_more g.K.ClientSink.written g.K.ClientSink.faults c.args.writer.now c.items.writer c.get_next.new.writer c.items.invariant.on c.if-not-get_next.ensures.on
 
 pub items-preserved : goal.items-preserved
 items-preserved g c = record {
   seat = c.if-not-get_next.ensures.seat ∙ c.items.invariant.seat;
-  on = on_more g.K.Sink.written g.K.Sink.faults c.args.writer.now c.items.writer c.get_next.new.writer c.items.invariant.on c.if-not-get_next.ensures.on;
+  on = on_more g.K.ClientSink.written g.K.ClientSink.faults c.args.writer.now c.items.writer c.get_next.new.writer c.items.invariant.on c.if-not-get_next.ensures.on;
 }

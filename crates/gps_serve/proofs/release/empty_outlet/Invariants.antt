@@ -5,5 +5,5 @@ use Rattle.gps_serve.proofs.release.empty_outlet.Given as goal
 abbrev pub invariant-items : goal.invariant-items
 invariant-items g l = record {
   seat : l.seat ≡ l.initial.seat;
-  on : WritesOn g.K.Sink.written g.K.Sink.faults l.initial.writer l.writer;
+  on : WritesOn g.K.ClientSink.written g.K.ClientSink.faults l.initial.writer l.writer;
 }

@@ -12,7 +12,7 @@ use Rattle.gps_serve.proofs.Causes.{door_first}
 use Rattle.gps_serve.proofs.Gates.{each_end, gate_served, link_uncounted, none_lost_in}
 use Rattle.report_book.specs.BookView.{BookView}
 use Rattle.gps_serve.proofs.Ends.{all_ended_by, at_end_of, devices_by, ends_count, monitors_by, not_lacked, units_few}
-use Rattle.gps_serve.proofs.First.{first_of, some_lost, three_or_untold}
+use Rattle.gps_serve.proofs.First.{first_of, some_lost, three_if, three_or_untold}
 use Rattle.gps_serve.proofs.HadMemory.{devices_had, devices_tell_short, sessions_had, sessions_tell_short}
 use Rattle.gps_serve.proofs.Lost.{lost_by_memory, some_lacks}
 use Rattle.gps_serve.proofs.Monitors.{some_misses}
@@ -61,7 +61,7 @@ returns-clause-lacks g c e =
 
 pub returns-clause-at_end : goal.returns-clause-at_end
 returns-clause-at_end g c =
-    let facts = world_facts g.W.In.Source g.W.Out.Sink g.W.Gate.Door in
+    let facts = world_facts g.W.In.Source g.W.Out.ClientSink g.W.Gate.Door in
     let door = c.args.ended.door in
     let links = g.W.Gate.Door.links c.args.first.value in
     let whole = not_lacked c.lacked-no_memory.result _ c.lacks.result c.lacks.ensures in
@@ -112,12 +112,15 @@ returns-clause-at_end g c =
 pub returns-clause-three : goal.returns-clause-three
 returns-clause-three g c e = c.devices_done-devices.ensures.failed (c.status.ensures.three e)
 
+pub returns-clause-met : goal.returns-clause-met
+returns-clause-met g c = three_if c.devices_done-devices.result.failed c.status.result c.status.ensures.three_first c.devices_done-devices.ensures.missed
+
 pub returns-clause-first : goal.returns-clause-first
 returns-clause-first g c =
     let sources = source_facts g.W.In.Source in
     first_of g.D.Dials.may sources _ _ _ c.status.ensures.three_first c.devices_done-devices.ensures.untold
     (whole_at_end (start_with (settings_of g.J.HubNaming.terms c.args.numbers.queue c.args.numbers.tries) g.D.Dials.may (g.W.Gate.Door.links c.args.first.value))
-    (world_facts g.W.In.Source g.W.Out.Sink g.W.Gate.Door)
+    (world_facts g.W.In.Source g.W.Out.ClientSink g.W.Gate.Door)
     (back_with c.devices_done-devices.result.devices.items c.sessions_done-sessions.result.items c.monitors_done-monitors.result.items
     (Some c.args.ended.door.gate) c.args.ended.door.full c.lacks.result)
     (Some _) (returns-clause-at_end g c) refl)
@@ -129,7 +132,7 @@ pub returns-clause-readers : goal.returns-clause-readers
 returns-clause-readers g c e =
     let none = not_lacked c.lacked-no_memory.result _ c.lacks.result c.lacks.ensures e in
     let sources = source_facts g.W.In.Source in
-    let sinks = sink_facts g.W.Out.Sink in
+    let sinks = sink_facts g.W.Out.ClientSink in
     record {
       devices_had = devices_had g.D.Dials.may sources _ _ _
           (devices_by _ _ g.J.HubNaming.terms c.part-book.result.book _ _ c.part-book.ensures.terms c.requires.ran) c.devices_done-devices.ensures.left

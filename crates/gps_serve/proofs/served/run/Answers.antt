@@ -61,11 +61,11 @@ returns-clause-reads g c some =
     c.gather.ensures.left
     (whole_at_end
     (start_with (settings_of g.J.HubNaming.terms c.args.numbers.queue c.args.numbers.tries) g.D.Dials.may (g.W.Gate.Door.links c.of-first.result.value))
-    (world_facts g.W.In.Source g.W.Out.Sink g.W.Gate.Door) (handed_back c.gather.result) c.gather.result.book c.gather.ensures.at_end some)
+    (world_facts g.W.In.Source g.W.Out.ClientSink g.W.Gate.Door) (handed_back c.gather.result) c.gather.result.book c.gather.ensures.at_end some)
 
 pub returns-clause-at_end : goal.returns-clause-at_end
 returns-clause-at_end g c =
     let settings = settings_of g.J.HubNaming.terms c.args.numbers.queue c.args.numbers.tries in
     subst (λ x. IfSome c.gather.result.book (AtEnd (start_with settings g.D.Dials.may (g.W.Gate.Door.links x))
-    (world_facts g.W.In.Source g.W.Out.Sink g.W.Gate.Door) (handed_back c.gather.result)))
+    (world_facts g.W.In.Source g.W.Out.ClientSink g.W.Gate.Door) (handed_back c.gather.result)))
     c.of-first.ensures c.gather.ensures.at_end

@@ -22,14 +22,14 @@ returns-in-Err-clause-asked g c =
 
 pub returns-in-Ok-prepare-clause-at_end : goal.returns-in-Ok-prepare-clause-at_end
 returns-in-Ok-prepare-clause-at_end g c =
-    told_again (world_facts g.W.In.Source g.W.Out.Sink g.W.Gate.Door) (handed_back c.run.result) c.run.result.book c.in-Ok-prepare.ground.book
+    told_again (world_facts g.W.In.Source g.W.Out.ClientSink g.W.Gate.Door) (handed_back c.run.result) c.run.result.book c.in-Ok-prepare.ground.book
     c.in-Ok-prepare.ground.lanes.inlets.items c.args.plan (g.W.World.stamps c.args.world) (g.W.Now.Clock.stamps c.in-Ok.outside.clock)
     (g.W.World.links c.args.world) (g.W.Gate.Door.links c.in-Ok.outside.gate) c.in-Ok-prepare.ensures.names c.in-Ok-prepare.ensures.limit
     c.in-Ok.ensures.stamps c.in-Ok.ensures.links c.run.ensures.at_end
 
 pub returns-in-Ok-prepare-clause-whole : goal.returns-in-Ok-prepare-clause-whole
 returns-in-Ok-prepare-clause-whole g c some =
-    whole_at_end (start_in g.W.World (settings_in c.args.plan) c.args.world) (world_facts g.W.In.Source g.W.Out.Sink g.W.Gate.Door) (handed_back c.run.result)
+    whole_at_end (start_in g.W.World (settings_in c.args.plan) c.args.world) (world_facts g.W.In.Source g.W.Out.ClientSink g.W.Gate.Door) (handed_back c.run.result)
     c.run.result.book (returns-in-Ok-prepare-clause-at_end g c) some
 
 pub returns-in-Ok-prepare-clause-held : goal.returns-in-Ok-prepare-clause-held

@@ -3,7 +3,7 @@ use Rattle.serve_end_settling.specs.Failing.{DeviceFailed}
 use Rattle.serve_end_settling.specs.Runs.{EachRun, RunCause}
 use Rattle.gps_serve.proofs.Causes.{failed_more}
 use Rattle.gps_serve.proofs.Devices.{devices_all, devices_begin, devices_more, ends_all, ends_begin, ends_more, lanes_left, next_device}
-use Rattle.gps_serve.proofs.First.{untold_begin, untold_more}
+use Rattle.gps_serve.proofs.First.{missed_begin, missed_more, untold_begin, untold_more}
 use Rattle.gps_serve.specs.Runs.{IsLeftOf}
 use Rattle.gps_serve.proofs.Zips.{ran_begin, ran_end, ran_next}
 use Rattle.gps_serve.proofs.settling.devices_done.Goals as goal
@@ -19,6 +19,7 @@ devices-init g c =
       ends = ends_begin _ _ _ c.requires.none c.into_iter-ends.ensures.rest;
       left = ap length c.into_iter-ends.ensures.rest ∙ c.requires.ends ∙ ap length (sym c.into_iter-inlets.ensures.rest);
       failed = λ (e : false ≡ true). absurd cc;
+      missed = λ (e : false ≡ false). missed_begin (DeviceFailed g.S.Source.faults) _ c.requires.none;
       untold = λ (e : false ≡ false). untold_begin _ c.requires.none;
       count = omega (arith, empty, ap length runs, c.args.runs.ok.0);
       room = c.requires.enough;
@@ -57,6 +58,7 @@ devices-preserved g c = record {
   ends = ends_more _ _ _ _ _ _ _ c.devices.invariant.ends c.next_of-end.ensures c.left_of-left.ensures.end c.push_reserved.ensures.items;
   left = omega (arith, c.devices.invariant.left, ap length c.next_of-end.ensures, ap length c.next_of-lanes.ensures);
   failed = failed_more (DeviceFailed g.S.Source.faults) _ _ _ _ _ _ c.devices.invariant.failed c.left_of-left.ensures.failed c.either-failed.ensures c.push_reserved.ensures.items;
+  missed = missed_more (DeviceFailed g.S.Source.faults) _ _ _ _ _ _ c.devices.invariant.missed c.left_of-left.ensures.missed c.either-failed.ensures c.push_reserved.ensures.items;
   untold = untold_more _ _ _ _ _ _ c.devices.invariant.untold c.left_of-left.ensures.untold c.either-failed.ensures c.push_reserved.ensures.items;
   count = omega (arith, c.push_reserved.ensures.len, c.devices.invariant.count, ap length c.in-Some.ensures.steps.0);
   room = omega (arith, c.push_reserved.ensures.capacity, c.devices.invariant.room);
@@ -71,6 +73,9 @@ returns-clause-ends g c =
 
 pub returns-clause-failed : goal.returns-clause-failed
 returns-clause-failed g c = c.devices.invariant.failed
+
+pub returns-clause-missed : goal.returns-clause-missed
+returns-clause-missed g c = c.devices.invariant.missed
 
 pub returns-clause-untold : goal.returns-clause-untold
 returns-clause-untold g c = c.devices.invariant.untold

@@ -18,6 +18,7 @@ invariant-devices g l = record {
   ends : map (λ (d : DeviceDone g.row.S.Denot g.row.R.Denot). d.end) l.devices.items ++ into_iter_items l.ends ≡ l.fn.ends.items;
   left : length (into_iter_items l.ends) ≡ length (into_iter_items l.inlets);
   failed : l.failed ≡ true → AnyOf (DeviceFailed g.S.Source.faults) l.devices.items;
+  missed : l.failed ≡ false → AnyOf (DeviceFailed g.S.Source.faults) l.devices.items → ⊥;
   untold : l.failed ≡ false → EachRun TellsNoFault l.devices.items;
   count : vec_len l.devices + length (into_iter_items l.run-iterator) ≡ vec_len l.fn.runs;
   room : vec_len l.fn.runs ≤ vec_capacity l.devices;

@@ -3,7 +3,7 @@ use Rattle.hub_promise.specs.Parts.{InletsView}
 use Rattle.serve_end_settling.specs.Lanes.{Settles, SettlesSome, tx_of}
 use Rattle.serve_end_settling.specs.Runs.{source_facts}
 use Rattle.gps_serve.proofs.Devices.{device_served}
-use Rattle.gps_serve.proofs.First.{tells_none}
+use Rattle.gps_serve.proofs.First.{none_failed, tells_none}
 use Rattle.gps_serve.proofs.settling.left_of.Goals as goal
 
 pub returns-clause-served : goal.returns-clause-served
@@ -14,6 +14,12 @@ returns-clause-served g c =
     device_served g.D.Dials.may (source_facts g.S.Source) c.args.inlets c.args.run done.result c.requires.ready
     done.ensures.source done.ensures.edges done.ensures.bytes_tx done.ensures.edges_tx (subst P c.inlets.view_is done.ensures.bytes_rx)
     (subst Q c.inlets.view_is done.ensures.edges_rx)
+
+pub returns-clause-missed : goal.returns-clause-missed
+returns-clause-missed g c =
+    let done = c.device_done-device in
+    none_failed g.D.Dials.may (source_facts g.S.Source) c.args.inlets c.args.run done.result _ c.requires.ready
+    done.ensures.source done.ensures.edges c.device_failed-failed.ensures.met.1
 
 pub returns-clause-untold : goal.returns-clause-untold
 returns-clause-untold g c =

@@ -37,7 +37,7 @@ sessions-preserved g c = record {
       (sessions_more _ _ _ _ _ _ _ _ _ _ _ _
       (next_session _ _ _ _ _ _ _ _ _ _ _ _ c.sessions.invariant.so_far c.next_of-input.ensures c.next_of-run.ensures)
       c.settled.ensures.number c.settled.ensures.input c.settled.ensures.outlet c.push_reserved.ensures.items);
-  links = ran_next (IsLeftOfLink (source_facts g.S.Source) (sink_facts g.K.Sink)) _ _ _ _ _ _ _
+  links = ran_next (IsLeftOfLink (source_facts g.S.Source) (sink_facts g.K.ClientSink)) _ _ _ _ _ _ _
       c.sessions.invariant.links c.next_of-run.ensures c.settled.ensures.link c.push_reserved.ensures.items;
   book = c.settled.ensures.book ∙ c.sessions.invariant.book;
   all = c.sessions.invariant.all ∙ ap (λ (b : BookView). length b.sessions) (sym c.settled.ensures.book);
@@ -48,7 +48,7 @@ sessions-preserved g c = record {
 pub returns-clause-served : goal.returns-clause-served
 returns-clause-served g c =
     let P : BookView → Type 0 = λ b.
-    AllServed (source_facts g.S.Source) (sink_facts g.K.Sink) b.sessions c.args.inputs.items
+    AllServed (source_facts g.S.Source) (sink_facts g.K.ClientSink) b.sessions c.args.inputs.items
     c.sessions.done.items in
     let test = c.sessions-test.false in
     subst P c.sessions.invariant.book (sessions_all _ _ _ _ _ _ _ _ c.sessions.invariant.so_far (omega (arith, test, c.sessions.invariant.all)))

@@ -9,9 +9,9 @@ use Rattle.gps_serve.proofs.settling.sessions_done.Given as goal
 
 abbrev pub invariant-sessions : goal.invariant-sessions
 invariant-sessions g l = record {
-  so_far : SessionsSoFar (source_facts g.S.Source) (sink_facts g.K.Sink) l.book.sessions l.fn.inputs.items
+  so_far : SessionsSoFar (source_facts g.S.Source) (sink_facts g.K.ClientSink) l.book.sessions l.fn.inputs.items
       (into_iter_items l.inputs) (into_iter_items l.runs) l.number l.done.items;
-  links : RanSoFar (IsLeftOfLink (source_facts g.S.Source) (sink_facts g.K.Sink)) l.fn.runs.items (into_iter_items l.runs) l.done.items;
+  links : RanSoFar (IsLeftOfLink (source_facts g.S.Source) (sink_facts g.K.ClientSink)) l.fn.runs.items (into_iter_items l.runs) l.done.items;
   book : l.book ≡ l.initial.book;
   all : l.number-end ≡ length l.book.sessions;
   count : vec_len l.done + length (into_iter_items l.runs) ≡ vec_len l.fn.runs;

@@ -16,7 +16,7 @@ use Rattle.class_counts.specs.declared.outcome.CountOutcome.{CountOutcome}
 use Rattle.class_counts.specs.declared.outcome.CountOutcome.TheVariants as outcome
 use Rattle.class_counts.specs.declared.reading.Reading.TheVariants as reading
 use Rattle.class_counts.specs.Counted.{Counted, RefusesNone}
-use Rattle.class_counts.specs.Reading.{HasReadAll, HasReadSoFar, Reads, most_bytes}
+use Rattle.class_counts.specs.Reading.{HasReadAll, HasReadSoFar, NoReadFailed, Reads, most_bytes}
 use Rattle.class_counts.specs.Lines.{AreRead, EndsBadly, Refuses, limit, long_line, whole_lines}
 use Rattle.class_counts.specs.Outcomes.{CountHasCause}
 use Rattle.class_counts.specs.Standing.{CountStands, Stops}
@@ -176,14 +176,15 @@ ended false count bytes source after sink sink' outcome read stands is writes =
       ]
     ]
 
-pub has_cause : (o : CountOutcome) (faults faults' quiets quiets' sunk sunk' : ℕ) → WriteCause o sunk sunk' → CountHasCause o faults faults' quiets quiets' sunk sunk'
-has_cause outcome.Done faults faults' quiets quiets' sunk sunk' cause = tt
-has_cause outcome.ReadFault faults faults' quiets quiets' sunk sunk' cause = absurd cause
-has_cause outcome.TooQuiet faults faults' quiets quiets' sunk sunk' cause = absurd cause
-has_cause outcome.WriteFault faults faults' quiets quiets' sunk sunk' cause = cause
-has_cause outcome.Full faults faults' quiets quiets' sunk sunk' cause = tt
-has_cause outcome.BadLine faults faults' quiets quiets' sunk sunk' cause = tt
-has_cause outcome.NoMemory faults faults' quiets quiets' sunk sunk' cause = tt
+pub has_cause : (o : CountOutcome) (faults faults' quiets quiets' sunk sunk' : ℕ) → WriteCause o sunk sunk' → NoReadFailed faults faults' quiets quiets'
+    → CountHasCause o faults faults' quiets quiets' sunk sunk'
+has_cause outcome.Done faults faults' quiets quiets' sunk sunk' cause sound = (sound.0, sound.1, cause)
+has_cause outcome.ReadFault faults faults' quiets quiets' sunk sunk' cause sound = absurd cause
+has_cause outcome.TooQuiet faults faults' quiets quiets' sunk sunk' cause sound = absurd cause
+has_cause outcome.WriteFault faults faults' quiets quiets' sunk sunk' cause sound = (sound.0, sound.1, cause)
+has_cause outcome.Full faults faults' quiets quiets' sunk sunk' cause sound = absurd cause
+has_cause outcome.BadLine faults faults' quiets quiets' sunk sunk' cause sound = (sound.0, sound.1, cause)
+has_cause outcome.NoMemory faults faults' quiets quiets' sunk sunk' cause sound = (sound.0, sound.1, cause)
 
 pub counted_end : (count : Count) (source after : Option Stream) (sink sink' : Option (List ℕ)) (outcome : CountOutcome)
     → Reads reading.End count source after

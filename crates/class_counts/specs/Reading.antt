@@ -1,8 +1,8 @@
 -- How the reading of an input ends, and what was counted then.
 use Rattle.std.specs.Prelude.{◌≡◌, ℕ, ◌≤◌, ◌⊎◌, List, length, Option}
-use Rattle.gps_outside.specs.Counts.{Rose, RoseBy}
+use Rattle.gps_outside.specs.Counts.{Rose, many_more}
 use Rattle.gps_outside.specs.Told.{Stream, Goes, Passes}
-use Rattle.gps_outside.specs.ReadSteps.{PassesMore, TakesAll, TakesSome}
+use Rattle.gps_outside.specs.ReadSteps.{IsQuietSometimes, PassesMore, TakesAll, TakesSome}
 use Rattle.class_counts.specs.declared.counting.Count.{Count}
 use Rattle.class_counts.specs.declared.reading.Reading.{Reading}
 use Rattle.class_counts.specs.declared.reading.Reading.TheVariants.{End, Stopped, Full, Failed, TooQuiet}
@@ -31,10 +31,14 @@ ReadsBytes TooQuiet count bytes before after = (length bytes ≤ most_bytes) × 
 abbrev pub Reads : Reading → Count → Option Stream → Option Stream → Type 0
 Reads reading count before after = (bytes : List ℕ) × ReadsBytes reading count bytes before after
 
+-- no read failed, and nothing came fewer than a thousand times
+abbrev pub NoReadFailed : ℕ → ℕ → ℕ → ℕ → Type 0
+NoReadFailed faults faults' quiets quiets' = (faults' ≡ faults) × IsQuietSometimes quiets quiets'
+
 -- the counts of the source before and after
 abbrev pub ReadCause : Reading → ℕ → ℕ → ℕ → ℕ → Type 0
-ReadCause End faults faults' quiets quiets' = Unit {0}
-ReadCause (Stopped stop) faults faults' quiets quiets' = Unit {0}
-ReadCause Full faults faults' quiets quiets' = Unit {0}
-ReadCause Failed faults faults' quiets quiets' = Rose faults faults'
-ReadCause TooQuiet faults faults' quiets quiets' = RoseBy 1000 quiets quiets'
+ReadCause End faults faults' quiets quiets' = NoReadFailed faults faults' quiets quiets'
+ReadCause (Stopped stop) faults faults' quiets quiets' = NoReadFailed faults faults' quiets quiets'
+ReadCause Full faults faults' quiets quiets' = NoReadFailed faults faults' quiets quiets'
+ReadCause Failed faults faults' quiets quiets' = Rose faults faults' × IsQuietSometimes quiets quiets'
+ReadCause TooQuiet faults faults' quiets quiets' = (faults' ≡ faults) × (quiets' ≡ many_more 1000 quiets)

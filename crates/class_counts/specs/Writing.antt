@@ -15,15 +15,15 @@ Closes meant text outcome before after =
     ((outcome ≡ meant) × Goes (Appends text) before after)
     ⊎ (((outcome ≡ WriteFault) × Goes (AppendsPart text) before after) ⊎ ((outcome ≡ NoMemory) × (before ≡ after)))
 
--- what must have happened to the sink's count; the source has no part in it
+-- the sink's faults rose exactly if it failed; the source has no part in it
 abbrev pub WriteCause : CountOutcome → ℕ → ℕ → Type 0
-WriteCause Done before after = Unit {0}
+WriteCause Done before after = after ≡ before
 WriteCause ReadFault before after = ⊥
 WriteCause TooQuiet before after = ⊥
 WriteCause WriteFault before after = Rose before after
 WriteCause Full before after = ⊥
-WriteCause BadLine before after = Unit {0}
-WriteCause NoMemory before after = Unit {0}
+WriteCause BadLine before after = after ≡ before
+WriteCause NoMemory before after = after ≡ before
 
 -- the number of the line after n good ones
 abbrev pub bad_behind : ℕ → List ℕ

@@ -7,7 +7,7 @@ use gps_outside::{Intake, IntakeStep, Source};
 use std::alloc::Global;
 
 /// How many bytes an input has at most.
-const MOST_BYTES: u32 = 1_073_741_824;
+const MOST_BYTES: u64 = 1_073_741_824;
 
 /// How the reading of an input ended.
 #[derive(Clone, Copy)]
@@ -25,7 +25,7 @@ pub(crate) enum Reading {
 }
 
 /// Reads lines to the source's end, or to the first bad one.
-#[tactic(auto, using(crate::proofs::CountingSteps::begun, crate::proofs::CountingSteps::after_quiet, crate::proofs::CountingSteps::ended, crate::proofs::CountingSteps::failed, crate::proofs::CountingSteps::too_quiet, crate::proofs::CountingSteps::quiet_cause))]
+#[tactic(auto, using(crate::proofs::CountingSteps::ended, crate::proofs::CountingSteps::failed, crate::proofs::CountingSteps::too_quiet))]
 pub(crate) fn read_lines<S: Source>(alloc: Global, count: &mut Count, source: &mut S) -> Reading
     requires { CountStands count.old [] }
     ensures reads { Reads result count.new (S.content source.old) (S.content source.new) }

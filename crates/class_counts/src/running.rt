@@ -15,6 +15,8 @@ use std::alloc::Global;
 
 /// Ends a count at its first bad line, or when out of memory.
 fn stop<K: Sink>(alloc: Global, stop: Stop, good: u64, sink: &mut K) -> CountOutcome
+    requires takes { K.takes sink.old }
+    ensures takes { K.takes sink.new }
     ensures closes { StopsWith stop good result (K.written sink.old) (K.written sink.new) }
     ensures cause { WriteCause result (K.faults sink.old) (K.faults sink.new) }
     ensures faults_stay { K.faults sink.old ≤ K.faults sink.new }
@@ -27,6 +29,8 @@ fn stop<K: Sink>(alloc: Global, stop: Stop, good: u64, sink: &mut K) -> CountOut
 
 /// Ends a count at the end of its input, whose last line may lack its end.
 fn end<K: Sink>(alloc: Global, count: &Count, sink: &mut K) -> CountOutcome
+    requires takes { K.takes sink.old }
+    ensures takes { K.takes sink.new }
     ensures closes { (bytes : List ℕ) → CountStands count.now bytes
         → EndsWith (not (length (open_line bytes) == 0)) count.now result (K.written sink.old) (K.written sink.new) }
     ensures cause { WriteCause result (K.faults sink.old) (K.faults sink.new) }
@@ -40,8 +44,10 @@ fn end<K: Sink>(alloc: Global, count: &Count, sink: &mut K) -> CountOutcome
 }
 
 /// As [`count_lines`].
-#[tactic(auto, using(crate::proofs::Ends::counted_end, crate::proofs::Ends::counted_stop, crate::proofs::Ends::counted_full, crate::proofs::Ends::counted_failed, crate::proofs::Ends::counted_quiet, crate::proofs::Ends::has_cause))]
+#[tactic(auto, using(crate::proofs::Ends::counted_end, crate::proofs::Ends::counted_stop, crate::proofs::Ends::counted_full, crate::proofs::Ends::counted_failed, crate::proofs::Ends::counted_quiet))]
 fn count<S: Source, K: Sink>(alloc: Global, source: &mut S, sink: &mut K) -> CountOutcome
+    requires takes { K.takes sink.old }
+    ensures takes { K.takes sink.new }
     ensures counted { Counted result (S.content source.old) (S.content source.new) (K.written sink.old) (K.written sink.new) }
     ensures cause { CountHasCause result (S.faults source.old) (S.faults source.new) (S.quiets source.old) (S.quiets source.new)
         (K.faults sink.old) (K.faults sink.new) }
@@ -61,7 +67,12 @@ fn count<S: Source, K: Sink>(alloc: Global, source: &mut S, sink: &mut K) -> Cou
 
 /// Reads lines to the source's end, or to the first bad one, and writes how many are of each class, or the number of that
 /// line. A line is ended by LF and has at most 1,048,576 bytes; an input at most 1,073,741,824.
+///
+/// The sink is open, and stays open. The source's faults rise exactly if the outcome is a read fault, and the sink's exactly if it is a
+/// write fault; a count is too quiet exactly at the thousandth read that brings nothing.
 pub fn count_lines<S: Source, K: Sink>(alloc: Global, source: &mut S, sink: &mut K) -> CountOutcome
+    requires takes { K.takes sink.old }
+    ensures takes { K.takes sink.new }
     ensures counted { Counted result (S.content source.old) (S.content source.new) (K.written sink.old) (K.written sink.new) }
     ensures cause { CountHasCause result (S.faults source.old) (S.faults source.new) (S.quiets source.old) (S.quiets source.new)
         (K.faults sink.old) (K.faults sink.new) }

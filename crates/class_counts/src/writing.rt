@@ -32,6 +32,8 @@ fn numbers(alloc: Global, tally: &Tally) -> Result<Bytes, NoMemory>
 
 /// Writes the number of the first bad line.
 pub(crate) fn refuse<K: Sink>(alloc: Global, good: u64, sink: &mut K) -> CountOutcome
+    requires takes { K.takes sink.old }
+    ensures takes { K.takes sink.new }
     ensures closes { Closes CountOutcome.BadLine (bad_behind good) result (K.written sink.old) (K.written sink.new) }
     ensures cause { WriteCause result (K.faults sink.old) (K.faults sink.new) }
     ensures faults_stay { K.faults sink.old ≤ K.faults sink.new }
@@ -50,6 +52,8 @@ pub(crate) fn refuse<K: Sink>(alloc: Global, good: u64, sink: &mut K) -> CountOu
 
 /// Writes the numbers of all classes.
 pub(crate) fn report<K: Sink>(alloc: Global, tally: &Tally, sink: &mut K) -> CountOutcome
+    requires takes { K.takes sink.old }
+    ensures takes { K.takes sink.new }
     ensures closes { Closes CountOutcome.Done (numbers_text tally.now.numbers) result (K.written sink.old) (K.written sink.new) }
     ensures cause { WriteCause result (K.faults sink.old) (K.faults sink.new) }
     ensures faults_stay { K.faults sink.old ≤ K.faults sink.new }

@@ -1,12 +1,13 @@
 -- What the play of a made script comes to.
 use Rattle.std.proofs.Common.{◌≡◌, ℕ, ◌+◌, ◌<◌, ◌≤◌, ◌⊎◌, List, [], ◌++◌, length, Option, Some, None, inl, inr, refl, sym, ap, ◌∙◌, subst, arith, append-nil, length-append}
-use Rattle.gps_outside.specs.Counts.{Rose, RoseBy}
+use Rattle.gps_outside.specs.Counts.{Rose, RoseBy, many_more}
+use Rattle.gps_outside.proofs.ReadSteps.{rose_by_many}
 use Rattle.gps_outside.specs.Told.{Stream, Goes, Appends, AppendsPart, Passes}
 use Rattle.gps_outside.proofs.Writing.{appends_none, part_of}
 use Rattle.line_cut.specs.Lines.{lines, open_line}
 use Rattle.line_player.specs.declared.outcome.PlayOutcome.{PlayOutcome}
 use Rattle.line_player.specs.declared.outcome.PlayOutcome.TheVariants.{Done, ReadFault, TooQuiet, WriteFault, Full, BadLine, NoMemory}
-use Rattle.line_player.specs.Outcomes.{PlayHasCause}
+use Rattle.line_player.specs.Outcomes.{NothingFailed, PlayHasCause}
 use Rattle.line_player.specs.Courses.{whole_course}
 use Rattle.line_player.specs.Played.{HasPlayed}
 use Rattle.line_player.proofs.Complete.{completes}
@@ -14,6 +15,10 @@ use Rattle.replay_workload.specs.Workload.{workload_of}
 use Rattle.gps_replay.specs.Closings.{closing_rules, closings}
 use Rattle.gps_replay.specs.Generated.{Generated, GeneratedCause, default_queue, made}
 use Rattle.gps_replay.proofs.Playable.{playable}
+
+none_failed : NothingFailed 0 0 0 0 0 0
+unfolding many_more
+none_failed = (refl, (0, (omega arith, refl)), refl)
 
 -- if all was done, the whole script was read
 all_read : (script : List ℕ) (after : Option Stream) (most : ℕ) (sink sink' : Option (List ℕ))
@@ -53,7 +58,7 @@ none_refused script after most sink sink' is played seed size few of =
     let whole : (whole_course (closing_rules default_queue) script).refused ≡ None =
     ap (λ s. (whole_course (closing_rules default_queue) s).refused) of ∙ playable seed size few in
     let ended : (BadLine ≡ Done) ⊎ (BadLine ≡ NoMemory) =
-    completes BadLine (closing_rules default_queue) most (Some (record { taken = []; left = script })) after sink sink' 0 0 0 0 0 0 played tt
+    completes BadLine (closing_rules default_queue) most (Some (record { taken = []; left = script })) after sink sink' 0 0 0 0 0 0 played none_failed
     (omega (arith, is), whole) (λ rose. omega (arith, rose)) (λ rose. omega (arith, rose)) (λ rose. omega (arith, rose)) in
     elim ended [
       | inl done ↦ cc
@@ -65,13 +70,14 @@ pub caused : (outcome : PlayOutcome) (script : List ℕ) (most : ℕ) (after : O
     → HasPlayed outcome (closing_rules default_queue) most (Some (record { taken = []; left = script })) after sink sink'
     → PlayHasCause outcome 0 0 0 0 sunk sunk'
     → (seed size : ℕ) → size ≤ 10_000 → script ≡ workload_of seed size → GeneratedCause outcome sunk sunk'
-caused Done script most after sink sink' sunk sunk' is played cause seed size few of = tt
-caused ReadFault script most after sink sink' sunk sunk' is played cause seed size few of = omega (arith, cause)
-caused TooQuiet script most after sink sink' sunk sunk' is played cause seed size few of = omega (arith, cause)
-caused WriteFault script most after sink sink' sunk sunk' is played cause seed size few of = cause
+caused Done script most after sink sink' sunk sunk' is played cause seed size few of = cause.2
+caused ReadFault script most after sink sink' sunk sunk' is played cause seed size few of = let rose : Rose 0 0 = cause.0 in omega (arith, rose)
+caused TooQuiet script most after sink sink' sunk sunk' is played cause seed size few of =
+    let rose : RoseBy 1000 0 0 = subst (λ n. RoseBy 1000 0 n) (sym cause.1) (rose_by_many 1000 0) in omega (arith, rose)
+caused WriteFault script most after sink sink' sunk sunk' is played cause seed size few of = cause.2
 caused Full script most after sink sink' sunk sunk' is played cause seed size few of = no_more script after most sink sink' is played
 caused BadLine script most after sink sink' sunk sunk' is played cause seed size few of = none_refused script after most sink sink' is played seed size few of
-caused NoMemory script most after sink sink' sunk sunk' is played cause seed size few of = tt
+caused NoMemory script most after sink sink' sunk sunk' is played cause seed size few of = cause.2
 
 -- out of memory before the first line
 pub nothing_played : (seed size : ℕ) (sink : Option (List ℕ)) → Generated NoMemory seed size sink sink

@@ -22,12 +22,12 @@ pub record Generated (outcome : PlayOutcome) (seed size : ℕ) (sink sink' : Opt
   pub played : HasPlayed outcome (closing_rules default_queue) (length (workload_of seed size)) (Some (made seed size)) after sink sink'
   pub whole : outcome ≡ Done → Goes (Appends (closings default_queue (workload_of seed size))) sink sink'
 
--- the sink's count before and after; no source fails, the script is read to its end, and no line of it is refused
+-- The sink's count before and after: it rose exactly if the sink failed. No source fails, the script is read to its end, and no line of it is refused.
 abbrev pub GeneratedCause : PlayOutcome → ℕ → ℕ → Type 0
-GeneratedCause Done before after = Unit {0}
+GeneratedCause Done before after = after ≡ before
 GeneratedCause ReadFault before after = ⊥
 GeneratedCause TooQuiet before after = ⊥
 GeneratedCause WriteFault before after = Rose before after
 GeneratedCause Full before after = ⊥
 GeneratedCause BadLine before after = ⊥
-GeneratedCause NoMemory before after = Unit {0}
+GeneratedCause NoMemory before after = after ≡ before

@@ -20,7 +20,9 @@ const QUEUE: u32 = 4_096;
 /// Plays a made script, and writes its closing lines.
 #[tactic(auto, using(crate::proofs::Making::generated, crate::proofs::Making::caused, crate::proofs::Making::nothing_played))]
 fn play_made<K: Sink>(alloc: Global, script: Bytes, sink: &mut K) -> PlayOutcome
+    requires takes { K.takes sink.old }
     requires short { length script ≤ 4_294_967_295 }
+    ensures takes { K.takes sink.new }
     ensures generated { (seed size : ℕ) → script ≡ workload_of seed size → Generated result seed size (K.written sink.old) (K.written sink.new) }
     ensures cause { (seed size : ℕ) → size ≤ 10000 → script ≡ workload_of seed size → GeneratedCause result (K.faults sink.old) (K.faults sink.new) }
     ensures faults_stay { K.faults sink.old ≤ K.faults sink.new }
@@ -43,11 +45,13 @@ fn play_made<K: Sink>(alloc: Global, script: Bytes, sink: &mut K) -> PlayOutcome
 }
 
 /// Makes the script of `size` seconds, plays it with the default history and queue, and writes its closing lines alone. No line
-/// of it is refused.
+/// of it is refused. The sink is open, and stays open; its faults rise exactly if the outcome is a write fault.
 #[tactic(auto, using(crate::proofs::Making::nothing_played))]
 pub fn generate<K: Sink>(alloc: Global, seed: u32, size: u32, sink: &mut K) -> PlayOutcome
+    requires takes { K.takes sink.old }
     requires from { 1 ≤ size }
     requires to { size ≤ 10000 }
+    ensures takes { K.takes sink.new }
     ensures generated { Generated result seed size (K.written sink.old) (K.written sink.new) }
     ensures cause { GeneratedCause result (K.faults sink.old) (K.faults sink.new) }
     ensures faults_stay { K.faults sink.old ≤ K.faults sink.new }

@@ -1,7 +1,7 @@
 ghost use Rattle.std.specs.Prelude.{◌≡◌, ◌≤◌, ◌<◌, [], length, take, drop};
 ghost use Rattle.gps_outside.specs.declared.source.ReadStep.{ReadStep};
 ghost use Rattle.gps_outside.specs.Counts.{Rose};
-ghost use Rattle.gps_outside.specs.Reads.{FitsBuffer, Reads};
+ghost use Rattle.gps_outside.specs.Reads.{CountsQuiet, FailsOnly, FitsBuffer, Reads};
 
 use gps_fixed::Bytes;
 use gps_outside::{ReadStep, Source};
@@ -48,6 +48,8 @@ impl Source for HeldScript {
         ensures bytes { Reads result buf.new (Some self.old) (Some self.new) }
         ensures failed { result ≡ ReadStep.Failed → Rose 0 0 }
         ensures quiet { result ≡ ReadStep.Quiet → Rose 0 0 }
+        ensures fails_only { FailsOnly result 0 0 }
+        ensures counts_quiet { CountsQuiet result 0 0 }
     {
         let n = buf.len().min(self.script.len() - self.at);
         if n == 0 {

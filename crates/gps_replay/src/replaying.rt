@@ -21,6 +21,9 @@ const MOST_BYTES: u32 = 1_073_741_824;
 ///
 /// A line is played as soon as its end was read, or so much of it that it is too long. At [`PlayOutcome::BadLine`] the line N
 /// was refused, and `bad line N` stands behind what those before it write.
+///
+/// The sink is open, and stays open. The source's faults rise exactly if the outcome is a read fault, and the sink's exactly if it is a
+/// write fault; a play is too quiet exactly at the thousandth read that brings nothing.
 pub fn replay<S: Source, K: Sink>(
     alloc: Global,
     source: &mut S,
@@ -28,10 +31,12 @@ pub fn replay<S: Source, K: Sink>(
     limit: u32,
     queue: u32,
 ) -> PlayOutcome
+    requires takes { K.takes sink.old }
     requires some { 1 ≤ limit }
     requires most { limit ≤ 33554432 }
     requires least { 1 ≤ queue }
     requires within { queue ≤ 65536 }
+    ensures takes { K.takes sink.new }
     ensures replayed { Replayed result queue (S.content source.old) (S.content source.new) (K.written sink.old) (K.written sink.new) }
     ensures cause { PlayHasCause result (S.faults source.old) (S.faults source.new) (S.quiets source.old) (S.quiets source.new)
         (K.faults sink.old) (K.faults sink.new) }
@@ -66,10 +71,12 @@ pub fn replay_core<S: Source, K: Sink>(
     limit: u32,
     queue: u32,
 ) -> u8
+    requires takes { K.takes sink.old }
     requires some { 1 ≤ limit }
     requires most { limit ≤ 33554432 }
     requires least { 1 ≤ queue }
     requires within { queue ≤ 65536 }
+    ensures takes { K.takes sink.new }
     ensures replayed { (outcome : PlayOutcome) × (result ≡ status_of outcome)
         × PlayHasCause outcome (S.faults source.old) (S.faults source.new) (S.quiets source.old) (S.quiets source.new) (K.faults sink.old) (K.faults sink.new)
         × Replayed outcome queue (S.content source.old) (S.content source.new) (K.written sink.old) (K.written sink.new) }

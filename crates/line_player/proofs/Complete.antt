@@ -1,8 +1,9 @@
 -- If nothing outside fails, and no line is refused, a play ends by itself.
-use Rattle.std.proofs.Common.{◌≡◌, ℕ, ◌+◌, ◌≤◌, ◌<◌, ◌⊎◌, ◌||◌, inl, inr, Bool, true, false, List, [], ◌∷◌, ◌++◌, length, map, fold, cond, nat_lt, ltb-true, Option, Some, None, if◌then◌else◌, refl, sym, ◌∙◌, ap, append_assoc, length-append, arith}
+use Rattle.std.proofs.Common.{◌≡◌, ℕ, ◌+◌, ◌≤◌, ◌<◌, ◌⊎◌, ◌||◌, inl, inr, Bool, true, false, List, [], ◌∷◌, ◌++◌, length, map, fold, cond, nat_lt, ltb-true, Option, Some, None, if◌then◌else◌, refl, sym, ◌∙◌, ap, subst, append_assoc, length-append, arith}
 use Rattle.std.proofs.lemmas.List.{map-append}
 use Rattle.std.proofs.lemmas.List.Folds.{list_any-append}
 use Rattle.gps_outside.specs.Counts.{Rose, RoseBy}
+use Rattle.gps_outside.proofs.ReadSteps.{rose_by_many}
 use Rattle.gps_outside.specs.Told.{Stream, Goes}
 use Rattle.gps_outside.specs.ReadSteps.{PassesMore}
 use Rattle.line_cut.specs.declared.limit.Limit.{Limit}
@@ -182,9 +183,10 @@ pub completes : {X : Type 0} (outcome : PlayOutcome) (rules : Rules X) (limit : 
     → IsWithin rules limit source → (Rose faults faults' → ⊥) → (RoseBy 1000 quiets quiets' → ⊥) → (Rose sunk sunk' → ⊥)
     → (outcome ≡ Done) ⊎ (outcome ≡ NoMemory)
 completes Done rules limit source source' sink sink' faults faults' quiets quiets' sunk sunk' played cause within sound lively unbroken = inl refl
-completes ReadFault rules limit source source' sink sink' faults faults' quiets quiets' sunk sunk' played cause within sound lively unbroken = absurd (sound cause)
-completes TooQuiet rules limit source source' sink sink' faults faults' quiets quiets' sunk sunk' played cause within sound lively unbroken = absurd (lively cause)
-completes WriteFault rules limit source source' sink sink' faults faults' quiets quiets' sunk sunk' played cause within sound lively unbroken = absurd (unbroken cause)
+completes ReadFault rules limit source source' sink sink' faults faults' quiets quiets' sunk sunk' played cause within sound lively unbroken = absurd (sound cause.0)
+completes TooQuiet rules limit source source' sink sink' faults faults' quiets quiets' sunk sunk' played cause within sound lively unbroken =
+    absurd (lively (subst (λ n. RoseBy 1000 quiets n) (sym cause.1) (rose_by_many 1000 quiets)))
+completes WriteFault rules limit source source' sink sink' faults faults' quiets quiets' sunk sunk' played cause within sound lively unbroken = absurd (unbroken cause.2)
 completes Full rules limit source source' sink sink' faults faults' quiets quiets' sunk sunk' played cause within sound lively unbroken =
     absurd (no_more rules limit played.bytes source source' within played.ends.0 played.ends.1)
 completes BadLine rules limit source source' sink sink' faults faults' quiets quiets' sunk sunk' played cause within sound lively unbroken = absurd (go played.ends)

@@ -4,4 +4,5 @@ pub mod Dues
 pub mod Writing
 pub mod Ending
 pub mod Reading
+pub mod Causes
 pub mod Complete

@@ -2,7 +2,7 @@
 use Rattle.std.proofs.Common.{◌≡◌, ℕ, ◌+◌, ◌≤◌, inl, inr, List, [], ◌∷◌, ◌++◌, length, take, fold, Option, Some, None, Ok, Err, refl, sym, ◌∙◌, ap, subst, append_assoc, length-append, arith}
 use Rattle.std.proofs.lemmas.List.{append-nil}
 use Rattle.gps_outside.specs.Told.{Stream, Goes, Passes, Appends, AppendsPart, IsPrefix}
-use Rattle.gps_outside.specs.Counts.{Rose}
+use Rattle.gps_outside.specs.Counts.{one_more}
 use Rattle.gps_outside.specs.ReadSteps.{Budget, FitsRoom, Spends, Hands, HasTaken, TakesAll, TakesSome, PassesMore}
 use Rattle.gps_outside.specs.declared.intake.IntakeStep.TheVariants.{Piece, Quiet, Last, End, Failed, TooQuiet}
 use Rattle.gps_outside.proofs.Writing.{appends_none, appends_on, part_of, part_on}
@@ -25,9 +25,9 @@ use Rattle.line_player.proofs.Dues.{none_so_far, written_is}
 
 -- So far these bytes were read, no line of theirs was refused, and what they write was written.
 pub record UnderWay {X : Type 0} (rules : Rules X) (most : ℕ) (budget : Budget) (cutter : LineCutterView) (count : ℕ) (stands : X → Type 0)
-    (source source' : Option Stream) (quiets quiets' : ℕ) (sink sink' : Option (List ℕ)) : Type 0 where
+    (source source' : Option Stream) (faults faults' quiets quiets' : ℕ) (sink sink' : Option (List ℕ)) : Type 0 where
   pub bytes : List ℕ
-  pub taken : HasTaken most bytes budget source source' quiets quiets'
+  pub taken : HasTaken most bytes budget source source' faults faults' quiets quiets'
   pub at : IsAt rules bytes cutter count stands
   pub few : count ≤ length bytes
   pub wrote : Goes (Appends (written_so_far rules bytes)) sink sink'
@@ -51,33 +51,33 @@ at_start rules cutter stands limit cut starts = record {
   made = subst stands (ap (λ c. c.state) (sym (no_lines rules))) starts;
 }
 
-pub begun : {X : Type 0} (rules : Rules X) (most : ℕ) (budget : Budget) (cutter : LineCutterView) (count : ℕ) (stands : X → Type 0) (source : Option Stream) (quiets : ℕ) (sink : Option (List ℕ))
+pub begun : {X : Type 0} (rules : Rules X) (most : ℕ) (budget : Budget) (cutter : LineCutterView) (count : ℕ) (stands : X → Type 0) (source : Option Stream) (faults quiets : ℕ) (sink : Option (List ℕ))
     → budget ≡ record { room = most; quiets = 0 } → cutter.limit ≡ rules.limit → StandsFor cutter [] → count ≡ 0 → stands rules.start
-    → UnderWay rules most budget cutter count stands source source quiets quiets sink sink
-begun rules most budget cutter count stands source quiets sink new limit cut first starts =
+    → UnderWay rules most budget cutter count stands source source faults faults quiets quiets sink sink
+begun rules most budget cutter count stands source faults quiets sink new limit cut first starts =
     let at : IsAt rules [] cutter count stands = subst (λ n. IsAt rules [] cutter n stands) (sym first) (at_start rules cutter stands limit cut starts) in
     record {
       bytes = [];
-      taken = taken_none most budget source quiets new;
+      taken = taken_none most budget source faults quiets new;
       at = at;
       few = omega (arith, first);
       wrote = subst (λ w. Goes (Appends w) sink sink) (sym (written_is rules [] cutter count stands at ∙ ap (λ c. c.written) (no_lines rules))) (appends_none sink);
     }
 
 pub after_piece : {X : Type 0} (n : ℕ) (rules : Rules X) (most : ℕ) (buf : List ℕ) (budget budget' : Budget) (cutter cutter' : LineCutterView) (count count' : ℕ) (stands stands' : X → Type 0)
-    (source now after : Option Stream) (quiets quiets' quiets'' : ℕ) (sink sink' sink'' : Option (List ℕ))
-    → UnderWay rules most budget cutter count stands source now quiets quiets' sink sink'
-    → FitsRoom (Piece n) (length buf) → Spends (Piece n) budget budget' → Hands (Piece n) buf now after → quiets' ≤ quiets''
+    (source now after : Option Stream) (faults faults' faults'' quiets quiets' quiets'' : ℕ) (sink sink' sink'' : Option (List ℕ))
+    → UnderWay rules most budget cutter count stands source now faults faults' quiets quiets' sink sink'
+    → FitsRoom (Piece n) (length buf) → Spends (Piece n) budget budget' → Hands (Piece n) buf now after → faults'' ≡ faults' → quiets'' ≡ quiets'
     → ((bytes : List ℕ) → IsAt rules bytes cutter count stands
     → Writes {X = Unit {0}} (Ok tt) (course_so_far rules (bytes ++ take n buf)).refused (written_so_far rules bytes) (written_so_far rules (bytes ++ take n buf)) sink' sink'')
     → ((bytes : List ℕ) → IsAt rules bytes cutter count stands → IsAt rules (bytes ++ take n buf) cutter' count' stands')
     → count' ≤ count + length (take n buf)
-    → UnderWay rules most budget' cutter' count' stands' source after quiets quiets'' sink sink''
-after_piece n rules most buf budget budget' cutter cutter' count count' stands stands' source now after quiets quiets' quiets'' sink sink' sink'' u fits spent handed more writes at number =
+    → UnderWay rules most budget' cutter' count' stands' source after faults faults'' quiets quiets'' sink sink''
+after_piece n rules most buf budget budget' cutter cutter' count count' stands stands' source now after faults faults' faults'' quiets quiets' quiets'' sink sink' sink'' u fits spent handed same still writes at number =
     let w : Written Appends (written_so_far rules u.bytes) (written_so_far rules (u.bytes ++ take n buf)) sink' sink'' = (writes u.bytes u.at).1 in
     record {
       bytes = u.bytes ++ take n buf;
-      taken = taken_piece n most u.bytes buf budget budget' source now after quiets quiets' quiets'' u.taken fits spent handed more;
+      taken = taken_piece n most u.bytes buf budget budget' source now after faults faults' faults'' quiets quiets' quiets'' u.taken fits spent handed same still;
       at = at u.bytes u.at;
       few = let few : count ≤ length u.bytes = u.few in let long : length (u.bytes ++ take n buf) ≡ length u.bytes + length (take n buf) = length-append u.bytes (take n buf) in
           omega (arith, number);
@@ -85,13 +85,13 @@ after_piece n rules most buf budget budget' cutter cutter' count count' stands s
     }
 
 pub after_quiet : {X : Type 0} (rules : Rules X) (most : ℕ) (buf : List ℕ) (budget budget' : Budget) (cutter : LineCutterView) (count : ℕ) (stands : X → Type 0)
-    (source now after : Option Stream) (quiets quiets' quiets'' : ℕ) (sink sink' : Option (List ℕ))
-    → UnderWay rules most budget cutter count stands source now quiets quiets' sink sink'
-    → Spends Quiet budget budget' → Hands Quiet buf now after → Rose quiets' quiets''
-    → UnderWay rules most budget' cutter count stands source after quiets quiets'' sink sink'
-after_quiet rules most buf budget budget' cutter count stands source now after quiets quiets' quiets'' sink sink' u spent handed rose = record {
+    (source now after : Option Stream) (faults faults' faults'' quiets quiets' quiets'' : ℕ) (sink sink' : Option (List ℕ))
+    → UnderWay rules most budget cutter count stands source now faults faults' quiets quiets' sink sink'
+    → Spends Quiet budget budget' → Hands Quiet buf now after → faults'' ≡ faults' → quiets'' ≡ one_more quiets'
+    → UnderWay rules most budget' cutter count stands source after faults faults'' quiets quiets'' sink sink'
+after_quiet rules most buf budget budget' cutter count stands source now after faults faults' faults'' quiets quiets' quiets'' sink sink' u spent handed same next = record {
   bytes = u.bytes;
-  taken = taken_quiet most u.bytes buf budget budget' source now after quiets quiets' quiets'' u.taken spent handed rose;
+  taken = taken_quiet most u.bytes buf budget budget' source now after faults faults' faults'' quiets quiets' quiets'' u.taken spent handed same next;
   at = u.at;
   few = u.few;
   wrote = u.wrote;
@@ -185,16 +185,16 @@ end_broken NoMemoryFault rules most bytes before source after sink sink' sink'' 
     inr (read, part_due before (output_of rules bytes) sink sink' sink'' wrote w)
 
 pub broken_in_piece : {X : Type 0} (n : ℕ) (rules : Rules X) (most : ℕ) (buf : List ℕ) (budget budget' : Budget) (cutter : LineCutterView) (count : ℕ) (stands : X → Type 0) (fault : Fault)
-    (source now after : Option Stream) (quiets quiets' quiets'' : ℕ) (sink sink' sink'' : Option (List ℕ))
-    → UnderWay rules most budget cutter count stands source now quiets quiets' sink sink'
-    → FitsRoom (Piece n) (length buf) → Spends (Piece n) budget budget' → Hands (Piece n) buf now after → quiets' ≤ quiets''
+    (source now after : Option Stream) (faults faults' faults'' quiets quiets' quiets'' : ℕ) (sink sink' sink'' : Option (List ℕ))
+    → UnderWay rules most budget cutter count stands source now faults faults' quiets quiets' sink sink'
+    → FitsRoom (Piece n) (length buf) → Spends (Piece n) budget budget' → Hands (Piece n) buf now after → faults'' ≡ faults' → quiets'' ≡ quiets'
     → ((bytes : List ℕ) → IsAt rules bytes cutter count stands
     → Writes {X = Unit {0}} (Err fault) (course_so_far rules (bytes ++ take n buf)).refused (written_so_far rules bytes) (written_so_far rules (bytes ++ take n buf)) sink' sink'')
     → (outcome : PlayOutcome) → outcome ≡ outcome_of fault
     → HasPlayed outcome rules most source after sink sink''
-broken_in_piece n rules most buf budget budget' cutter count stands fault source now after quiets quiets' quiets'' sink sink' sink'' u fits spent handed more writes outcome is =
-    let all : HasTaken most (u.bytes ++ take n buf) budget' source after quiets quiets'' =
-    taken_piece n most u.bytes buf budget budget' source now after quiets quiets' quiets'' u.taken fits spent handed more in
+broken_in_piece n rules most buf budget budget' cutter count stands fault source now after faults faults' faults'' quiets quiets' quiets'' sink sink' sink'' u fits spent handed same still writes outcome is =
+    let all : HasTaken most (u.bytes ++ take n buf) budget' source after faults faults'' quiets quiets'' =
+    taken_piece n most u.bytes buf budget budget' source now after faults faults' faults'' quiets quiets' quiets'' u.taken fits spent handed same still in
     subst (λ o. HasPlayed o rules most source after sink sink'') (sym is) (record {
       bytes = u.bytes ++ take n buf;
       ends = broken_off fault rules most (u.bytes ++ take n buf) (written_so_far rules u.bytes) source after sink sink' sink''
@@ -202,31 +202,31 @@ broken_in_piece n rules most buf budget budget' cutter count stands fault source
     })
 
 pub broken_in_last : {X : Type 0} (n : ℕ) (rules : Rules X) (most : ℕ) (buf : List ℕ) (budget budget' : Budget) (cutter : LineCutterView) (count : ℕ) (stands : X → Type 0) (fault : Fault)
-    (source now after : Option Stream) (quiets quiets' : ℕ) (sink sink' sink'' : Option (List ℕ))
-    → UnderWay rules most budget cutter count stands source now quiets quiets' sink sink'
+    (source now after : Option Stream) (faults faults' quiets quiets' : ℕ) (sink sink' sink'' : Option (List ℕ))
+    → UnderWay rules most budget cutter count stands source now faults faults' quiets quiets' sink sink'
     → FitsRoom (Last n) (length buf) → Spends (Last n) budget budget' → Hands (Last n) buf now after
     → ((bytes : List ℕ) → IsAt rules bytes cutter count stands
     → Writes {X = Unit {0}} (Err fault) (course_so_far rules (bytes ++ take n buf)).refused (written_so_far rules bytes) (written_so_far rules (bytes ++ take n buf)) sink' sink'')
     → (outcome : PlayOutcome) → outcome ≡ outcome_of fault
     → HasPlayed outcome rules most source after sink sink''
-broken_in_last n rules most buf budget budget' cutter count stands fault source now after quiets quiets' sink sink' sink'' u fits spent handed writes outcome is =
+broken_in_last n rules most buf budget budget' cutter count stands fault source now after faults faults' quiets quiets' sink sink' sink'' u fits spent handed writes outcome is =
     subst (λ o. HasPlayed o rules most source after sink sink'') (sym is) (record {
       bytes = u.bytes ++ take n buf;
       ends = broken_off fault rules most (u.bytes ++ take n buf) (written_so_far rules u.bytes) source after sink sink' sink''
-          (inr (ends_full n most u.bytes buf budget budget' source now after quiets quiets' u.taken fits spent handed)) u.wrote
+          (inr (ends_full n most u.bytes buf budget budget' source now after faults faults' quiets quiets' u.taken fits spent handed)) u.wrote
           (so_far_grows rules u.bytes (take n buf) cutter count stands u.at) (writes u.bytes u.at);
     })
 
 pub filled : {X : Type 0} (n : ℕ) (rules : Rules X) (most : ℕ) (buf : List ℕ) (budget budget' : Budget) (cutter : LineCutterView) (count : ℕ) (stands : X → Type 0)
-    (source now after : Option Stream) (quiets quiets' : ℕ) (sink sink' sink'' : Option (List ℕ))
-    → UnderWay rules most budget cutter count stands source now quiets quiets' sink sink'
+    (source now after : Option Stream) (faults faults' quiets quiets' : ℕ) (sink sink' sink'' : Option (List ℕ))
+    → UnderWay rules most budget cutter count stands source now faults faults' quiets quiets' sink sink'
     → FitsRoom (Last n) (length buf) → Spends (Last n) budget budget' → Hands (Last n) buf now after
     → ((bytes : List ℕ) → IsAt rules bytes cutter count stands
     → Writes {X = Unit {0}} (Ok tt) (course_so_far rules (bytes ++ take n buf)).refused (written_so_far rules bytes) (written_so_far rules (bytes ++ take n buf)) sink' sink'')
     → HasPlayed Full rules most source after sink sink''
-filled n rules most buf budget budget' cutter count stands source now after quiets quiets' sink sink' sink'' u fits spent handed writes =
+filled n rules most buf budget budget' cutter count stands source now after faults faults' quiets quiets' sink sink' sink'' u fits spent handed writes =
     let read : (length (u.bytes ++ take n buf) ≡ most) × Goes (PassesMore (u.bytes ++ take n buf)) source after =
-    ends_full n most u.bytes buf budget budget' source now after quiets quiets' u.taken fits spent handed in
+    ends_full n most u.bytes buf budget budget' source now after faults faults' quiets quiets' u.taken fits spent handed in
     let w : Writes {X = Unit {0}} (Ok tt) (course_so_far rules (u.bytes ++ take n buf)).refused (written_so_far rules u.bytes) (written_so_far rules (u.bytes ++ take n buf)) sink' sink'' =
     writes u.bytes u.at in
     record {
@@ -235,15 +235,15 @@ filled n rules most buf budget budget' cutter count stands source now after quie
     }
 
 pub ended : {X : Type 0} (rules : Rules X) (most : ℕ) (buf : List ℕ) (budget : Budget) (cutter : LineCutterView) (count : ℕ) (stands : X → Type 0)
-    (source now after : Option Stream) (quiets quiets' : ℕ) (sink sink' sink'' : Option (List ℕ))
-    → UnderWay rules most budget cutter count stands source now quiets quiets' sink sink'
+    (source now after : Option Stream) (faults faults' quiets quiets' : ℕ) (sink sink' sink'' : Option (List ℕ))
+    → UnderWay rules most budget cutter count stands source now faults faults' quiets quiets' sink sink'
     → Hands End buf now after
     → ((bytes : List ℕ) → IsAt rules bytes cutter count stands
     → WritesAtEnd {X = Unit {0}} (Ok tt) (whole_course rules bytes).refused (written_so_far rules bytes) (output_of rules bytes) sink' sink'')
     → HasPlayed Done rules most source after sink sink''
-ended rules most buf budget cutter count stands source now after quiets quiets' sink sink' sink'' u handed writes =
+ended rules most buf budget cutter count stands source now after faults faults' quiets quiets' sink sink' sink'' u handed writes =
     let read : (length u.bytes ≤ most) × Goes (TakesAll u.bytes) source after =
-    ends_at_end most u.bytes buf budget source now after quiets quiets' u.taken handed in
+    ends_at_end most u.bytes buf budget source now after faults faults' quiets quiets' u.taken handed in
     let w : WritesAtEnd {X = Unit {0}} (Ok tt) (whole_course rules u.bytes).refused (written_so_far rules u.bytes) (output_of rules u.bytes) sink' sink'' = writes u.bytes u.at in
     record {
       bytes = u.bytes;
@@ -251,49 +251,49 @@ ended rules most buf budget cutter count stands source now after quiets quiets' 
     }
 
 pub broken_at_end : {X : Type 0} (rules : Rules X) (most : ℕ) (buf : List ℕ) (budget : Budget) (cutter : LineCutterView) (count : ℕ) (stands : X → Type 0) (fault : Fault)
-    (source now after : Option Stream) (quiets quiets' : ℕ) (sink sink' sink'' : Option (List ℕ))
-    → UnderWay rules most budget cutter count stands source now quiets quiets' sink sink'
+    (source now after : Option Stream) (faults faults' quiets quiets' : ℕ) (sink sink' sink'' : Option (List ℕ))
+    → UnderWay rules most budget cutter count stands source now faults faults' quiets quiets' sink sink'
     → Hands End buf now after
     → ((bytes : List ℕ) → IsAt rules bytes cutter count stands
     → WritesAtEnd {X = Unit {0}} (Err fault) (whole_course rules bytes).refused (written_so_far rules bytes) (output_of rules bytes) sink' sink'')
     → (outcome : PlayOutcome) → outcome ≡ outcome_of fault
     → HasPlayed outcome rules most source after sink sink''
-broken_at_end rules most buf budget cutter count stands fault source now after quiets quiets' sink sink' sink'' u handed writes outcome is =
+broken_at_end rules most buf budget cutter count stands fault source now after faults faults' quiets quiets' sink sink' sink'' u handed writes outcome is =
     subst (λ o. HasPlayed o rules most source after sink sink'') (sym is) (record {
       bytes = u.bytes;
       ends = end_broken fault rules most u.bytes (written_so_far rules u.bytes) source after sink sink' sink''
-          (ends_at_end most u.bytes buf budget source now after quiets quiets' u.taken handed) u.wrote
+          (ends_at_end most u.bytes buf budget source now after faults faults' quiets quiets' u.taken handed) u.wrote
           (output_grows rules u.bytes cutter count stands u.at) (writes u.bytes u.at);
     })
 
 pub failed : {X : Type 0} (rules : Rules X) (most : ℕ) (buf : List ℕ) (budget : Budget) (cutter : LineCutterView) (count : ℕ) (stands : X → Type 0)
-    (source now after : Option Stream) (quiets quiets' : ℕ) (sink sink' : Option (List ℕ))
-    → UnderWay rules most budget cutter count stands source now quiets quiets' sink sink'
+    (source now after : Option Stream) (faults faults' quiets quiets' : ℕ) (sink sink' : Option (List ℕ))
+    → UnderWay rules most budget cutter count stands source now faults faults' quiets quiets' sink sink'
     → Hands Failed buf now after
     → HasPlayed ReadFault rules most source after sink sink'
-failed rules most buf budget cutter count stands source now after quiets quiets' sink sink' u handed =
+failed rules most buf budget cutter count stands source now after faults faults' quiets quiets' sink sink' u handed =
     let read : (length u.bytes ≤ most) × Goes (TakesSome u.bytes) source after =
-    ends_failed most u.bytes buf budget source now after quiets quiets' u.taken handed in
+    ends_failed most u.bytes buf budget source now after faults faults' quiets quiets' u.taken handed in
     record { bytes = u.bytes; ends = (read.0, read.1, none_so_far rules u.bytes cutter count stands u.at, u.wrote) }
 
 pub too_quiet : {X : Type 0} (rules : Rules X) (most : ℕ) (buf : List ℕ) (budget : Budget) (cutter : LineCutterView) (count : ℕ) (stands : X → Type 0)
-    (source now after : Option Stream) (quiets quiets' : ℕ) (sink sink' : Option (List ℕ))
-    → UnderWay rules most budget cutter count stands source now quiets quiets' sink sink'
+    (source now after : Option Stream) (faults faults' quiets quiets' : ℕ) (sink sink' : Option (List ℕ))
+    → UnderWay rules most budget cutter count stands source now faults faults' quiets quiets' sink sink'
     → Hands TooQuiet buf now after
     → HasPlayed QuietOutcome rules most source after sink sink'
-too_quiet rules most buf budget cutter count stands source now after quiets quiets' sink sink' u handed =
-    let all : (length u.bytes ≤ most) × Goes (Passes u.bytes) source after = ends_too_quiet most u.bytes buf budget source now after quiets quiets' u.taken handed in
+too_quiet rules most buf budget cutter count stands source now after faults faults' quiets quiets' sink sink' u handed =
+    let all : (length u.bytes ≤ most) × Goes (Passes u.bytes) source after = ends_too_quiet most u.bytes buf budget source now after faults faults' quiets quiets' u.taken handed in
     record { bytes = u.bytes; ends = (all.0, all.1, none_so_far rules u.bytes cutter count stands u.at, u.wrote) }
 
 -- the rules stay what they were
 
 pub on_rules : {X : Type 0} (rules other : Rules X) (most : ℕ) (budget : Budget) (cutter : LineCutterView) (count : ℕ) (stands : X → Type 0)
-    (source source' : Option Stream) (quiets quiets' : ℕ) (sink sink' : Option (List ℕ))
+    (source source' : Option Stream) (faults faults' quiets quiets' : ℕ) (sink sink' : Option (List ℕ))
     → other ≡ rules
-    → UnderWay rules most budget cutter count stands source source' quiets quiets' sink sink'
-    → UnderWay other most budget cutter count stands source source' quiets quiets' sink sink'
-on_rules rules other most budget cutter count stands source source' quiets quiets' sink sink' same u =
-    subst (λ r. UnderWay r most budget cutter count stands source source' quiets quiets' sink sink') (sym same) u
+    → UnderWay rules most budget cutter count stands source source' faults faults' quiets quiets' sink sink'
+    → UnderWay other most budget cutter count stands source source' faults faults' quiets quiets' sink sink'
+on_rules rules other most budget cutter count stands source source' faults faults' quiets quiets' sink sink' same u =
+    subst (λ r. UnderWay r most budget cutter count stands source source' faults faults' quiets quiets' sink sink') (sym same) u
 
 pub by_rules : {X : Type 0} (outcome : PlayOutcome) (rules other : Rules X) (most : ℕ) (source source' : Option Stream) (sink sink' : Option (List ℕ))
     → rules ≡ other → HasPlayed outcome rules most source source' sink sink' → HasPlayed outcome other most source source' sink sink'

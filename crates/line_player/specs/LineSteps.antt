@@ -112,8 +112,9 @@ abbrev pub WritesEnd : {X : Type 0} → Result X Fault → List ℕ → Option (
 WritesEnd (Ok _) all sink sink' = Goes (Appends all) sink sink'
 WritesEnd (Err fault) all sink sink' = EndBreaks fault all sink sink'
 
+-- the sink's faults rose exactly if the sink failed
 abbrev pub WriteCause : {X : Type 0} → Result X Fault → ℕ → ℕ → Type 0
-WriteCause (Ok _) before after = Unit {0}
-WriteCause (Err BadLine) before after = Unit {0}
+WriteCause (Ok _) before after = after ≡ before
+WriteCause (Err BadLine) before after = after ≡ before
 WriteCause (Err Sink) before after = Rose before after
-WriteCause (Err NoMemoryFault) before after = Unit {0}
+WriteCause (Err NoMemoryFault) before after = after ≡ before

@@ -23,6 +23,8 @@ fn write_due<K: Sink>(
     due: &[u8],
     sink: &mut K,
 ) -> Result<(), Fault>
+    requires takes { K.takes sink.old }
+    ensures takes { K.takes sink.new }
     ensures wrote { (refused : Option ℕ) (before all : List ℕ) → IsDue turn refused before all due.now
         → Writes result refused before all (K.written sink.old) (K.written sink.new) }
     ensures made { IfOk result (λ _. turn ≡ Ok LineStep.Made) }
@@ -55,9 +57,11 @@ fn hand_on<P: PlaysLines, K: Sink>(
     piece: &[u8],
     sink: &mut K,
 ) -> Result<(), Fault>
+    requires takes { K.takes sink.old }
     requires room { lines.old.count + length piece.now < 2 ^ 64 - 1 }
     requires limit { lines.old.limit ≡ (P.rules player.old).limit }
     requires known { (bytes : List ℕ) × IsAt (P.rules player.old) bytes lines.old.cutter lines.old.count (P.stands player.old) }
+    ensures takes { K.takes sink.new }
     ensures wrote { (bytes : List ℕ) → IsAt (P.rules player.old) bytes lines.old.cutter lines.old.count (P.stands player.old)
         → Writes result (course_so_far (P.rules player.old) (bytes ++ piece.now)).refused
         (written_so_far (P.rules player.old) bytes) (written_so_far (P.rules player.old) (bytes ++ piece.now))
@@ -81,7 +85,9 @@ fn write_part<P: PlaysLines, K: Sink>(
     player: &mut P,
     sink: &mut K,
 ) -> Result<EndStep, Fault>
+    requires takes { K.takes sink.old }
     requires known { (left : List ℕ) × P.ends player.old left }
+    ensures takes { K.takes sink.new }
     ensures wrote { (left : List ℕ) → P.ends player.old left
         → WritesPart result (lines.old.due ++ left) (P.ends player.new) lines.new.due (K.written sink.old) (K.written sink.new) }
     ensures fewer { result ≡ Ok EndStep.More → P.steps_left player.new < P.steps_left player.old }
@@ -107,7 +113,9 @@ fn write_end<P: PlaysLines, K: Sink>(
     player: &mut P,
     sink: &mut K,
 ) -> Result<(), Fault>
+    requires takes { K.takes sink.old }
     requires known { (left : List ℕ) × P.ends player.old left }
+    ensures takes { K.takes sink.new }
     ensures wrote { (left : List ℕ) → P.ends player.old left → WritesEnd result (lines.old.due ++ left) (K.written sink.old) (K.written sink.new) }
     ensures cause { WriteCause result (K.faults sink.old) (K.faults sink.new) }
     ensures faults_stay { K.faults sink.old ≤ K.faults sink.new }
@@ -127,8 +135,10 @@ fn close<P: PlaysLines, K: Sink>(
     player: &mut P,
     sink: &mut K,
 ) -> Result<(), Fault>
+    requires takes { K.takes sink.old }
     requires room { lines.old.count < 2 ^ 64 - 1 }
     requires known { (bytes : List ℕ) × IsAt (P.rules player.old) bytes lines.old.cutter lines.old.count (P.stands player.old) }
+    ensures takes { K.takes sink.new }
     ensures wrote { (bytes : List ℕ) → IsAt (P.rules player.old) bytes lines.old.cutter lines.old.count (P.stands player.old)
         → WritesAtEnd result (whole_course (P.rules player.old) bytes).refused
         (written_so_far (P.rules player.old) bytes) (output_of (P.rules player.old) bytes)
@@ -158,8 +168,10 @@ fn read_through<S: Source, K: Sink, P: PlaysLines>(
     source: &mut S,
     sink: &mut K,
 ) -> PlayOutcome
+    requires takes { K.takes sink.old }
     requires limit { limit ≡ (P.rules player.old).limit }
     requires starts { P.stands player.old (P.rules player.old).start }
+    ensures takes { K.takes sink.new }
     ensures played { HasPlayed result (P.rules player.old) most (S.content source.old) (S.content source.new)
         (K.written sink.old) (K.written sink.new) }
     ensures cause { PlayHasCause result (S.faults source.old) (S.faults source.new) (S.quiets source.old) (S.quiets source.new)
@@ -169,7 +181,7 @@ fn read_through<S: Source, K: Sink, P: PlaysLines>(
     ensures sink_faults_stay { K.faults sink.old ≤ K.faults sink.new }
 {
     let mut lines = Lines::new(alloc, limit);
-    let mut intake = Intake::new(most);
+    let mut intake = Intake::new(most as u64);
     let mut buf = [0u8; 512];
     'turns: loop {
         match intake.step(source, &mut buf) {
@@ -199,6 +211,9 @@ fn read_through<S: Source, K: Sink, P: PlaysLines>(
 /// refused line N is written as `bad line N`, behind what those before it write. What the end writes is written part by
 /// part, so no more than one part of it stands in memory.
 ///
+/// The sink is open, and stays open. The source's faults rise exactly if the outcome is a read fault, and the sink's exactly if it is a
+/// write fault; a play is too quiet exactly at the thousandth read that brings nothing.
+///
 /// If neither the source nor the sink fails, fewer than a thousand reads bring nothing, and the source tells that no
 /// more than `most` bytes are left and that none of their lines is refused, all is read and written, unless memory is
 /// wanted.
@@ -210,8 +225,10 @@ pub fn play<S: Source, K: Sink, P: PlaysLines>(
     source: &mut S,
     sink: &mut K,
 ) -> PlayOutcome
+    requires takes { K.takes sink.old }
     requires limit { limit ≡ (P.rules player.old).limit }
     requires starts { P.stands player.old (P.rules player.old).start }
+    ensures takes { K.takes sink.new }
     ensures played { HasPlayed result (P.rules player.old) most (S.content source.old) (S.content source.new)
         (K.written sink.old) (K.written sink.new) }
     ensures cause { PlayHasCause result (S.faults source.old) (S.faults source.new) (S.quiets source.old) (S.quiets source.new)

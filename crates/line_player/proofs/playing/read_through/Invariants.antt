@@ -1,4 +1,4 @@
-use Rattle.std.proofs.Common.{◌≡◌, ◌≤◌}
+use Rattle.std.proofs.Common.{◌≡◌, ◌<◌, ◌≤◌}
 use Rattle.gps_outside.specs.ReadSteps.{work_left}
 use Rattle.line_player.proofs.Reading.{UnderWay}
 use Rattle.line_player.proofs.playing.read_through.Given as goal
@@ -7,13 +7,16 @@ abbrev pub invariant-turns : goal.invariant-turns
 invariant-turns g l = record {
   under_way : UnderWay (g.P.PlaysLines.rules l.player) l.most l.intake l.lines.cutter l.lines.count (g.P.PlaysLines.stands l.player)
       (g.S.Source.content l.initial.source) (g.S.Source.content l.source)
+      (g.S.Source.faults l.initial.source) (g.S.Source.faults l.source)
       (g.S.Source.quiets l.initial.source) (g.S.Source.quiets l.source)
       (g.K.Sink.written l.initial.sink) (g.K.Sink.written l.sink);
+  few : l.intake.quiets < 1000;
   limit : l.lines.limit ≡ (g.P.PlaysLines.rules l.player).limit;
   rules : g.P.PlaysLines.rules l.player ≡ g.P.PlaysLines.rules l.initial.player;
   faults : g.S.Source.faults l.initial.source ≤ g.S.Source.faults l.source;
   quiets : g.S.Source.quiets l.initial.source ≤ g.S.Source.quiets l.source;
-  sunk : g.K.Sink.faults l.initial.sink ≤ g.K.Sink.faults l.sink;
+  takes : g.K.Sink.takes l.sink;
+  sunk : g.K.Sink.faults l.sink ≡ g.K.Sink.faults l.initial.sink;
 }
 
 abbrev pub decreases-turns : goal.decreases-turns

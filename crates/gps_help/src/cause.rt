@@ -5,9 +5,9 @@ use crate::{CommandName, OptionName};
 pub enum Cause {
     /// There is no word.
     NoCommand,
-    /// The help is asked for.
+    /// The help is asked for, which the program answers itself.
     Help,
-    /// The version is asked for.
+    /// The version is asked for, which the program answers itself.
     Version,
     /// The word is no command; the one that may have been meant.
     NoSuchCommand(Option<CommandName>),
@@ -15,13 +15,13 @@ pub enum Cause {
     NoSuchOption(Option<OptionName>),
     /// The option that the word names lacks its value.
     NoValue(OptionName),
-    /// The option that the word names stands before as well.
+    /// An earlier word names the same option.
     Twice(OptionName),
     /// The word is no value of the option.
     BadValue(OptionName),
     /// The command lacks an option that it needs.
     Lacking(OptionName),
-    /// The command takes no word that is no option.
+    /// The command takes options alone, or `help` one command.
     Stray,
     /// `serve` lacks a device.
     NoDevice,
@@ -38,20 +38,20 @@ pub enum DeviceCause {
     NoName,
     /// The name is none: 1 to 64 printable ASCII characters without the space, `"`, `\` and `=`.
     BadName,
-    /// What stands behind `NAME=` is neither `file:`, `tcp:`, `gpsd:` nor `edges:`.
+    /// What comes after `NAME=` begins with none of `file:`, `tcp:`, `gpsd:` and `edges:`.
     NoSuchKind,
     /// The path is empty.
     NoPath,
-    /// What stands behind `tcp:` or `gpsd:` is no `HOST:PORT`.
+    /// What comes after `tcp:` or `gpsd:` is no `HOST:PORT`.
     BadAddress,
     /// Another word says where the bytes of this name come from.
     NameTwice,
     /// Another word says where the edges of this name come from.
     EdgesTwice,
-    /// The device of these edges stands behind them.
+    /// The word of the device of these edges comes after them.
     EdgesFirst,
     /// No word says where the bytes of the device of these edges come from.
     EdgesAlone,
-    /// Eight devices stand before.
+    /// Earlier words name eight devices.
     TooMany,
 }

@@ -62,7 +62,7 @@ impl CommandName {
     /// The options that the command has.
     pub fn options(self) -> &'static [OptionName] {
         match self {
-            CommandName::Decode | CommandName::Pseudo => &[OptionName::History],
+            CommandName::Decode | CommandName::Pseudo => &[OptionName::Bytes],
             CommandName::Replay => &[OptionName::History, OptionName::Queue],
             CommandName::Generate => &[OptionName::Seed, OptionName::Size],
             CommandName::Lines => &[],
@@ -72,6 +72,8 @@ impl CommandName {
                 OptionName::History,
                 OptionName::Wait,
                 OptionName::Monitor,
+                OptionName::Reopen,
+                OptionName::Stop,
             ],
         }
     }

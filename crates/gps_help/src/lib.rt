@@ -1,5 +1,5 @@
-//! Why the words of the command line are refused, in words for a person, and the help. [`refused`] gives a reason exactly if no command
-//! and no daemon is asked for. This project's own.
+//! Why the words of the command line are refused, in words for a person, and the help. [`question_in`] reads words that ask for help or for the
+//! version, and [`refused`] gives a reason exactly if no command and no daemon is asked for. This project's own.
 #![tactic(auto)]
 
 mod cause;
@@ -8,13 +8,15 @@ mod device;
 mod help;
 mod near;
 mod option_name;
+mod question;
 mod refusal;
 mod told;
 mod word;
 
 pub use cause::{Cause, DeviceCause};
 pub use command_name::CommandName;
-pub use help::{HELP, RELEASE, USAGE};
+pub use help::{COMMANDS, EXAMPLES, OTHERS, RELEASE, SERVE, USAGE};
 pub use option_name::OptionName;
+pub use question::{Question, question_in};
 pub use refusal::{Refusal, refused};
 pub use told::Told;

@@ -1,13 +1,18 @@
-use gps_words::{is_address, number_within};
+use gps_words::{bytes_within, is_address, number_within};
 
-/// An option, by its name.
+/// An option of a command.
 #[derive(Clone, Copy, Debug, PartialEq, Eq)]
 pub enum OptionName {
     Listen,
     Queue,
+    /// `--history` of `serve` and `replay`.
     History,
     Wait,
     Monitor,
+    Reopen,
+    Stop,
+    /// `--history` of `decode` and `pseudo`.
+    Bytes,
     Seed,
     Size,
 }
@@ -18,22 +23,25 @@ impl OptionName {
         match self {
             OptionName::Listen => "listen",
             OptionName::Queue => "queue",
-            OptionName::History => "history",
+            OptionName::History | OptionName::Bytes => "history",
             OptionName::Wait => "wait",
             OptionName::Monitor => "monitor",
+            OptionName::Reopen => "reopen",
+            OptionName::Stop => "stop",
             OptionName::Seed => "seed",
             OptionName::Size => "size",
         }
     }
 
-    /// The least and the greatest number that the option takes. `--listen` takes no number.
+    /// The least and the greatest number that the option takes, if it takes one.
     pub fn range(self) -> Option<(u32, u32)> {
         match self {
-            OptionName::Listen => None,
+            OptionName::Listen | OptionName::Stop => None,
             OptionName::Queue => Some((1, 65_536)),
-            OptionName::History => Some((1, 33_554_432)),
+            OptionName::History | OptionName::Bytes => Some((1, 33_554_432)),
             OptionName::Wait => Some((0, 64)),
             OptionName::Monitor => Some((0, 1_000_000)),
+            OptionName::Reopen => Some((1, 3_600)),
             OptionName::Seed => Some((0, 4_294_967_295)),
             OptionName::Size => Some((1, 10_000)),
         }
@@ -41,9 +49,14 @@ impl OptionName {
 
     /// Whether the option takes this text.
     pub(crate) fn takes(self, text: &str) -> bool {
-        match self.range() {
-            None => is_address(text.as_bytes()),
-            Some((least, most)) => number_within(text, least, most).is_some(),
+        match self {
+            OptionName::Listen => is_address(text.as_bytes()),
+            OptionName::Stop => !text.is_empty(),
+            OptionName::Bytes => bytes_within(text).is_some(),
+            _ => match self.range() {
+                Some((least, most)) => number_within(text, least, most).is_some(),
+                None => false,
+            },
         }
     }
 }

@@ -2,6 +2,7 @@ ghost use Rattle.std.specs.Prelude.{◌≡◌, ◌<◌, IfOk, IfSome, is_some, l
 ghost use Rattle.gps_help.specs.Refusals.{IsThere, command_in, is_asked};
 
 use crate::device::device_cause;
+use crate::question::{asks_for_version, asks_help};
 use crate::word::{Form, form_of, is_plain, option_before, option_in};
 use crate::{Cause, CommandName, DeviceCause, OptionName};
 use gps_fixed::NoMemory;
@@ -61,11 +62,11 @@ fn option_cause(
     let Some(option) = command.option(name) else {
         return Some(Cause::NoSuchOption(command.option_near(name)));
     };
-    let stands_before = (1..at).any(|before| match words.get(before) {
+    let is_used = (1..at).any(|before| match words.get(before) {
         Some(word) => option_in(command, word.as_str()) == Some(option),
         None => false,
     });
-    if stands_before {
+    if is_used {
         return Some(Cause::Twice(option));
     }
     match value {
@@ -142,14 +143,31 @@ fn fault_in(command: CommandName, words: &[String]) -> (Option<usize>, Cause)
     (None, lack(command, words))
 }
 
-/// What the first word says if it is no command.
-fn first_cause(word: &str) -> Cause {
-    if word == "help" || word == "--help" || word == "-h" {
-        Cause::Help
-    } else if word == "version" || word == "--version" || word == "-V" {
-        Cause::Version
+/// The word at fault behind `help`, and why; the program answers the others.
+fn help_fault(words: &[String]) -> (usize, Cause)
+    requires { 0 < length words.now }
+    ensures { result.0 < length words.now }
+{
+    match words {
+        [_, word] if CommandName::of(word.as_str()).is_none() => {
+            (1, Cause::NoSuchCommand(CommandName::near(word.as_str())))
+        }
+        [_, _, _, ..] => (2, Cause::Stray),
+        _ => (0, Cause::Help),
+    }
+}
+
+/// The word at fault of words that begin with no command, and why.
+fn fault_without_command(words: &[String], word: &str) -> (usize, Cause)
+    requires { 0 < length words.now }
+    ensures { result.0 < length words.now }
+{
+    if asks_help(word) {
+        help_fault(words)
+    } else if asks_for_version(word) {
+        (0, Cause::Version)
     } else {
-        Cause::NoSuchCommand(CommandName::near(word))
+        (0, Cause::NoSuchCommand(CommandName::near(word)))
     }
 }
 
@@ -166,10 +184,11 @@ fn reason(words: &[String]) -> Refusal
         };
     };
     let Some(command) = CommandName::of(word.as_str()) else {
+        let (at, cause) = fault_without_command(words, word.as_str());
         return Refusal {
             command: None,
-            at: Some(0),
-            cause: first_cause(word.as_str()),
+            at: Some(at),
+            cause,
         };
     };
     let (at, cause) = match help_in(words) {

@@ -25,17 +25,107 @@ impl Refusal {
         }
     }
 
-    /// Whether the whole help belongs behind the reason: no command was asked for, or help was.
+    /// Whether the whole help belongs after the reason, as no command was asked for.
     pub fn wants_help(&self) -> bool {
-        matches!(self.cause, Cause::NoCommand | Cause::Help)
+        matches!(self.cause, Cause::NoCommand)
     }
 }
 
-/// What the value of an option is, as `1 to 64`.
+/// What the value of an option is, as `a whole number from 1 to 64`.
 fn write_value<W: fmt::Write>(option: OptionName, f: &mut fmt::Formatter<W>) -> fmt::Result {
+    match option {
+        OptionName::Listen => f.write_str("HOST:PORT, as 127.0.0.1:2947"),
+        OptionName::Stop => f.write_str("a path, as /run/gpsrelay/stop"),
+        OptionName::Bytes => {
+            write_number(option, f)?;
+            f.write_str(", or all")
+        }
+        _ => write_number(option, f),
+    }
+}
+
+fn write_number<W: fmt::Write>(option: OptionName, f: &mut fmt::Formatter<W>) -> fmt::Result {
     match option.range() {
         Some((least, most)) => write!(f, "a whole number from {} to {}", least, most),
-        None => f.write_str("HOST:PORT, as 127.0.0.1:2947"),
+        None => Ok(()),
+    }
+}
+
+/// What to do in place of an option of gpsd.
+fn in_place_of(option: &str) -> Option<&'static str> {
+    if option.starts_with("-D") {
+        return Some("leave it out: serve has no levels of messages");
+    }
+    match option {
+        "-n" => Some("leave it out: serve reads its devices before a client connects"),
+        "-N" => Some("leave it out: serve stays in the foreground"),
+        "-G" => Some("say --listen 0.0.0.0:2947 for all addresses"),
+        "-b" => Some("leave it out: serve writes nothing to a device"),
+        "-S" => Some("say --listen 127.0.0.1:PORT"),
+        _ => None,
+    }
+}
+
+fn is_digits(text: &str) -> bool {
+    !text.is_empty()
+        && text
+            .as_bytes()
+            .iter()
+            .all(|byte| matches!(*byte, b'0'..=b'9'))
+}
+
+/// Whether a text is `HOST:PORT` but for its port, which is too great or too long.
+fn has_bad_port(text: &str) -> bool {
+    match text.rsplit_once(':') {
+        Some((host, port)) => !host.is_empty() && is_digits(port) && !is_address(text.as_bytes()),
+        None => false,
+    }
+}
+
+/// What is wrong with a text that is no `HOST:PORT`, if that can be told.
+fn address_hint(text: &str) -> Option<&'static str> {
+    if text.contains('/') {
+        None
+    } else if has_bad_port(text) {
+        Some("a port has at most 5 digits, and is at most 65535")
+    } else if text.starts_with(':') {
+        Some("the host is missing: 127.0.0.1 for this machine, 0.0.0.0 for all addresses")
+    } else {
+        None
+    }
+}
+
+/// The address of a text in the form of a URL, as `//host:2000` or `//host:2000/`.
+fn address_of_url(text: &str) -> Option<&str> {
+    let address = text.strip_prefix("//")?;
+    let address = match address.strip_suffix('/') {
+        Some(address) => address,
+        None => address,
+    };
+    is_address(address.as_bytes()).then_some(address)
+}
+
+/// Whether a text says what a device is, as `tcp:HOST:PORT`.
+fn has_kind(text: &str) -> bool {
+    text.starts_with("file:")
+        || text.starts_with("tcp:")
+        || text.starts_with("gpsd:")
+        || text.starts_with("edges:")
+}
+
+/// The place of a device with its kind, as it is to be written.
+fn write_place<W: fmt::Write>(place: &str, f: &mut fmt::Formatter<W>) -> fmt::Result {
+    if let Some((kind, text)) = place.split_once(':') {
+        if let Some(address) = address_of_url(text) {
+            return write!(f, "{}:{}", kind, address);
+        }
+    }
+    if has_kind(place) {
+        f.write_str(place)
+    } else if is_address(place.as_bytes()) {
+        write!(f, "tcp:{}", place)
+    } else {
+        write!(f, "file:{}", place)
     }
 }
 
@@ -43,7 +133,7 @@ impl Told<'_> {
     fn command(&self) -> &'static str {
         match self.refusal.command {
             Some(command) => command.text(),
-            None => "gpsrelay",
+            None => "help",
         }
     }
 
@@ -52,7 +142,21 @@ impl Told<'_> {
         near: Option<CommandName>,
         f: &mut fmt::Formatter<W>,
     ) -> fmt::Result {
-        write!(f, "{}: no such command", self.word)?;
+        let word = self.word;
+        if let Some(what) = in_place_of(word) {
+            return write!(
+                f,
+                "{}: no such command; {}, and begin with serve",
+                word, what
+            );
+        }
+        if word.starts_with('/') {
+            return write!(f, "{}: no such command; say serve gps0=file:{}", word, word);
+        }
+        if word.contains('=') {
+            return write!(f, "{}: no such command; say serve {}", word, word);
+        }
+        write!(f, "{}: no such command", word)?;
         match near {
             Some(command) => write!(f, "; did you mean {}?", command.text()),
             None => f.write_str("; gpsrelay help lists all"),
@@ -65,69 +169,100 @@ impl Told<'_> {
         f: &mut fmt::Formatter<W>,
     ) -> fmt::Result {
         write!(f, "{}: no such option of {}", self.word, self.command())?;
+        if self.refusal.command == Some(CommandName::Serve) {
+            if let Some(what) = in_place_of(self.word) {
+                return write!(f, "; {}", what);
+            }
+        }
         match near {
             Some(option) => write!(f, "; did you mean --{}?", option.text()),
-            None => f.write_str("; gpsrelay help lists all"),
+            None => write!(f, "; gpsrelay help {} lists all", self.command()),
         }
     }
 
     fn write_stray<W: fmt::Write>(&self, f: &mut fmt::Formatter<W>) -> fmt::Result {
+        let word = self.word;
         match self.refusal.command {
             Some(CommandName::Generate) => {
                 write!(
                     f,
                     "{}: generate takes options alone: generate --seed N --size N",
-                    self.word
+                    word
                 )
             }
-            _ => write!(
+            Some(command) if word == "-" => {
+                write!(
+                    f,
+                    "{}: leave it out: {} reads standard input",
+                    word,
+                    command.text()
+                )
+            }
+            Some(command) => write!(
                 f,
                 "{}: {} reads standard input: {} < {}",
-                self.word,
-                self.command(),
-                self.command(),
-                self.word
+                word,
+                command.text(),
+                command.text(),
+                word
             ),
+            None => write!(f, "{}: help takes one command", word),
         }
     }
 
-    fn name(&self) -> &str {
-        match self.word.split_once('=') {
-            Some((name, _)) => name,
-            None => self.word,
+    fn write_bad_value<W: fmt::Write>(
+        &self,
+        option: OptionName,
+        f: &mut fmt::Formatter<W>,
+    ) -> fmt::Result {
+        write!(f, "{}: --{} takes ", self.word, option.text())?;
+        write_value(option, f)?;
+        let value = match self.word.split_once('=') {
+            Some((_, value)) if self.word.starts_with("--") => value,
+            _ => self.word,
+        };
+        match option {
+            OptionName::Listen => match address_hint(value) {
+                Some(hint) => write!(f, "; {}", hint),
+                None if is_digits(value) => write!(f, "; say 127.0.0.1:{}", value),
+                None => Ok(()),
+            },
+            OptionName::History if value == "all" => {
+                f.write_str("; all is for decode and pseudo")
+            }
+            _ => Ok(()),
         }
     }
 
-    /// The kind of a word with an address.
-    fn kind(&self) -> &'static str {
+    /// The name and the place of a device word.
+    fn halves(&self) -> (&str, &str) {
         match self.word.split_once('=') {
-            Some((_, place)) if place.starts_with("gpsd:") => "gpsd",
-            _ => "tcp",
+            Some(halves) => halves,
+            None => (self.word, ""),
         }
     }
 
     fn write_no_name<W: fmt::Write>(&self, f: &mut fmt::Formatter<W>) -> fmt::Result {
         let word = self.word;
-        let has_kind = word.starts_with("file:")
-            || word.starts_with("tcp:")
-            || word.starts_with("gpsd:")
-            || word.starts_with("edges:");
-        if has_kind {
-            write!(f, "{}: say NAME={}", word, word)
-        } else if is_address(word.as_bytes()) {
-            write!(f, "{}: say NAME=tcp:{}", word, word)
-        } else {
-            write!(f, "{}: say NAME=file:{}", word, word)
+        write!(f, "{}: say ", word)?;
+        if !has_kind(word) && !word.starts_with('/') {
+            if let Some((name, place)) = word.split_once(':') {
+                if place.starts_with('/') && !place.starts_with("//") || has_kind(place) {
+                    write!(f, "{}=", name)?;
+                    return write_place(place, f);
+                }
+            }
         }
+        f.write_str("NAME=")?;
+        write_place(word, f)
     }
 
     fn write_no_kind<W: fmt::Write>(&self, f: &mut fmt::Formatter<W>) -> fmt::Result {
-        let (name, place) = match self.word.split_once('=') {
-            Some(halves) => halves,
-            None => (self.word, ""),
-        };
+        let (name, place) = self.halves();
         if place.starts_with('/') {
             write!(f, "{}: say {}=file:{}", self.word, name, place)
+        } else if is_address(place.as_bytes()) && !place.starts_with("udp:") {
+            write!(f, "{}: say {}=tcp:{}", self.word, name, place)
         } else {
             write!(
                 f,
@@ -137,13 +272,30 @@ impl Told<'_> {
         }
     }
 
+    fn write_bad_address<W: fmt::Write>(&self, f: &mut fmt::Formatter<W>) -> fmt::Result {
+        let (name, place) = self.halves();
+        let (kind, text) = match place.split_once(':') {
+            Some(halves) => halves,
+            None => (place, ""),
+        };
+        write!(f, "{}: say {}={}:", self.word, name, kind)?;
+        if let Some(address) = address_of_url(text) {
+            return f.write_str(address);
+        }
+        f.write_str("HOST:PORT")?;
+        match address_hint(text) {
+            Some(hint) => write!(f, "; {}", hint),
+            None => Ok(()),
+        }
+    }
+
     fn write_device<W: fmt::Write>(
         &self,
         cause: DeviceCause,
         f: &mut fmt::Formatter<W>,
     ) -> fmt::Result {
         let word = self.word;
-        let name = self.name();
+        let (name, _) = self.halves();
         match cause {
             DeviceCause::NoName => self.write_no_name(f),
             DeviceCause::BadName => write!(
@@ -153,22 +305,13 @@ impl Told<'_> {
             ),
             DeviceCause::NoSuchKind => self.write_no_kind(f),
             DeviceCause::NoPath => write!(f, "{}: the path is missing", word),
-            DeviceCause::BadAddress => {
-                let kind = self.kind();
-                write!(
-                    f,
-                    "{}: say {}={}:HOST:PORT, with a port from 0 to 65535",
-                    word, name, kind
-                )
+            DeviceCause::BadAddress => self.write_bad_address(f),
+            DeviceCause::NameTwice => write!(f, "{}: the name {} is used twice", word, name),
+            DeviceCause::EdgesTwice => {
+                write!(f, "{}: the edges of {} are given twice", word, name)
             }
-            DeviceCause::NameTwice => write!(f, "{}: the name {} stands twice", word, name),
-            DeviceCause::EdgesTwice => write!(f, "{}: edges of {} stand twice", word, name),
             DeviceCause::EdgesFirst => {
-                write!(
-                    f,
-                    "{}: edges stand behind the word of their device {}",
-                    word, name
-                )
+                write!(f, "{}: give the edges of {} after its own word", word, name)
             }
             DeviceCause::EdgesAlone => write!(
                 f,
@@ -192,11 +335,8 @@ impl fmt::Display for Told<'_> {
                 write!(f, "--{}: the value is missing: ", option.text())?;
                 write_value(option, f)
             }
-            Cause::Twice(option) => write!(f, "--{}: the option stands twice", option.text()),
-            Cause::BadValue(option) => {
-                write!(f, "{}: --{} takes ", self.word, option.text())?;
-                write_value(option, f)
-            }
+            Cause::Twice(option) => write!(f, "--{}: the option is given twice", option.text()),
+            Cause::BadValue(option) => self.write_bad_value(option, f),
             Cause::Lacking(option) => {
                 write!(f, "{}: --{} is missing: ", self.command(), option.text())?;
                 write_value(option, f)

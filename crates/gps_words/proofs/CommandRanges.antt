@@ -1,29 +1,39 @@
 -- The numbers of each command lie in their ranges.
-use Rattle.std.proofs.Common.{◌≡◌, ◌≤◌, ◌&&◌, ℕ, Bool, true, false, nat_le, cond, refl, subst, sym, ap, codes, arith, List, [], ◌∷◌, Option, Some, None, option_map, option_and_then}
+use Rattle.std.proofs.Common.{◌≡◌, ◌≤◌, ◌&&◌, ℕ, Bool, true, false, nat_le, cond, refl, subst, sym, ap, codes, arith, List, [], ◌∷◌, Option, Some, None, inl, inr, option_map, option_and_then}
 use Rattle.std.proofs.lemmas.Bool.{and_parts}
 use Rattle.std.proofs.Common.{leb-true}
 use Rattle.clap.specs.Simple.{App, matches_of}
 use Rattle.clap.specs.Walk.{Row, Text, first_of}
 use Rattle.gps_words.specs.Asked.{asked_of, kind_named, read_as}
-use Rattle.gps_words.specs.Decode.{decode_app, decode_in, decode_of, history_in}
+use Rattle.std.specs.Str.{bytes_eq}
+use Rattle.gps_words.specs.Decode.{bytes_in, bytes_or, bytes_within, decode_app, decode_in, decode_of}
 use Rattle.gps_words.specs.Generate.{generate_app, generate_in, generate_of, seed_in, size_in}
 use Rattle.gps_words.specs.Lines.{lines_app, lines_in, lines_of}
 use Rattle.gps_words.specs.Numbers.{digits_after, is_number_text, number_in}
 use Rattle.gps_words.specs.Options.{are_taken, read_by}
 use Rattle.gps_words.specs.Pseudo.{pseudo_app, pseudo_in, pseudo_of}
-use Rattle.gps_words.specs.Replay.{queue_in, replay_app, replay_in, replay_of}
-use Rattle.gps_words.specs.Within.{IsHistory, IsInRange, IsQueue}
+use Rattle.gps_words.specs.Replay.{history_in, queue_in, replay_app, replay_in, replay_of}
+use Rattle.gps_words.specs.Within.{IsBytes, IsHistory, IsInRange, IsQueue}
 use Rattle.gps_words.specs.declared.choice.Kind.{Kind}
 use Rattle.gps_words.specs.declared.choice.Kind.TheVariants as kind
 use Rattle.gps_words.specs.declared.command.CommandLine.{CommandLine}
 use Rattle.gps_words.specs.declared.command.CommandLine.TheVariants.{Decode, Pseudo, Replay, Generate, Lines}
-use Rattle.gps_words.proofs.Within.{chosen, chosen_some, number_range}
-
-some_is : {X : Type 0} (x y : X) → Some x ≡ Some y → x ≡ y
-some_is x y is = cc
+use Rattle.gps_words.proofs.Within.{chosen, chosen_some, number_range, some_is}
 
 history_range : (rows : List Row) (h : ℕ) → history_in rows ≡ Some h → IsHistory h
 history_range rows h is = number_range 16_777_216 1 33_554_432 (first_of (codes "history") rows) h (omega arith) (omega arith) is
+
+by_word : (b : Bool) (text : Text) (n : ℕ) → cond b (Some 9_223_372_036_854_775_807) (number_in 1 33_554_432 text) ≡ Some n → IsBytes n
+by_word true text n is = inr (sym (some_is 9_223_372_036_854_775_807 n is))
+by_word false text n is = inl (number_range 1 1 33_554_432 (Some text) n (omega arith) (omega arith) is)
+
+bytes_read : (text : Option Text) (n : ℕ) → bytes_or text ≡ Some n → IsBytes n
+unfolding bytes_within
+bytes_read None n is = let same : 16_777_216 ≡ n = some_is 16_777_216 n is in inl (omega (arith, same), omega (arith, same))
+bytes_read (Some text) n is = by_word (bytes_eq text (codes "all")) text n is
+
+bytes_range : (rows : List Row) (n : ℕ) → bytes_in rows ≡ Some n → IsBytes n
+bytes_range rows n is = bytes_read (first_of (codes "history") rows) n is
 
 queue_range : (rows : List Row) (q : ℕ) → queue_in rows ≡ Some q → IsQueue q
 queue_range rows q is = number_range 4_096 1 65_536 (first_of (codes "queue") rows) q (omega arith) (omega arith) is
@@ -54,10 +64,10 @@ unfolding read_by
 read app reads words c range is = range (matches_of app words) (chosen_some (are_taken app words) (reads (matches_of app words)) c is)
 
 decoded : (words : List Text) (c : CommandLine) → decode_of words ≡ Some c → IsInRange c
-decoded words c is = read decode_app decode_in words c (λ rows at. by_one (λ h. Decode h) (history_in rows) c (history_range rows) at) is
+decoded words c is = read decode_app decode_in words c (λ rows at. by_one (λ h. Decode h) (bytes_in rows) c (bytes_range rows) at) is
 
 pseudo_done : (words : List Text) (c : CommandLine) → pseudo_of words ≡ Some c → IsInRange c
-pseudo_done words c is = read pseudo_app pseudo_in words c (λ rows at. by_one (λ h. Pseudo h) (history_in rows) c (history_range rows) at) is
+pseudo_done words c is = read pseudo_app pseudo_in words c (λ rows at. by_one (λ h. Pseudo h) (bytes_in rows) c (bytes_range rows) at) is
 
 replayed : (words : List Text) (c : CommandLine) → replay_of words ≡ Some c → IsInRange c
 unfolding replay_in

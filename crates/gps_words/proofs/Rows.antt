@@ -4,6 +4,7 @@ use Rattle.std.proofs.Common.{◌≡◌, List, [], ◌∷◌, Option, Some, None
 use Rattle.clap.specs.Walk.{Text}
 use Rattle.clap.proofs.OnLiterals.{clap_on_literals}
 use Rattle.gps_words.specs.Asked.{asked_of, kind_named}
+use Rattle.gps_words.specs.Decode.{bytes_within}
 use Rattle.gps_words.specs.Numbers.{digits_after}
 use Rattle.gps_fixed.specs.Scaled.{whole_of}
 use Rattle.gps_fixed.specs.Numeral.{numeral}
@@ -13,7 +14,7 @@ use Rattle.gps_words.specs.Options.{read_by}
 use Rattle.gps_words.specs.Replay.{replay_in}
 use Rattle.gps_words.specs.Serve.{Serve, numbers_in, serve_asked_of, serve_in}
 use Rattle.gps_words.specs.declared.command.CommandLine.{CommandLine}
-use Rattle.gps_words.specs.declared.command.CommandLine.TheVariants.{Decode, Generate, Lines, Replay}
+use Rattle.gps_words.specs.declared.command.CommandLine.TheVariants.{Decode, Generate, Lines, Pseudo, Replay}
 use Rattle.gps_words.specs.declared.device.Input.TheVariants.{File, Tcp, Gpsd}
 use Rattle.gps_words.specs.declared.serve.ServeNumbers.{ServeNumbers}
 
@@ -32,71 +33,83 @@ unfolding kind_named
 begun_word = refl
 
 alone : decode_with [] ≡ Some (Decode 16_777_216)
-unfolding clap_on_literals kind_named read_by digits_after
+unfolding clap_on_literals kind_named read_by digits_after bytes_within
 alone = refl
 
 value_behind : decode_with (codes "--history" ∷ codes "69" ∷ []) ≡ Some (Decode 69)
-unfolding clap_on_literals kind_named read_by digits_after
+unfolding clap_on_literals kind_named read_by digits_after bytes_within
 value_behind = refl
 
 value_after_equals : decode_with (codes "--history=5" ∷ []) ≡ Some (Decode 5)
-unfolding clap_on_literals kind_named read_by digits_after
+unfolding clap_on_literals kind_named read_by digits_after bytes_within
 value_after_equals = refl
 
 ten_digits : decode_with (codes "--history" ∷ codes "0000000070" ∷ []) ≡ Some (Decode 70)
-unfolding clap_on_literals kind_named read_by digits_after
+unfolding clap_on_literals kind_named read_by digits_after bytes_within
 ten_digits = refl
 
 most : decode_with (codes "--history" ∷ codes "33554432" ∷ []) ≡ Some (Decode 33_554_432)
-unfolding clap_on_literals kind_named read_by digits_after
+unfolding clap_on_literals kind_named read_by digits_after bytes_within
 most = refl
 
 over_most : decode_with (codes "--history" ∷ codes "33554433" ∷ []) ≡ None
-unfolding clap_on_literals kind_named read_by digits_after
+unfolding clap_on_literals kind_named read_by digits_after bytes_within
 over_most = refl
 
 nought : decode_with (codes "--history" ∷ codes "0" ∷ []) ≡ None
-unfolding clap_on_literals kind_named read_by digits_after
+unfolding clap_on_literals kind_named read_by digits_after bytes_within
 nought = refl
 
+all : decode_with (codes "--history" ∷ codes "all" ∷ []) ≡ Some (Decode 9_223_372_036_854_775_807)
+unfolding clap_on_literals kind_named read_by digits_after bytes_within
+all = refl
+
+all_of_pseudo : asked_of (codes "pseudo" ∷ codes "--history=all" ∷ []) ≡ Some (Pseudo 9_223_372_036_854_775_807)
+unfolding clap_on_literals kind_named read_by digits_after bytes_within
+all_of_pseudo = refl
+
+all_of_replay : asked_of (codes "replay" ∷ codes "--history=all" ∷ []) ≡ None
+unfolding clap_on_literals kind_named read_by digits_after replay_in
+all_of_replay = refl
+
 eleven_digits : decode_with (codes "--history" ∷ codes "00000000070" ∷ []) ≡ None
-unfolding clap_on_literals kind_named read_by digits_after
+unfolding clap_on_literals kind_named read_by digits_after bytes_within
 eleven_digits = refl
 
 with_plus : decode_with (codes "--history" ∷ codes "+5" ∷ []) ≡ None
-unfolding clap_on_literals kind_named read_by digits_after
+unfolding clap_on_literals kind_named read_by digits_after bytes_within
 with_plus = refl
 
 with_minus : decode_with (codes "--history" ∷ codes "-5" ∷ []) ≡ None
-unfolding clap_on_literals kind_named read_by digits_after
+unfolding clap_on_literals kind_named read_by digits_after bytes_within
 with_minus = refl
 
 no_value : decode_with (codes "--history" ∷ []) ≡ None
-unfolding clap_on_literals kind_named read_by digits_after
+unfolding clap_on_literals kind_named read_by digits_after bytes_within
 no_value = refl
 
 empty_value : decode_with (codes "--history=" ∷ []) ≡ None
-unfolding clap_on_literals kind_named read_by digits_after
+unfolding clap_on_literals kind_named read_by digits_after bytes_within
 empty_value = refl
 
 twice : decode_with (codes "--history=5" ∷ codes "--history=5" ∷ []) ≡ None
-unfolding clap_on_literals kind_named read_by digits_after
+unfolding clap_on_literals kind_named read_by digits_after bytes_within
 twice = refl
 
 begun_option : decode_with (codes "--hist" ∷ codes "5" ∷ []) ≡ None
-unfolding clap_on_literals kind_named read_by digits_after
+unfolding clap_on_literals kind_named read_by digits_after bytes_within
 begun_option = refl
 
 help : decode_with (codes "--help" ∷ []) ≡ None
-unfolding clap_on_literals kind_named read_by digits_after
+unfolding clap_on_literals kind_named read_by digits_after bytes_within
 help = refl
 
 short_help : decode_with (codes "-h" ∷ []) ≡ None
-unfolding clap_on_literals kind_named read_by digits_after
+unfolding clap_on_literals kind_named read_by digits_after bytes_within
 short_help = refl
 
 stray_word : decode_with (codes "stdin" ∷ []) ≡ None
-unfolding clap_on_literals kind_named read_by digits_after
+unfolding clap_on_literals kind_named read_by digits_after bytes_within
 stray_word = refl
 
 generated : asked_of (codes "generate" ∷ codes "--seed" ∷ codes "0" ∷ codes "--size=10000" ∷ []) ≡ Some (Generate 0 10_000)
@@ -128,12 +141,13 @@ abbrev served : List Text → Option Serve
 served words = serve_asked_of (codes "serve" ∷ words)
 
 abbrev defaults : ServeNumbers
-defaults = record { queue = 4_096; history = 16_777_216; wait = 0; monitor = 0 }
+defaults = record { queue = 4_096; history = 16_777_216; wait = 0; monitor = 0; reopen = None }
 
 one_device : served (codes "g=file:x" ∷ []) ≡ Some (record {
   devices = record { names = codes "g" ∷ []; inputs = File (codes "x") ∷ []; edges = None ∷ [] };
   listen = codes "127.0.0.1:2947";
   numbers = defaults;
+  stop = None;
 })
 unfolding clap_on_literals serve_on_literals
 one_device = refl
@@ -142,6 +156,7 @@ another_daemon : served (codes "g=gpsd:h:2947" ∷ []) ≡ Some (record {
   devices = record { names = codes "g" ∷ []; inputs = Gpsd (codes "h:2947") ∷ []; edges = None ∷ [] };
   listen = codes "127.0.0.1:2947";
   numbers = defaults;
+  stop = None;
 })
 unfolding clap_on_literals serve_on_literals
 another_daemon = refl
@@ -150,9 +165,35 @@ words_among_options : served (codes "b=tcp:[::1]:80" ∷ codes "--wait" ∷ code
   devices = record { names = codes "b" ∷ codes "a" ∷ []; inputs = Tcp (codes "[::1]:80") ∷ File (codes "=:") ∷ []; edges = Some (codes "y") ∷ None ∷ [] };
   listen = codes "h:65535";
   numbers = record defaults { wait = 3 };
+  stop = None;
 })
 unfolding clap_on_literals serve_on_literals
 words_among_options = refl
+
+stopped_and_reopened : served (codes "--stop" ∷ codes "/run/stop" ∷ codes "g=file:x" ∷ codes "--reopen=3600" ∷ []) ≡ Some (record {
+  devices = record { names = codes "g" ∷ []; inputs = File (codes "x") ∷ []; edges = None ∷ [] };
+  listen = codes "127.0.0.1:2947";
+  numbers = record defaults { reopen = Some 3_600 };
+  stop = Some (codes "/run/stop");
+})
+unfolding clap_on_literals serve_on_literals
+stopped_and_reopened = refl
+
+no_path_of_stop : served (codes "--stop=" ∷ codes "g=file:x" ∷ []) ≡ None
+unfolding clap_on_literals serve_on_literals
+no_path_of_stop = refl
+
+at_once : served (codes "--reopen=0" ∷ codes "g=file:x" ∷ []) ≡ None
+unfolding clap_on_literals serve_on_literals
+at_once = refl
+
+over_an_hour : served (codes "--reopen=3601" ∷ codes "g=file:x" ∷ []) ≡ None
+unfolding clap_on_literals serve_on_literals
+over_an_hour = refl
+
+all_of_serve : served (codes "--history=all" ∷ codes "g=file:x" ∷ []) ≡ None
+unfolding clap_on_literals serve_on_literals
+all_of_serve = refl
 
 no_device_word : served [] ≡ None
 unfolding clap_on_literals serve_on_literals
@@ -185,6 +226,10 @@ unknown_kind = refl
 no_host : devices_in (codes "a=tcp::1" ∷ []) ≡ None
 unfolding serve_on_literals
 no_host = refl
+
+two_slashes : devices_in (codes "a=tcp://h:1" ∷ []) ≡ None
+unfolding serve_on_literals
+two_slashes = refl
 
 no_path : devices_in (codes "a=file:" ∷ []) ≡ None
 unfolding serve_on_literals

@@ -1,29 +1,28 @@
 -- What the words of `serve` ask for lies in its ranges.
-use Rattle.std.proofs.Common.{◌≡◌, ◌≤◌, ◌&&◌, ◌+◌, ℕ, Bool, true, false, nat_le, refl, sym, ap, ◌∙◌, arith, List, [], ◌∷◌, ◌++◌, length, Option, Some, None, option_map, option_and_then, if◌then◌else◌}
+use Rattle.std.proofs.Common.{◌≡◌, ◌≤◌, ◌&&◌, ◌+◌, ℕ, Bool, true, false, nat_le, refl, sym, ap, ◌∙◌, arith, List, [], ◌∷◌, ◌++◌, length, ◌<◌, nat_lt, IfSome, Option, Some, None, option_map, option_and_then, if◌then◌else◌}
 use Rattle.std.proofs.lemmas.Bool.{and_parts}
-use Rattle.std.proofs.Common.{leb-true}
+use Rattle.std.proofs.Common.{leb-true, ltb-true}
 use Rattle.std.proofs.lemmas.List.{length-map, length-append}
 use Rattle.std.proofs.Common.{subst, codes}
 use Rattle.std.specs.Str.{bytes_eq}
 use Rattle.clap.specs.Simple.{matches_of}
 use Rattle.clap.specs.Walk.{Row, Text, all_of, first_of}
-use Rattle.gps_words.specs.Numbers.{digits_after, is_number_text, number_or}
+use Rattle.gps_words.specs.Numbers.{digits_after, is_number_text, number_if, number_in, number_or}
 use Rattle.gps_words.specs.Options.{are_taken, read_by}
-use Rattle.gps_words.specs.Replay.{queue_in}
-use Rattle.gps_words.specs.Decode.{history_in}
+use Rattle.gps_words.specs.Replay.{history_in, queue_in}
 use Rattle.gps_words.specs.declared.device.DeviceWord.{DeviceWord}
 use Rattle.gps_words.specs.declared.device.Target.{Target}
 use Rattle.gps_words.specs.declared.device.Target.TheVariants.{Device, Edges}
 use Rattle.gps_words.specs.declared.serve.ServeNumbers.{ServeNumbers}
-use Rattle.gps_words.specs.Devices.{Lists, are_devices, devices_in, devices_of, edges_of, input_of, inputs_of, is_address, is_count, lists_of, name_of, names_of, words_in}
-use Rattle.gps_words.specs.Serve.{Serve, if_address, listen_in, devices_among, monitor_in, numbers_in, serve_app, serve_asked_of, serve_in, serve_of, wait_in}
-use Rattle.gps_words.specs.Within.{IsWithin}
+use Rattle.gps_words.specs.Devices.{Lists, are_devices, devices_in, devices_of, edges_of, input_of, inputs_of, is_address, is_count, lists_of, name_of, names_of, path_in, words_in}
+use Rattle.gps_words.specs.Serve.{Serve, if_address, listen_in, devices_among, monitor_in, numbers_in, reopen_in, serve_app, serve_asked_of, serve_in, serve_of, stop_in, stop_or, wait_in}
+use Rattle.gps_words.specs.Within.{IsPath, IsSeconds, IsWithin}
+
+pub some_is : {X : Type 0} (x y : X) → Some x ≡ Some y → x ≡ y
+some_is x y is = cc
 
 pub chosen : {X : Type 0} (b : Bool) (x y : X) → (if b then Some x else None) ≡ Some y → (b ≡ true) × (x ≡ y)
 chosen true x y is = (refl, some_is x y is)
-  where
-    some_is : {X : Type 0} (x y : X) → Some x ≡ Some y → x ≡ y
-    some_is x y is = cc
 chosen false x y is = absurd (cc)
 
 pub chosen_some : {X : Type 0} (b : Bool) (o : Option X) (y : X) → (if b then o else None) ≡ Some y → o ≡ Some y
@@ -48,28 +47,69 @@ pub record InRange (n : ServeNumbers) : Type 0 where
   pub history_high : n.history ≤ 33_554_432
   pub wait : n.wait ≤ 64
   pub monitor : n.monitor ≤ 1_000_000
+  pub reopen : IfSome n.reopen IsSeconds
 
--- each of the four is read
-four : (queue history wait monitor : Option ℕ) (n : ServeNumbers)
-    → option_and_then (λ q. option_and_then (λ h. option_and_then (λ w. option_map (λ m. record { queue = q; history = h; wait = w; monitor = m }) monitor) wait) history) queue ≡ Some n
-    → (queue ≡ Some n.queue) × (history ≡ Some n.history) × (wait ≡ Some n.wait) × (monitor ≡ Some n.monitor)
-four (Some q) (Some h) (Some w) (Some m) n is =
-    let same : record { queue = q; history = h; wait = w; monitor = m } ≡ n = (chosen true _ n is).1 in
-    (ap (λ (x : ServeNumbers). Some x.queue) same, ap (λ (x : ServeNumbers). Some x.history) same, ap (λ (x : ServeNumbers). Some x.wait) same, ap (λ (x : ServeNumbers). Some x.monitor) same)
-four None history wait monitor n is = absurd (cc)
-four (Some q) None wait monitor n is = absurd (cc)
-four (Some q) (Some h) None monitor n is = absurd (cc)
-four (Some q) (Some h) (Some w) None n is = absurd (cc)
+-- each of the five is read
+record AreRead (q h w m : Option ℕ) (r : Option (Option ℕ)) (n : ServeNumbers) : Type 0 where
+  pub queue : q ≡ Some n.queue
+  pub history : h ≡ Some n.history
+  pub wait : w ≡ Some n.wait
+  pub monitor : m ≡ Some n.monitor
+  pub reopen : r ≡ Some n.reopen
+
+five : (queue history wait monitor : Option ℕ) (reopen : Option (Option ℕ)) (n : ServeNumbers)
+    → option_and_then (λ q. option_and_then (λ h. option_and_then (λ w. option_and_then (λ m. option_map (λ r. record { queue = q; history = h; wait = w; monitor = m; reopen = r }) reopen) monitor) wait) history) queue ≡ Some n
+    → AreRead queue history wait monitor reopen n
+five (Some q) (Some h) (Some w) (Some m) (Some r) n is =
+    let same : record { queue = q; history = h; wait = w; monitor = m; reopen = r } ≡ n = some_is _ n is in
+    record {
+      queue = ap (λ (x : ServeNumbers). Some x.queue) same;
+      history = ap (λ (x : ServeNumbers). Some x.history) same;
+      wait = ap (λ (x : ServeNumbers). Some x.wait) same;
+      monitor = ap (λ (x : ServeNumbers). Some x.monitor) same;
+      reopen = ap (λ (x : ServeNumbers). Some x.reopen) same;
+    }
+five None history wait monitor reopen n is = absurd (cc)
+five (Some q) None wait monitor reopen n is = absurd (cc)
+five (Some q) (Some h) None monitor reopen n is = absurd (cc)
+five (Some q) (Some h) (Some w) None reopen n is = absurd (cc)
+five (Some q) (Some h) (Some w) (Some m) None n is = absurd (cc)
+
+-- the number of an option that may be left out
+seconds_read : (o : Option ℕ) (r : Option ℕ) → ((n : ℕ) → o ≡ Some n → IsSeconds n) → option_map (λ n. Some n) o ≡ Some r → IfSome r IsSeconds
+seconds_read None r range is = absurd (cc)
+seconds_read (Some n) r range is = subst (λ x. IfSome x IsSeconds) (some_is (Some n) r is) (range n refl)
+
+seconds_range : (text : Option Text) (r : Option ℕ) → number_if 1 3_600 text ≡ Some r → IfSome r IsSeconds
+seconds_range None r is = subst (λ x. IfSome x IsSeconds) (some_is None r is) tt
+seconds_range (Some text) r is =
+    seconds_read (number_in 1 3_600 text) r (λ n at. number_range 1 1 3_600 (Some text) n (omega arith) (omega arith) at) is
+
+path_read : (b : Bool) (text : Text) (p : Option Text) → (b ≡ true → IsPath text) → option_map (λ q. Some q) (if b then Some text else None) ≡ Some p → IfSome p IsPath
+path_read true text p some is = subst (λ x. IfSome x IsPath) (some_is (Some text) p is) (some refl)
+path_read false text p some is = absurd (cc)
+
+stop_path : (text : Option Text) (p : Option Text) → stop_or text ≡ Some p → IfSome p IsPath
+stop_path None p is = subst (λ x. IfSome x IsPath) (some_is None p is) tt
+stop_path (Some text) p is = path_read (nat_lt 0 (length text)) text p (λ e. ltb-true 0 (length text) e) is
 
 numbers_range : (rows : List Row) (n : ServeNumbers) → numbers_in rows ≡ Some n → InRange n
 unfolding numbers_in
 numbers_range rows n is =
-    let f = four (queue_in rows) (history_in rows) (wait_in rows) (monitor_in rows) n is in
-    let q = number_range 4_096 1 65_536 (first_of (codes "queue") rows) n.queue (omega arith) (omega arith) f.0 in
-    let h = number_range 16_777_216 1 33_554_432 (first_of (codes "history") rows) n.history (omega arith) (omega arith) f.1 in
-    let w = number_range 0 0 64 (first_of (codes "wait") rows) n.wait (omega arith) (omega arith) f.2 in
-    let m = number_range 0 0 1_000_000 (first_of (codes "monitor") rows) n.monitor (omega arith) (omega arith) f.3 in
-    record { queue_low = q.0; queue_high = q.1; history_low = h.0; history_high = h.1; wait = w.1; monitor = m.1 }
+    let f = five (queue_in rows) (history_in rows) (wait_in rows) (monitor_in rows) (reopen_in rows) n is in
+    let q = number_range 4_096 1 65_536 (first_of (codes "queue") rows) n.queue (omega arith) (omega arith) f.queue in
+    let h = number_range 16_777_216 1 33_554_432 (first_of (codes "history") rows) n.history (omega arith) (omega arith) f.history in
+    let w = number_range 0 0 64 (first_of (codes "wait") rows) n.wait (omega arith) (omega arith) f.wait in
+    let m = number_range 0 0 1_000_000 (first_of (codes "monitor") rows) n.monitor (omega arith) (omega arith) f.monitor in
+    record {
+      queue_low = q.0;
+      queue_high = q.1;
+      history_low = h.0;
+      history_high = h.1;
+      wait = w.1;
+      monitor = m.1;
+      reopen = seconds_range (first_of (codes "reopen") rows) n.reopen f.reopen;
+    }
 
 -- one input for each name
 one_each : (word : DeviceWord) (target : Target) → length (input_of target) ≡ length (name_of word target)
@@ -97,14 +137,15 @@ devices_match texts l is = read (words_in texts) l (chosen_some (is_count (lengt
     read None l is = absurd (cc)
     read (Some words) l is = subst AreMatched (chosen (are_devices words) (lists_of words) l is).1 (lists_match words)
 
-served : (numbers : Option ServeNumbers) (devices : Option Lists) (listen : Text) (s : Serve)
-    → option_and_then (λ n. option_and_then (if_address listen n) devices) numbers ≡ Some s
-    → (numbers ≡ Some s.numbers) × (devices ≡ Some s.devices)
-served None devices listen s is = absurd (cc)
-served (Some n) None listen s is = absurd (cc)
-served (Some n) (Some l) listen s is =
-    let same : record { devices = l; listen = listen; numbers = n } ≡ s = (chosen (is_address listen) _ s is).1 in
-    (ap (λ (x : Serve). Some x.numbers) same, ap (λ (x : Serve). Some x.devices) same)
+served : (numbers : Option ServeNumbers) (stop : Option (Option Text)) (devices : Option Lists) (listen : Text) (s : Serve)
+    → option_and_then (λ n. option_and_then (λ p. option_and_then (if_address listen n p) devices) stop) numbers ≡ Some s
+    → (numbers ≡ Some s.numbers) × (stop ≡ Some s.stop) × (devices ≡ Some s.devices)
+served None stop devices listen s is = absurd (cc)
+served (Some n) None devices listen s is = absurd (cc)
+served (Some n) (Some p) None listen s is = absurd (cc)
+served (Some n) (Some p) (Some l) listen s is =
+    let same : record { devices = l; listen = listen; numbers = n; stop = p } ≡ s = (chosen (is_address listen) _ s is).1 in
+    (ap (λ (x : Serve). Some x.numbers) same, ap (λ (x : Serve). Some x.stop) same, ap (λ (x : Serve). Some x.devices) same)
 
 among : (o : Option (List (List ℕ))) (l : Lists) → option_and_then devices_in o ≡ Some l → AreMatched l
 among None l is = absurd (cc)
@@ -113,9 +154,9 @@ among (Some texts) l is = devices_match texts l is
 pub rows_within : (rows : List Row) (s : Serve) → serve_in rows ≡ Some s → IsWithin s
 unfolding serve_in
 rows_within rows s is =
-    let p = served (numbers_in rows) (devices_among rows) (listen_in rows) s is in
+    let p = served (numbers_in rows) (stop_in rows) (devices_among rows) (listen_in rows) s is in
     let n = numbers_range rows s.numbers p.0 in
-    let l = among (all_of _ rows) s.devices p.1 in
+    let l = among (all_of _ rows) s.devices p.2 in
     record {
       inputs = l.inputs;
       edges = l.edges;
@@ -125,6 +166,8 @@ rows_within rows s is =
       history_high = n.history_high;
       wait = n.wait;
       monitor = n.monitor;
+      reopen = n.reopen;
+      stop = stop_path (first_of (codes "stop") rows) s.stop p.1;
     }
 
 read_within : (words : List Text) (s : Serve) → read_by serve_app serve_in words ≡ Some s → IsWithin s

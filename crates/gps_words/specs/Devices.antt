@@ -37,9 +37,12 @@ abbrev pub has_port_behind : List ℕ → Option ℕ → Bool
 has_port_behind text None = false
 has_port_behind text (Some place) = nat_lt 0 place && is_port (drop (place + 1) text)
 
--- HOST:PORT, split at the last `:`; the host is not empty
+-- HOST:PORT, split at the last `:`; the host is not empty and has no `/`, which no name or address of a host has
+abbrev pub has_slash : List ℕ → Bool
+has_slash text = list_any (λ c. c == 47) text
+
 unfoldable pub is_address : List ℕ → Bool
-is_address text = has_port_behind text (last_colon text)
+is_address text = not (has_slash text) && has_port_behind text (last_colon text)
 
 abbrev pub address_in : List ℕ → Option (List ℕ)
 address_in text = if is_address text then Some text else None

@@ -1,5 +1,5 @@
 -- The texts of numbers in the words of a command.
-use Rattle.std.specs.Prelude.{ℕ, ◌+◌, ◌-◌, ◌*◌, Bool, ◌&&◌, List, [], ◌∷◌, Option, Some, None, length, nat_le, nat_lt, if◌then◌else◌}
+use Rattle.std.specs.Prelude.{ℕ, ◌+◌, ◌-◌, ◌*◌, Bool, ◌&&◌, List, [], ◌∷◌, Option, Some, None, length, nat_le, nat_lt, option_map, if◌then◌else◌}
 use Rattle.std.specs.List.{list_all}
 
 abbrev pub is_digit : ℕ → Bool
@@ -23,3 +23,8 @@ number_in least most text =
 abbrev pub number_or : ℕ → ℕ → ℕ → Option (List ℕ) → Option ℕ
 number_or default least most None = Some default
 number_or default least most (Some text) = number_in least most text
+
+-- the number of an option that may be left out and is none then
+abbrev pub number_if : ℕ → ℕ → Option (List ℕ) → Option (Option ℕ)
+number_if least most None = Some None
+number_if least most (Some text) = option_map (λ n. Some n) (number_in least most text)

@@ -2,7 +2,6 @@
 use Rattle.std.specs.Prelude.{ℕ, List, Option, codes, option_and_then, option_map}
 use Rattle.clap.specs.Simple.{App, with_rule}
 use Rattle.clap.specs.Walk.{Row, Text, first_of}
-use Rattle.gps_words.specs.Decode.{history_in}
 use Rattle.gps_words.specs.Numbers.{number_or}
 use Rattle.gps_words.specs.Options.{bare_app, option_rule, read_by}
 use Rattle.gps_words.specs.declared.command.CommandLine.{CommandLine}
@@ -10,6 +9,10 @@ use Rattle.gps_words.specs.declared.command.CommandLine.TheVariants.{Replay}
 
 abbrev pub replay_app : App
 replay_app = with_rule (with_rule (bare_app (codes "replay")) (option_rule (codes "history"))) (option_rule (codes "queue"))
+
+-- `--history` of `replay` and `serve`: how many symbols a generation of the history has at most
+abbrev pub history_in : List Row → Option ℕ
+history_in rows = number_or 16_777_216 1 33_554_432 (first_of (codes "history") rows)
 
 -- `--queue`: how many items the outlet of a session keeps at most
 abbrev pub queue_in : List Row → Option ℕ

@@ -1,14 +1,13 @@
--- What the words of `serve` ask for: `serve [--listen HOST:PORT] [--queue N] [--history N] [--wait N] [--monitor N] WORD ..`, with 1 to 16
--- device words among the options.
+-- What the words of `serve` ask for: `serve [--listen HOST:PORT] [--queue N] [--history N] [--wait N] [--monitor N] [--reopen SECONDS] [--stop PATH]
+-- WORD ..`, with 1 to 16 device words among the options.
 use Rattle.std.specs.Prelude.{ℕ, List, [], ◌∷◌, codes, Option, Some, None, option_and_then, option_map, unwrap_or, if◌then◌else◌}
 use Rattle.std.specs.Str.{bytes_eq}
 use Rattle.clap.specs.Simple.{App, with_rule}
 use Rattle.clap.specs.Walk.{Row, Text, all_of, first_of}
-use Rattle.gps_words.specs.Decode.{history_in}
-use Rattle.gps_words.specs.Devices.{Lists, devices_in, is_address}
-use Rattle.gps_words.specs.Numbers.{number_or}
+use Rattle.gps_words.specs.Devices.{Lists, devices_in, is_address, path_in}
+use Rattle.gps_words.specs.Numbers.{number_if, number_or}
 use Rattle.gps_words.specs.Options.{bare_app, list_rule, option_rule, read_by}
-use Rattle.gps_words.specs.Replay.{queue_in}
+use Rattle.gps_words.specs.Replay.{history_in, queue_in}
 use Rattle.gps_words.specs.declared.serve.ServeNumbers.{ServeNumbers}
 use Rattle.gps_words.specs.declared.serve.ServeOptions.{ServeOptions}
 
@@ -17,6 +16,7 @@ pub record Serve : Type 0 where
   pub devices : Lists
   pub listen : Text
   pub numbers : ServeNumbers
+  pub stop : Option Text
 
 -- the options as they are handed on
 abbrev pub shown : ServeOptions → Serve
@@ -24,14 +24,16 @@ shown options = record {
   devices = record { names = options.names; inputs = options.inputs.items; edges = options.edges.items };
   listen = options.listen;
   numbers = options.numbers;
+  stop = options.stop;
 }
 
 abbrev pub with_numbers : App → App
-with_numbers app = with_rule (with_rule (with_rule (with_rule app
-    (option_rule (codes "queue"))) (option_rule (codes "history"))) (option_rule (codes "wait"))) (option_rule (codes "monitor"))
+with_numbers app = with_rule (with_rule (with_rule (with_rule (with_rule app
+    (option_rule (codes "queue"))) (option_rule (codes "history"))) (option_rule (codes "wait"))) (option_rule (codes "monitor"))) (option_rule (codes "reopen"))
 
 abbrev pub serve_app : App
-serve_app = with_rule (with_numbers (with_rule (bare_app (codes "serve")) (option_rule (codes "listen")))) (list_rule (codes "device"))
+serve_app =
+    with_rule (with_rule (with_numbers (with_rule (bare_app (codes "serve")) (option_rule (codes "listen")))) (option_rule (codes "stop"))) (list_rule (codes "device"))
 
 -- `--wait`: how many sessions devices wait for
 abbrev pub wait_in : List Row → Option ℕ
@@ -41,11 +43,15 @@ wait_in rows = number_or 0 0 64 (first_of (codes "wait") rows)
 abbrev pub monitor_in : List Row → Option ℕ
 monitor_in rows = number_or 0 0 1_000_000 (first_of (codes "monitor") rows)
 
+-- `--reopen`: after how many seconds a place that has ended or failed is opened again; never if it is left out
+abbrev pub reopen_in : List Row → Option (Option ℕ)
+reopen_in rows = number_if 1 3_600 (first_of (codes "reopen") rows)
+
 unfoldable pub numbers_in : List Row → Option ServeNumbers
 numbers_in rows =
-    option_and_then (λ queue. option_and_then (λ history. option_and_then (λ wait. option_map (λ monitor.
-    record { queue = queue; history = history; wait = wait; monitor = monitor })
-    (monitor_in rows)) (wait_in rows)) (history_in rows)) (queue_in rows)
+    option_and_then (λ queue. option_and_then (λ history. option_and_then (λ wait. option_and_then (λ monitor. option_map (λ reopen.
+    record { queue = queue; history = history; wait = wait; monitor = monitor; reopen = reopen })
+    (reopen_in rows)) (monitor_in rows)) (wait_in rows)) (history_in rows)) (queue_in rows)
 
 -- `--listen`: where links are taken
 abbrev pub listen_in : List Row → Text
@@ -54,13 +60,21 @@ listen_in rows = unwrap_or (first_of (codes "listen") rows) (codes "127.0.0.1:29
 abbrev pub devices_among : List Row → Option Lists
 devices_among rows = option_and_then devices_in (all_of (codes "device") rows)
 
-abbrev pub if_address : Text → ServeNumbers → Lists → Option Serve
-if_address listen numbers devices =
-    if is_address listen then Some (record { devices = devices; listen = listen; numbers = numbers }) else None
+-- `--stop`: the path of the file whose first byte or end ends the daemon; there is none if it is left out
+abbrev pub stop_or : Option Text → Option (Option Text)
+stop_or None = Some None
+stop_or (Some text) = option_map (λ path. Some path) (path_in text)
+
+abbrev pub stop_in : List Row → Option (Option Text)
+stop_in rows = stop_or (first_of (codes "stop") rows)
+
+abbrev pub if_address : Text → ServeNumbers → Option Text → Lists → Option Serve
+if_address listen numbers stop devices =
+    if is_address listen then Some (record { devices = devices; listen = listen; numbers = numbers; stop = stop }) else None
 
 unfoldable pub serve_in : List Row → Option Serve
 serve_in rows =
-    option_and_then (λ numbers. option_and_then (if_address (listen_in rows) numbers) (devices_among rows)) (numbers_in rows)
+    option_and_then (λ numbers. option_and_then (λ stop. option_and_then (if_address (listen_in rows) numbers stop) (devices_among rows)) (stop_in rows)) (numbers_in rows)
 
 abbrev pub serve_of : List Text → Option Serve
 serve_of words = read_by serve_app serve_in words

@@ -1,8 +1,16 @@
 -- The ranges of what the words ask for.
-use Rattle.std.specs.Prelude.{◌≡◌, ℕ, ◌≤◌, length}
+use Rattle.std.specs.Prelude.{◌≡◌, ℕ, ◌≤◌, ◌<◌, ◌⊎◌, List, IfSome, length}
 use Rattle.gps_words.specs.Serve.{Serve}
 use Rattle.gps_words.specs.declared.command.CommandLine.{CommandLine}
 use Rattle.gps_words.specs.declared.command.CommandLine.TheVariants.{Decode, Pseudo, Replay, Generate, Lines}
+
+-- how long a place is away before it is opened again
+abbrev pub IsSeconds : ℕ → Type 0
+IsSeconds seconds = (1 ≤ seconds) × (seconds ≤ 3_600)
+
+-- a path is not empty
+abbrev pub IsPath : List ℕ → Type 0
+IsPath path = 0 < length path
 
 -- one input and one place of edges, or none, for each device, and each number in its range
 pub record IsWithin (s : Serve) : Type 0 where
@@ -14,17 +22,23 @@ pub record IsWithin (s : Serve) : Type 0 where
   pub history_high : s.numbers.history ≤ 33_554_432
   pub wait : s.numbers.wait ≤ 64
   pub monitor : s.numbers.monitor ≤ 1_000_000
+  pub reopen : IfSome s.numbers.reopen IsSeconds
+  pub stop : IfSome s.stop IsPath
 
 abbrev pub IsHistory : ℕ → Type 0
 IsHistory history = (1 ≤ history) × (history ≤ 33_554_432)
+
+-- how many bytes are read at most: a number in its range, or all that any input has
+abbrev pub IsBytes : ℕ → Type 0
+IsBytes n = IsHistory n ⊎ (n ≡ 9_223_372_036_854_775_807)
 
 abbrev pub IsQueue : ℕ → Type 0
 IsQueue queue = (1 ≤ queue) × (queue ≤ 65_536)
 
 -- each number of a command lies in its range
 abbrev pub IsInRange : CommandLine → Type 0
-IsInRange (Decode history) = IsHistory history
-IsInRange (Pseudo history) = IsHistory history
+IsInRange (Decode history) = IsBytes history
+IsInRange (Pseudo history) = IsBytes history
 IsInRange (Replay history queue) = IsHistory history × IsQueue queue
 IsInRange (Generate seed size) = (1 ≤ size) × (size ≤ 10_000)
 IsInRange Lines = Unit {0}

@@ -4,9 +4,9 @@ use std::alloc::AllocError;
 #[derive(Clone, Copy, Debug, PartialEq, Eq)]
 pub enum CommandLine {
     /// Reads device bytes and writes JSON lines; `history` is how many bytes are read at most.
-    Decode { history: u32 },
+    Decode { history: u64 },
     /// Reads device bytes and writes the sentences of their fixes; `history` is how many bytes are read at most.
-    Pseudo { history: u32 },
+    Pseudo { history: u64 },
     /// Plays a script; `history` is how many symbols a generation has at most, `queue` how many items wait for a session.
     Replay { history: u32, queue: u32 },
     /// Plays a made script of `size` seconds.
@@ -19,7 +19,7 @@ pub enum CommandLine {
 #[derive(Clone, Copy, Debug, PartialEq, Eq)]
 pub enum WordsFault {
     /// The first word is no command or is missing, `clap` finds a fault in the words, or the text of a
-    /// number is not 1 to 10 decimal digits with a value in range.
+    /// number is not 1 to 10 decimal digits with a value in range. `--history` of `decode` and `pseudo` takes the word `all` too.
     Refused,
     NoMemory,
 }

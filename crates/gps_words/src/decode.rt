@@ -1,20 +1,37 @@
 ghost use Rattle.std.specs.Prelude.{◌≡◌, None, IfOk, map, string_bytes};
 ghost use Rattle.clap.specs.Simple.{app_of};
 ghost use Rattle.clap.specs.Words.{found_of, rows_of};
-ghost use Rattle.gps_words.specs.Decode.{decode_app, decode_in, decode_of, history_in};
+ghost use Rattle.gps_words.specs.Decode.{bytes_in, bytes_within, decode_app, decode_in, decode_of};
 
-use crate::numbers::number_given;
+use crate::numbers::number_within;
 use crate::options::{bare, matches_in, with_option};
 use crate::{CommandLine, WordsFault};
 use clap::ArgMatches;
 use std::alloc::{AllocError, Global};
 
-/// How many symbols a history has at most.
-#[tactic(auto, using(crate::proofs::Given::first_of_rows))]
-pub(crate) fn history(matches: &ArgMatches) -> Option<u32>
-    ensures { result ≡ history_in (rows_of (found_of matches.now)) }
+/// How many bytes a text allows: `all` is 2^63 - 1 of them, which no input has, and a number is one from 1 to 33,554,432.
+#[tactic(auto, unfolding(crate::specs::Decode::bytes_within))]
+pub fn bytes_within(text: &str) -> Option<u64>
+    ensures { result ≡ bytes_within text.now }
 {
-    number_given(matches.get_str("history"), 16_777_216, 1, 33_554_432)
+    if text == "all" {
+        return Some(9_223_372_036_854_775_807);
+    }
+    match number_within(text, 1, 33_554_432) {
+        Some(n) => Some(u64::from(n)),
+        None => None,
+    }
+}
+
+/// How many bytes are read at most.
+#[tactic(auto, using(crate::proofs::Given::first_of_rows))]
+pub(crate) fn bytes(matches: &ArgMatches) -> Option<u64>
+    ensures { result ≡ bytes_in (rows_of (found_of matches.now)) }
+{
+    match matches.get_str("history") {
+        Some(text) => bytes_within(text),
+        None => Some(16_777_216),
+    }
 }
 
 fn command<'a>(alloc: Global) -> Result<clap::Command<'a>, AllocError>
@@ -27,7 +44,7 @@ fn command<'a>(alloc: Global) -> Result<clap::Command<'a>, AllocError>
 fn decode_in(matches: &ArgMatches) -> Option<CommandLine>
     ensures { result ≡ decode_in (rows_of (found_of matches.now)) }
 {
-    let history = history(matches)?;
+    let history = bytes(matches)?;
     Some(CommandLine::Decode { history })
 }
 

@@ -1,5 +1,5 @@
 ghost use Rattle.std.specs.Prelude.{◌≡◌, ◌==◌, ◌<◌, IfOk, IfSome, length, position, option_map};
-ghost use Rattle.gps_words.specs.Devices.{address_in, halves, is_address, is_port, last_colon, path_in, target_in, target_of, word_in, word_of};
+ghost use Rattle.gps_words.specs.Devices.{address_in, halves, has_port_behind, has_slash, is_address, is_port, last_colon, path_in, target_in, target_of, word_in, word_of};
 
 use gps_fixed::{Bytes, NoMemory, read_whole};
 use gps_report::{Name, NameFault};
@@ -77,10 +77,14 @@ fn is_port(text: &[u8]) -> bool
     }
 }
 
-/// Whether a text is `HOST:PORT`, split at its last `:`.
-#[tactic(auto, unfolding(crate::specs::Devices::is_address))]
-pub fn is_address(text: &[u8]) -> bool
-    ensures { result ≡ is_address text.now }
+fn has_slash(text: &[u8]) -> bool
+    ensures { result ≡ has_slash text.now }
+{
+    text.iter().any(|byte| *byte == b'/')
+}
+
+fn has_port(text: &[u8]) -> bool
+    ensures { result ≡ has_port_behind text.now (last_colon text.now) }
 {
     match last_colon(text) {
         Some(place) => place > 0 && is_port(&text[place + 1..]),
@@ -88,7 +92,15 @@ pub fn is_address(text: &[u8]) -> bool
     }
 }
 
-fn path(alloc: Global, text: &[u8]) -> Result<Option<Bytes>, NoMemory>
+/// Whether a text is `HOST:PORT`, split at its last `:`. The host has no `/`.
+#[tactic(auto, unfolding(crate::specs::Devices::is_address))]
+pub fn is_address(text: &[u8]) -> bool
+    ensures { result ≡ is_address text.now }
+{
+    !has_slash(text) && has_port(text)
+}
+
+pub(crate) fn path(alloc: Global, text: &[u8]) -> Result<Option<Bytes>, NoMemory>
     ensures { IfOk result (λ path. path ≡ path_in text.now) }
 {
     if text.is_empty() {

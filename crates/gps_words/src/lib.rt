@@ -17,6 +17,7 @@ mod serve;
 
 pub use choice::asked;
 pub use command::{CommandLine, WordsFault};
+pub use decode::bytes_within;
 pub use device::{Input, is_address};
 pub use numbers::number_within;
 pub use serve::{ServeNumbers, ServeOptions, serve_asked};

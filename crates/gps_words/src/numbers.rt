@@ -1,6 +1,6 @@
 ghost use Rattle.std.specs.Prelude.{◌≡◌, ◌≤◌, Some, None, if◌then◌else◌, option_map};
 ghost use Rattle.std.specs.List.{list_all};
-ghost use Rattle.gps_words.specs.Numbers.{digits_after, is_digit, is_number_text, number_in, number_or};
+ghost use Rattle.gps_words.specs.Numbers.{digits_after, is_digit, is_number_text, number_if, number_in, number_or};
 
 fn has_digits_alone(text: &str) -> bool
     ensures { result ≡ list_all is_digit text.now }
@@ -44,5 +44,18 @@ pub(crate) fn number_given(text: Option<&str>, default: u32, least: u32, most: u
     match text {
         None => Some(default),
         Some(text) => number_within(text, least, most),
+    }
+}
+
+/// The number of an option that may be left out and is none then.
+pub(crate) fn number_if_given(text: Option<&str>, least: u32, most: u32) -> Option<Option<u32>>
+    ensures { result ≡ number_if least most (option_map (λ t. t.now) text.entry) }
+{
+    match text {
+        None => Some(None),
+        Some(text) => match number_within(text, least, most) {
+            Some(n) => Some(Some(n)),
+            None => None,
+        },
     }
 }

@@ -3,7 +3,7 @@ ghost use Rattle.clap.specs.Simple.{app_of};
 ghost use Rattle.clap.specs.Words.{found_of, rows_of};
 ghost use Rattle.gps_words.specs.Pseudo.{pseudo_app, pseudo_in, pseudo_of};
 
-use crate::decode::history;
+use crate::decode::bytes;
 use crate::options::{bare, matches_in, with_option};
 use crate::{CommandLine, WordsFault};
 use clap::ArgMatches;
@@ -19,7 +19,7 @@ fn command<'a>(alloc: Global) -> Result<clap::Command<'a>, AllocError>
 fn pseudo_in(matches: &ArgMatches) -> Option<CommandLine>
     ensures { result ≡ pseudo_in (rows_of (found_of matches.now)) }
 {
-    let history = history(matches)?;
+    let history = bytes(matches)?;
     Some(CommandLine::Pseudo { history })
 }
 

@@ -1,14 +1,21 @@
 ghost use Rattle.std.specs.Prelude.{◌≡◌, None, IfOk, map, string_bytes};
 ghost use Rattle.clap.specs.Simple.{app_of};
 ghost use Rattle.clap.specs.Words.{found_of, rows_of};
-ghost use Rattle.gps_words.specs.Replay.{queue_in, replay_app, replay_in, replay_of};
+ghost use Rattle.gps_words.specs.Replay.{history_in, queue_in, replay_app, replay_in, replay_of};
 
-use crate::decode::history;
 use crate::numbers::number_given;
 use crate::options::{bare, matches_in, with_option};
 use crate::{CommandLine, WordsFault};
 use clap::ArgMatches;
 use std::alloc::{AllocError, Global};
+
+/// How many symbols a generation of the history has at most.
+#[tactic(auto, using(crate::proofs::Given::first_of_rows))]
+pub(crate) fn history(matches: &ArgMatches) -> Option<u32>
+    ensures { result ≡ history_in (rows_of (found_of matches.now)) }
+{
+    number_given(matches.get_str("history"), 16_777_216, 1, 33_554_432)
+}
 
 /// How many items the outlet of a session keeps at most.
 #[tactic(auto, using(crate::proofs::Given::first_of_rows))]

@@ -3,15 +3,14 @@ ghost use Rattle.clap.specs.Simple.{app_of};
 ghost use Rattle.clap.specs.Words.{found_of, rows_of};
 ghost use Rattle.gps_words.specs.Devices.{shown_devices};
 ghost use Rattle.gps_words.specs.Within.{IsWithin};
-ghost use Rattle.gps_words.specs.Serve.{devices_among, if_address, listen_in, monitor_in, numbers_in, serve_app, serve_asked_of, serve_in, serve_of, shown, wait_in, with_numbers};
+ghost use Rattle.gps_words.specs.Serve.{devices_among, if_address, listen_in, monitor_in, numbers_in, reopen_in, serve_app, serve_asked_of, serve_in, serve_of, shown, stop_in, stop_or, wait_in, with_numbers};
 
 use crate::WordsFault;
-use crate::decode::history;
-use crate::device::{Input, is_address};
+use crate::device::{Input, is_address, path};
 use crate::devices::{Devices, read_devices};
-use crate::numbers::number_given;
+use crate::numbers::{number_given, number_if_given};
 use crate::options::{bare, matches_in, with_list, with_option};
-use crate::replay::queue;
+use crate::replay::{history, queue};
 use clap::ArgMatches;
 use gps_fixed::{Bytes, NoMemory};
 use gps_report::Names;
@@ -28,6 +27,8 @@ pub struct ServeNumbers {
     pub wait: u32,
     /// How many readings each monitor makes, at most 1,000,000.
     pub monitor: u32,
+    /// After how many seconds, 1 to 3,600, a place that has ended or failed is opened again; never if there is none.
+    pub reopen: Option<u32>,
 }
 
 /// The options of `serve`. The devices stand in three lists of one length, in the order of their numbers.
@@ -40,6 +41,8 @@ pub struct ServeOptions {
     /// Where links are taken: `HOST:PORT`.
     pub listen: Bytes,
     pub numbers: ServeNumbers,
+    /// The path of the file whose first byte or end ends the daemon, if there is one.
+    pub stop: Option<Bytes>,
 }
 
 #[tactic(auto, using(crate::proofs::Given::first_of_rows))]
@@ -56,6 +59,13 @@ fn monitor(matches: &ArgMatches) -> Option<u32>
     number_given(matches.get_str("monitor"), 0, 0, 1_000_000)
 }
 
+#[tactic(auto, using(crate::proofs::Given::first_of_rows))]
+fn reopen(matches: &ArgMatches) -> Option<Option<u32>>
+    ensures { result ≡ reopen_in (rows_of (found_of matches.now)) }
+{
+    number_if_given(matches.get_str("reopen"), 1, 3_600)
+}
+
 #[tactic(auto, unfolding(crate::specs::Serve::numbers_in))]
 fn numbers(matches: &ArgMatches) -> Option<ServeNumbers>
     ensures { result ≡ numbers_in (rows_of (found_of matches.now)) }
@@ -64,11 +74,13 @@ fn numbers(matches: &ArgMatches) -> Option<ServeNumbers>
     let history = history(matches)?;
     let wait = wait(matches)?;
     let monitor = monitor(matches)?;
+    let reopen = reopen(matches)?;
     Some(ServeNumbers {
         queue,
         history,
         wait,
         monitor,
+        reopen,
     })
 }
 
@@ -83,6 +95,27 @@ fn listen<'a>(matches: &ArgMatches<'a>) -> &'a str
     }
 }
 
+/// The path that a text is, if it is not left out.
+fn stop_of(alloc: Global, text: Option<&str>) -> Result<Option<Option<Bytes>>, NoMemory>
+    ensures { IfOk result (λ stop. stop ≡ stop_or (option_map (λ t. t.now) text.entry)) }
+{
+    match text {
+        Some(text) => match path(alloc, text.as_bytes())? {
+            Some(path) => Ok(Some(Some(path))),
+            None => Ok(None),
+        },
+        None => Ok(Some(None)),
+    }
+}
+
+/// The path of the file whose first byte or end ends the daemon.
+#[tactic(auto, using(crate::proofs::Given::first_of_rows))]
+fn stop(alloc: Global, matches: &ArgMatches) -> Result<Option<Option<Bytes>>, NoMemory>
+    ensures { IfOk result (λ stop. stop ≡ stop_in (rows_of (found_of matches.now))) }
+{
+    stop_of(alloc, matches.get_str("stop"))
+}
+
 fn with_numbers<'a>(
     command: clap::Command<'a>,
     alloc: Global,
@@ -93,6 +126,7 @@ fn with_numbers<'a>(
     let command = with_option(command, alloc, "history")?;
     let command = with_option(command, alloc, "wait")?;
     let command = with_option(command, alloc, "monitor")?;
+    let command = with_option(command, alloc, "reopen")?;
     Ok(command)
 }
 
@@ -101,6 +135,7 @@ fn command<'a>(alloc: Global) -> Result<clap::Command<'a>, AllocError>
 {
     let command = with_option(bare(alloc, "serve"), alloc, "listen")?;
     let command = with_numbers(command, alloc)?;
+    let command = with_option(command, alloc, "stop")?;
     let command = with_list(command, alloc, "device")?;
     Ok(command)
 }
@@ -110,9 +145,10 @@ fn listening(
     alloc: Global,
     listen: &str,
     numbers: ServeNumbers,
+    stop: Option<Bytes>,
     devices: Devices,
 ) -> Result<Option<ServeOptions>, NoMemory>
-    ensures { IfOk result (λ options. option_map shown options ≡ if_address listen.now numbers (shown_devices devices)) }
+    ensures { IfOk result (λ options. option_map shown options ≡ if_address listen.now numbers stop (shown_devices devices)) }
 {
     if !is_address(listen.as_bytes()) {
         return Ok(None);
@@ -129,6 +165,7 @@ fn listening(
         edges,
         listen,
         numbers,
+        stop,
     }))
 }
 
@@ -149,8 +186,11 @@ fn serve_in(alloc: Global, matches: &ArgMatches) -> Result<Option<ServeOptions>,
     let Some(numbers) = numbers(matches) else {
         return Ok(None);
     };
+    let Some(stop) = stop(alloc, matches)? else {
+        return Ok(None);
+    };
     match devices(alloc, matches)? {
-        Some(devices) => listening(alloc, listen(matches), numbers, devices),
+        Some(devices) => listening(alloc, listen(matches), numbers, stop, devices),
         None => Ok(None),
     }
 }
@@ -187,8 +227,8 @@ fn asked_for(alloc: Global, words: &[String]) -> Result<ServeOptions, WordsFault
 }
 
 /// The options of `serve` that the words ask for. `Refused` comes exactly if the first word is another or is missing, if
-/// `clap` finds a fault in the words or a number's text is none in its range, if the text of `--listen` is no
-/// `HOST:PORT`, or if there are not 1 to 16 device words, which name at most 8 devices: each name has one word that says
+/// `clap` finds a fault in the words or a number's text is none in its range, if the path of `--stop` is empty, if the text of
+/// `--listen` is no `HOST:PORT`, or if there are not 1 to 16 device words, which name at most 8 devices: each name has one word that says
 /// where its bytes come from, and at most one with its edges, behind that.
 pub fn serve_asked(alloc: Global, words: &[String]) -> Result<ServeOptions, WordsFault>
     ensures ok { IfOk result (λ options. serve_asked_of (map string_bytes words.now) ≡ Some (shown options)) }

@@ -1,6 +1,6 @@
 -- What each command does, for a status that words have.
 use Rattle.std.proofs.Common.{◌≡◌, ℕ, List, [], Option, Some, None, ◌⊎◌, inl, inr, refl, sym, ◌∙◌, ap, subst, arith}
-use Rattle.gpsrelay.specs.Calls.{ClockCall, SinkCall, SinkState, SourceCall, SourceState, WriteFailed}
+use Rattle.gpsrelay.specs.Calls.{ClockCall, CountsSatisfy, SinkCall, SinkState, SourceCall, SourceState, WriteFailed}
 use Rattle.gps_outside.specs.Told.{Stream}
 use Rattle.gps_outside.proofs.Writing.{appends_none, part_of}
 use Rattle.line_cut.specs.Lines.{lines as lines_in_text, open_line}
@@ -10,7 +10,9 @@ use Rattle.gps_words.specs.declared.command.CommandLine.TheVariants.{Decode, Pse
 use Rattle.class_counts.specs.declared.outcome.CountOutcome.TheVariants as lines
 use Rattle.gpsrelay.specs.declared.outcome.CommandOutcome.TheVariants.{NoMemory}
 use Rattle.gpsrelay.specs.Commands.{Does, EndsAt, IsWithinLimits, NothingFails}
-use Rattle.gpsrelay.specs.Outcomes.{HasReadCause}
+use Rattle.gpsrelay.specs.Outcomes.{HasReadCause, NothingFailed, StatusHasCause}
+use Rattle.gpsrelay.proofs.Causes.{quiet_never}
+use Rattle.gps_outside.specs.ReadSteps.{IsQuietSometimes}
 use Rattle.gpsrelay.specs.Texts.{line_of, sentences_of}
 use Rattle.gpsrelay.proofs.Decoding as decoding
 use Rattle.gpsrelay.proofs.Statuses as device
@@ -29,14 +31,18 @@ nothing_replayed queue source sink = record {
   ends = inl (inl (omega arith, decoding.passes_none source), part_of [] [] sink sink (appends_none sink));
 }
 
+pub nothing_failed : (source : SourceState) (sink : SinkState)
+    → CountsSatisfy NothingFailed (record { before = source; after = source }) (record { before = sink; after = sink })
+nothing_failed source sink = (refl, quiet_never source.quiets, refl)
+
 -- out of memory before anything is done
 pub nothing_done : (command : CommandLine) (status : ℕ) → status ≡ 7 → (source : SourceState) (sink : SinkState) (clock : Option Dial)
     → Does command status (record { before = source; after = source }) (record { before = sink; after = sink }) (record { before = clock; after = clock })
-nothing_done (Decode history) status is source sink clock = (NoMemory, is, tt, decoding.nothing_done line_of history source.content clock sink.written)
-nothing_done (Pseudo history) status is source sink clock = (NoMemory, is, tt, decoding.nothing_done sentences_of history source.content clock sink.written)
-nothing_done (Replay history queue) status is source sink clock = (play.NoMemory, is, tt, nothing_replayed queue source.content sink.written, refl)
-nothing_done (Generate seed size) status is source sink clock = (play.NoMemory, is, tt, nothing_played seed size sink.written, refl, refl)
-nothing_done Lines status is source sink clock = (lines.NoMemory, is, tt, counted.nothing_counted source.content sink.written, refl)
+nothing_done (Decode history) status is source sink clock = (NoMemory, is, nothing_failed source sink, decoding.nothing_done line_of history source.content clock sink.written)
+nothing_done (Pseudo history) status is source sink clock = (NoMemory, is, nothing_failed source sink, decoding.nothing_done sentences_of history source.content clock sink.written)
+nothing_done (Replay history queue) status is source sink clock = (play.NoMemory, is, nothing_failed source sink, nothing_replayed queue source.content sink.written, refl)
+nothing_done (Generate seed size) status is source sink clock = (play.NoMemory, is, refl, nothing_played seed size sink.written, refl, refl)
+nothing_done Lines status is source sink clock = (lines.NoMemory, is, nothing_failed source sink, counted.nothing_counted source.content sink.written, refl)
 
 module _ (status : ℕ) (source : SourceCall) (sink : SinkCall) (clock : ClockCall) where
   abbrev IsDone : CommandLine → Type 0
@@ -62,6 +68,13 @@ module _ (status : ℕ) (source : SourceCall) (sink : SinkCall) (clock : ClockCa
   write_cause (Replay history queue) done e = played.write_cause done.0 source sink done.2 (sym done.1 ∙ e)
   write_cause (Generate seed size) done e = played.made_write_cause done.0 sink done.2 (sym done.1 ∙ e)
   write_cause Lines done e = counted.write_cause done.0 source sink done.2 (sym done.1 ∙ e)
+
+  has_cause : (command : CommandLine) → IsDone command → StatusHasCause status source sink
+  has_cause (Decode history) done = subst (λ s. StatusHasCause s source sink) (sym done.1) (device.has_cause done.0 source sink done.2)
+  has_cause (Pseudo history) done = subst (λ s. StatusHasCause s source sink) (sym done.1) (device.has_cause done.0 source sink done.2)
+  has_cause (Replay history queue) done = subst (λ s. StatusHasCause s source sink) (sym done.1) (played.has_cause done.0 source sink done.2)
+  has_cause (Generate seed size) done = subst (λ s. StatusHasCause s source sink) (sym done.1) (played.made_has_cause done.0 source sink done.4 done.2)
+  has_cause Lines done = subst (λ s. StatusHasCause s source sink) (sym done.1) (counted.has_cause done.0 source sink done.2)
 
   pub ends : (command : CommandLine) → IsDone command → NothingFails source sink → EndsAt command status
   ends (Decode history) done sound = subst (λ s. EndsAt (Decode history) s) (sym done.1) (device.ends_by_itself done.0 source sink done.2 sound)
@@ -95,3 +108,18 @@ module _ (status : ℕ) (source : SourceCall) (sink : SinkCall) (clock : ClockCa
       → status ≡ 4 → WriteFailed sink
   write_fault None only does e = elim (only refl) [ inl two ↦ absurd (omega (arith, two, e)) | inr seven ↦ absurd (omega (arith, seven, e)) ]
   write_fault (Some command) only does e = write_cause command (does command refl) e
+
+  pub caused : (asked : Option CommandLine) → (asked ≡ None → (status ≡ 2) ⊎ (status ≡ 7)) → (asked ≡ None → (source.after ≡ source.before) × (sink.after ≡ sink.before))
+      → ((command : CommandLine) → asked ≡ Some command → IsDone command)
+      → StatusHasCause status source sink
+  caused None only same does =
+      inr (inr (
+        λ e. elim (only refl) [ inl two ↦ absurd (omega (arith, two, e)) | inr seven ↦ absurd (omega (arith, seven, e)) ],
+        λ e. elim (only refl) [ inl two ↦ absurd (omega (arith, two, e)) | inr seven ↦ absurd (omega (arith, seven, e)) ],
+        (
+          ap (λ s. s.faults) (same refl).0,
+          subst (λ s. IsQuietSometimes source.before.quiets s.quiets) (sym (same refl).0) (quiet_never source.before.quiets),
+          ap (λ s. s.faults) (same refl).1,
+        ),
+      ))
+  caused (Some command) only same does = has_cause command (does command refl)

@@ -10,7 +10,7 @@ use Rattle.gps_report.specs.declared.report.Body.{Body}
 use Rattle.gps_outside.specs.Told.{Stream, Goes, Stays, Passes, Appends, AppendsPart}
 use Rattle.gps_outside.specs.Waiting.{Waits}
 use Rattle.gps_outside.specs.Ticks.{Dial, Gives, GivesAll}
-use Rattle.gps_outside.specs.Counts.{Rose}
+use Rattle.gps_outside.specs.Counts.{one_more}
 use Rattle.gps_outside.specs.ReadSteps.{Budget, FitsRoom, Spends, Hands, HasTaken, TakesAll, TakesSome, PassesMore}
 use Rattle.gps_outside.specs.declared.intake.IntakeStep.TheVariants.{Piece, Quiet, Last, End, Failed, TooQuiet}
 use Rattle.gps_outside.proofs.Going.{goes_on}
@@ -96,10 +96,10 @@ module _ (says : Texts) where
   texts_next stream more out gains = ap (texts_of says) gains ∙ texts_join (device_reports stream) out
 
   -- So far these readings were handed on, the device stands for their stream, and its lines were written but for those that wait.
-  pub record UnderWay (history : ℕ) (budget : Budget) (kept : DeviceKept) (source source' : Option Stream) (quiets quiets' : ℕ) (clock clock' : Option Dial) (waits : List ℕ) (sink sink' : Option (List ℕ)) : Type 0 where
+  pub record UnderWay (history : ℕ) (budget : Budget) (kept : DeviceKept) (source source' : Option Stream) (faults faults' quiets quiets' : ℕ) (clock clock' : Option Dial) (waits : List ℕ) (sink sink' : Option (List ℕ)) : Type 0 where
     pub readings : List Reading
     pub pieces : ArePieces readings
-    pub taken : HasTaken history (bytes_of readings) budget source source' quiets quiets'
+    pub taken : HasTaken history (bytes_of readings) budget source source' faults faults' quiets quiets'
     pub stamps : Goes (GivesAll (stamps_of readings)) clock clock'
     pub stands : StandsFor kept (stream_of readings)
     pub wrote : Waits (texts_so_far says (stream_of readings)) waits sink sink'
@@ -108,33 +108,33 @@ module _ (says : Texts) where
   unfolding reports_from
   no_texts = refl
 
-  pub begun : (history : ℕ) (budget : Budget) (kept : DeviceKept) (source : Option Stream) (quiets : ℕ) (clock : Option Dial) (waits : List ℕ) (sink : Option (List ℕ))
+  pub begun : (history : ℕ) (budget : Budget) (kept : DeviceKept) (source : Option Stream) (faults quiets : ℕ) (clock : Option Dial) (waits : List ℕ) (sink : Option (List ℕ))
       → budget ≡ record { room = history; quiets = 0 } → StandsFor kept [] → waits ≡ []
-      → UnderWay history budget kept source source quiets quiets clock clock waits sink sink
-  begun history budget kept source quiets clock waits sink new stands none = record {
+      → UnderWay history budget kept source source faults faults quiets quiets clock clock waits sink sink
+  begun history budget kept source faults quiets clock waits sink new stands none = record {
     readings = [];
     pieces = tt;
-    taken = taken_none history budget source quiets new;
+    taken = taken_none history budget source faults quiets new;
     stamps = no_stamps clock;
     stands = stands;
     wrote = subst (λ w. Waits (texts_so_far says []) w sink sink) (sym none) (subst (λ l. Waits l [] sink sink) (sym no_texts) (nothing_waits [] sink));
   }
 
   pub after_piece : (n history : ℕ) (buf : List ℕ) (budget budget' : Budget) (kept kept' : DeviceKept) (at : Moment)
-      (source now after : Option Stream) (quiets quiets' quiets'' : ℕ) (clock clock' clock'' : Option Dial) (waits waits' : List ℕ) (sink sink' sink'' : Option (List ℕ))
-      → UnderWay history budget kept source now quiets quiets' clock clock' waits sink sink'
-      → length buf ≡ 512 → FitsRoom (Piece n) (length buf) → Spends (Piece n) budget budget' → Hands (Piece n) buf now after → quiets' ≤ quiets''
+      (source now after : Option Stream) (faults faults' faults'' quiets quiets' quiets'' : ℕ) (clock clock' clock'' : Option Dial) (waits waits' : List ℕ) (sink sink' sink'' : Option (List ℕ))
+      → UnderWay history budget kept source now faults faults' quiets quiets' clock clock' waits sink sink'
+      → length buf ≡ 512 → FitsRoom (Piece n) (length buf) → Spends (Piece n) budget budget' → Hands (Piece n) buf now after → faults'' ≡ faults' → quiets'' ≡ quiets'
       → Goes (Gives at) clock' clock''
       → ((stream : List Symbol) → StandsFor kept stream → HandsOn {X = Unit {0}} says (Ok tt) stream (piece at (take n buf)) kept' waits waits' sink' sink'')
-      → UnderWay history budget' kept' source after quiets quiets'' clock clock'' waits' sink sink''
-  after_piece n history buf budget budget' kept kept' at source now after quiets quiets' quiets'' clock clock' clock'' waits waits' sink sink' sink'' u long fits spent handed more given lines =
+      → UnderWay history budget' kept' source after faults faults'' quiets quiets'' clock clock'' waits' sink sink''
+  after_piece n history buf budget budget' kept kept' at source now after faults faults' faults'' quiets quiets' quiets'' clock clock' clock'' waits waits' sink sink' sink'' u long fits spent handed same still given lines =
       let s : List Symbol = stream_of u.readings in
       let h : HandsOn {X = Unit {0}} says (Ok tt) s (piece at (take n buf)) kept' waits waits' sink' sink'' = lines s u.stands in
       record {
         readings = with_next u.readings at (take n buf);
         pieces = pieces_next u.readings (record { at = at; bytes = take n buf }) u.pieces (is_piece n buf at fits long);
-        taken = subst (λ b. HasTaken history b budget' source after quiets quiets'') (sym (bytes_next u.readings at (take n buf)))
-            (taken_piece n history (bytes_of u.readings) buf budget budget' source now after quiets quiets' quiets'' u.taken fits spent handed more);
+        taken = subst (λ b. HasTaken history b budget' source after faults faults'' quiets quiets'') (sym (bytes_next u.readings at (take n buf)))
+            (taken_piece n history (bytes_of u.readings) buf budget budget' source now after faults faults' faults'' quiets quiets' quiets'' u.taken fits spent handed same still);
         stamps = stamps_on u.readings at (take n buf) clock clock' clock'' u.stamps given;
         stands = subst (λ t. StandsFor kept' t) (sym (stream_next u.readings at (take n buf))) h.0;
         wrote = subst (λ t. Waits (texts_so_far says t) waits' sink sink'') (sym (stream_next u.readings at (take n buf)))
@@ -144,14 +144,14 @@ module _ (says : Texts) where
       }
 
   pub after_quiet : (history : ℕ) (buf : List ℕ) (budget budget' : Budget) (kept : DeviceKept)
-      (source now after : Option Stream) (quiets quiets' quiets'' : ℕ) (clock clock' : Option Dial) (waits : List ℕ) (sink sink' : Option (List ℕ))
-      → UnderWay history budget kept source now quiets quiets' clock clock' waits sink sink'
-      → Spends Quiet budget budget' → Hands Quiet buf now after → Rose quiets' quiets''
-      → UnderWay history budget' kept source after quiets quiets'' clock clock' waits sink sink'
-  after_quiet history buf budget budget' kept source now after quiets quiets' quiets'' clock clock' waits sink sink' u spent handed rose = record {
+      (source now after : Option Stream) (faults faults' faults'' quiets quiets' quiets'' : ℕ) (clock clock' : Option Dial) (waits : List ℕ) (sink sink' : Option (List ℕ))
+      → UnderWay history budget kept source now faults faults' quiets quiets' clock clock' waits sink sink'
+      → Spends Quiet budget budget' → Hands Quiet buf now after → faults'' ≡ faults' → quiets'' ≡ one_more quiets'
+      → UnderWay history budget' kept source after faults faults'' quiets quiets'' clock clock' waits sink sink'
+  after_quiet history buf budget budget' kept source now after faults faults' faults'' quiets quiets' quiets'' clock clock' waits sink sink' u spent handed same next = record {
     readings = u.readings;
     pieces = u.pieces;
-    taken = taken_quiet history (bytes_of u.readings) buf budget budget' source now after quiets quiets' quiets'' u.taken spent handed rose;
+    taken = taken_quiet history (bytes_of u.readings) buf budget budget' source now after faults faults' faults'' quiets quiets' quiets'' u.taken spent handed same next;
     stamps = u.stamps;
     stands = u.stands;
     wrote = u.wrote;
@@ -205,51 +205,51 @@ module _ (says : Texts) where
   }
 
   pub broken_in_piece : (n history : ℕ) (buf : List ℕ) (budget budget' : Budget) (kept kept' : DeviceKept) (at : Moment) (fault : Fault)
-      (source now after : Option Stream) (quiets quiets' quiets'' : ℕ) (clock clock' clock'' : Option Dial) (waits waits' : List ℕ) (sink sink' sink'' : Option (List ℕ))
-      → UnderWay history budget kept source now quiets quiets' clock clock' waits sink sink'
-      → length buf ≡ 512 → FitsRoom (Piece n) (length buf) → Spends (Piece n) budget budget' → Hands (Piece n) buf now after → quiets' ≤ quiets''
+      (source now after : Option Stream) (faults faults' faults'' quiets quiets' quiets'' : ℕ) (clock clock' clock'' : Option Dial) (waits waits' : List ℕ) (sink sink' sink'' : Option (List ℕ))
+      → UnderWay history budget kept source now faults faults' quiets quiets' clock clock' waits sink sink'
+      → length buf ≡ 512 → FitsRoom (Piece n) (length buf) → Spends (Piece n) budget budget' → Hands (Piece n) buf now after → faults'' ≡ faults' → quiets'' ≡ quiets'
       → Goes (Gives at) clock' clock''
       → ((stream : List Symbol) → StandsFor kept stream → HandsOn {X = Unit {0}} says (Err fault) stream (piece at (take n buf)) kept' waits waits' sink' sink'')
       → (outcome : CommandOutcome) → outcome ≡ outcome_of fault
       → Decoded says outcome history source after clock clock'' sink sink''
-  broken_in_piece n history buf budget budget' kept kept' at fault source now after quiets quiets' quiets'' clock clock' clock'' waits waits' sink sink' sink'' u long fits spent handed more given lines outcome is =
-      let all : HasTaken history (bytes_of u.readings ++ take n buf) budget' source after quiets quiets'' =
-      taken_piece n history (bytes_of u.readings) buf budget budget' source now after quiets quiets' quiets'' u.taken fits spent handed more in
+  broken_in_piece n history buf budget budget' kept kept' at fault source now after faults faults' faults'' quiets quiets' quiets'' clock clock' clock'' waits waits' sink sink' sink'' u long fits spent handed same still given lines outcome is =
+      let all : HasTaken history (bytes_of u.readings ++ take n buf) budget' source after faults faults'' quiets quiets'' =
+      taken_piece n history (bytes_of u.readings) buf budget budget' source now after faults faults' faults'' quiets quiets' quiets'' u.taken fits spent handed same still in
       subst (λ o. Decoded says o history source after clock clock'' sink sink'') (sym is) (broken_off fault history u.readings at (take n buf) kept' source after clock clock' clock'' waits waits' sink sink' sink''
       (inl (pieces_next u.readings (record { at = at; bytes = take n buf }) u.pieces (is_piece n buf at fits long)))
       (inl (let r = all.room in omega arith, all.passed))
       u.stamps given u.wrote (lines (stream_of u.readings) u.stands))
 
   pub broken_in_last : (n history : ℕ) (buf : List ℕ) (budget budget' : Budget) (kept kept' : DeviceKept) (at : Moment) (fault : Fault)
-      (source now after : Option Stream) (quiets quiets' : ℕ) (clock clock' clock'' : Option Dial) (waits waits' : List ℕ) (sink sink' sink'' : Option (List ℕ))
-      → UnderWay history budget kept source now quiets quiets' clock clock' waits sink sink'
+      (source now after : Option Stream) (faults faults' quiets quiets' : ℕ) (clock clock' clock'' : Option Dial) (waits waits' : List ℕ) (sink sink' sink'' : Option (List ℕ))
+      → UnderWay history budget kept source now faults faults' quiets quiets' clock clock' waits sink sink'
       → length buf ≡ 512 → FitsRoom (Last n) (length buf) → Spends (Last n) budget budget' → Hands (Last n) buf now after
       → Goes (Gives at) clock' clock''
       → ((stream : List Symbol) → StandsFor kept stream → HandsOn {X = Unit {0}} says (Err fault) stream (piece at (take n buf)) kept' waits waits' sink' sink'')
       → (outcome : CommandOutcome) → outcome ≡ outcome_of fault
       → Decoded says outcome history source after clock clock'' sink sink''
-  broken_in_last n history buf budget budget' kept kept' at fault source now after quiets quiets' clock clock' clock'' waits waits' sink sink' sink'' u long fits spent handed given lines outcome is =
+  broken_in_last n history buf budget budget' kept kept' at fault source now after faults faults' quiets quiets' clock clock' clock'' waits waits' sink sink' sink'' u long fits spent handed given lines outcome is =
       let all : (length (bytes_of u.readings ++ take n buf) ≡ history) × Goes (PassesMore (bytes_of u.readings ++ take n buf)) source after =
-      ends_full n history (bytes_of u.readings) buf budget budget' source now after quiets quiets' u.taken fits spent handed in
+      ends_full n history (bytes_of u.readings) buf budget budget' source now after faults faults' quiets quiets' u.taken fits spent handed in
       subst (λ o. Decoded says o history source after clock clock'' sink sink'') (sym is) (broken_off fault history u.readings at (take n buf) kept' source after clock clock' clock'' waits waits' sink sink' sink''
       (inr (passes_history n u.readings at buf u.pieces fits long))
       (inr all)
       u.stamps given u.wrote (lines (stream_of u.readings) u.stands))
 
   pub filled : (n history : ℕ) (buf : List ℕ) (budget budget' : Budget) (kept kept' : DeviceKept) (at : Moment)
-      (source now after : Option Stream) (quiets quiets' : ℕ) (clock clock' clock'' : Option Dial) (waits : List ℕ) (sink sink' sink'' : Option (List ℕ))
-      → UnderWay history budget kept source now quiets quiets' clock clock' waits sink sink'
+      (source now after : Option Stream) (faults faults' quiets quiets' : ℕ) (clock clock' clock'' : Option Dial) (waits : List ℕ) (sink sink' sink'' : Option (List ℕ))
+      → UnderWay history budget kept source now faults faults' quiets quiets' clock clock' waits sink sink'
       → length buf ≡ 512 → FitsRoom (Last n) (length buf) → Spends (Last n) budget budget' → Hands (Last n) buf now after
       → Goes (Gives at) clock' clock''
       → ((stream : List Symbol) → StandsFor kept stream → HandsOn {X = Unit {0}} says (Ok tt) stream (piece at (take n buf)) kept' waits [] sink' sink'')
       → Decoded says Full history source after clock clock'' sink sink''
-  filled n history buf budget budget' kept kept' at source now after quiets quiets' clock clock' clock'' waits sink sink' sink'' u long fits spent handed given lines =
+  filled n history buf budget budget' kept kept' at source now after faults faults' quiets quiets' clock clock' clock'' waits sink sink' sink'' u long fits spent handed given lines =
       let s : List Symbol = stream_of u.readings in
       let h : HandsOn {X = Unit {0}} says (Ok tt) s (piece at (take n buf)) kept' waits [] sink' sink'' = lines s u.stands in
       let next : List Reading = with_next u.readings at (take n buf) in
       let read : (length (bytes_of next) ≡ history) × Goes (PassesMore (bytes_of next)) source after =
       subst (λ b. (length b ≡ history) × Goes (PassesMore b) source after) (sym (bytes_next u.readings at (take n buf)))
-      (ends_full n history (bytes_of u.readings) buf budget budget' source now after quiets quiets' u.taken fits spent handed) in
+      (ends_full n history (bytes_of u.readings) buf budget budget' source now after faults faults' quiets quiets' u.taken fits spent handed) in
       record {
         readings = next;
         reads = passes_history n u.readings at buf u.pieces fits long;
@@ -266,14 +266,14 @@ module _ (says : Texts) where
       }
 
   pub ended : (history : ℕ) (buf : List ℕ) (budget : Budget) (kept : DeviceKept)
-      (source now after : Option Stream) (quiets quiets' : ℕ) (clock clock' : Option Dial) (waits : List ℕ) (sink sink' sink'' : Option (List ℕ))
-      → UnderWay history budget kept source now quiets quiets' clock clock' waits sink sink'
+      (source now after : Option Stream) (faults faults' quiets quiets' : ℕ) (clock clock' : Option Dial) (waits : List ℕ) (sink sink' sink'' : Option (List ℕ))
+      → UnderWay history budget kept source now faults faults' quiets quiets' clock clock' waits sink sink'
       → Hands End buf now after
       → ((stream : List Symbol) → StandsFor kept stream → Written {X = Unit {0}} (Ok tt) (texts_of says (device_close stream)) waits [] sink' sink'')
       → Decoded says Done history source after clock clock' sink sink''
-  ended history buf budget kept source now after quiets quiets' clock clock' waits sink sink' sink'' u handed lines =
+  ended history buf budget kept source now after faults faults' quiets quiets' clock clock' waits sink sink' sink'' u handed lines =
       let read : (length (bytes_of u.readings) ≤ history) × Goes (TakesAll (bytes_of u.readings)) source after =
-      ends_at_end history (bytes_of u.readings) buf budget source now after quiets quiets' u.taken handed in
+      ends_at_end history (bytes_of u.readings) buf budget source now after faults faults' quiets quiets' u.taken handed in
       record {
         readings = u.readings;
         reads = u.pieces;
@@ -288,14 +288,14 @@ module _ (says : Texts) where
       }
 
   at_end_broken : (history : ℕ) (buf : List ℕ) (budget : Budget) (kept : DeviceKept) (fault : Fault)
-      (source now after : Option Stream) (quiets quiets' : ℕ) (clock clock' : Option Dial) (waits : List ℕ) (sink sink' sink'' : Option (List ℕ))
-      → UnderWay history budget kept source now quiets quiets' clock clock' waits sink sink'
+      (source now after : Option Stream) (faults faults' quiets quiets' : ℕ) (clock clock' : Option Dial) (waits : List ℕ) (sink sink' sink'' : Option (List ℕ))
+      → UnderWay history budget kept source now faults faults' quiets quiets' clock clock' waits sink sink'
       → Hands End buf now after
       → ((stream : List Symbol) → StandsFor kept stream → Written {X = Unit {0}} (Err fault) (texts_of says (device_close stream)) waits [] sink' sink'')
       → Decoded says (outcome_of fault) history source after clock clock' sink sink''
-  at_end_broken history buf budget kept Sink source now after quiets quiets' clock clock' waits sink sink' sink'' u handed lines =
+  at_end_broken history buf budget kept Sink source now after faults faults' quiets quiets' clock clock' waits sink sink' sink'' u handed lines =
       let read : (length (bytes_of u.readings) ≤ history) × Goes (TakesAll (bytes_of u.readings)) source after =
-      ends_at_end history (bytes_of u.readings) buf budget source now after quiets quiets' u.taken handed in
+      ends_at_end history (bytes_of u.readings) buf budget source now after faults faults' quiets quiets' u.taken handed in
       record {
         readings = u.readings;
         reads = inl u.pieces;
@@ -307,9 +307,9 @@ module _ (says : Texts) where
               (waits_more (texts_so_far says (stream_of u.readings)) waits (texts_of says (device_close (stream_of u.readings))) sink sink' u.wrote) (lines (stream_of u.readings) u.stands),
         );
       }
-  at_end_broken history buf budget kept NoMemoryFault source now after quiets quiets' clock clock' waits sink sink' sink'' u handed lines =
+  at_end_broken history buf budget kept NoMemoryFault source now after faults faults' quiets quiets' clock clock' waits sink sink' sink'' u handed lines =
       let read : (length (bytes_of u.readings) ≤ history) × Goes (TakesAll (bytes_of u.readings)) source after =
-      ends_at_end history (bytes_of u.readings) buf budget source now after quiets quiets' u.taken handed in
+      ends_at_end history (bytes_of u.readings) buf budget source now after faults faults' quiets quiets' u.taken handed in
       record {
         readings = u.readings;
         reads = inl u.pieces;
@@ -323,45 +323,45 @@ module _ (says : Texts) where
       }
 
   pub broken_at_end : (history : ℕ) (buf : List ℕ) (budget : Budget) (kept : DeviceKept) (fault : Fault)
-      (source now after : Option Stream) (quiets quiets' : ℕ) (clock clock' : Option Dial) (waits : List ℕ) (sink sink' sink'' : Option (List ℕ))
-      → UnderWay history budget kept source now quiets quiets' clock clock' waits sink sink'
+      (source now after : Option Stream) (faults faults' quiets quiets' : ℕ) (clock clock' : Option Dial) (waits : List ℕ) (sink sink' sink'' : Option (List ℕ))
+      → UnderWay history budget kept source now faults faults' quiets quiets' clock clock' waits sink sink'
       → Hands End buf now after
       → ((stream : List Symbol) → StandsFor kept stream → Written {X = Unit {0}} (Err fault) (texts_of says (device_close stream)) waits [] sink' sink'')
       → (outcome : CommandOutcome) → outcome ≡ outcome_of fault
       → Decoded says outcome history source after clock clock' sink sink''
-  broken_at_end history buf budget kept fault source now after quiets quiets' clock clock' waits sink sink' sink'' u handed lines outcome is =
+  broken_at_end history buf budget kept fault source now after faults faults' quiets quiets' clock clock' waits sink sink' sink'' u handed lines outcome is =
       subst (λ o. Decoded says o history source after clock clock' sink sink'') (sym is)
-      (at_end_broken history buf budget kept fault source now after quiets quiets' clock clock' waits sink sink' sink'' u handed lines)
+      (at_end_broken history buf budget kept fault source now after faults faults' quiets quiets' clock clock' waits sink sink' sink'' u handed lines)
 
   pub failed : (history : ℕ) (buf : List ℕ) (budget : Budget) (kept : DeviceKept)
-      (source now after : Option Stream) (quiets quiets' : ℕ) (clock clock' : Option Dial) (waits : List ℕ) (sink sink' sink'' : Option (List ℕ))
-      → UnderWay history budget kept source now quiets quiets' clock clock' waits sink sink'
+      (source now after : Option Stream) (faults faults' quiets quiets' : ℕ) (clock clock' : Option Dial) (waits : List ℕ) (sink sink' sink'' : Option (List ℕ))
+      → UnderWay history budget kept source now faults faults' quiets quiets' clock clock' waits sink sink'
       → Hands Failed buf now after
       → Goes (Appends waits) sink' sink''
       → Decoded says ReadFault history source after clock clock' sink sink''
-  failed history buf budget kept source now after quiets quiets' clock clock' waits sink sink' sink'' u handed flushed =
+  failed history buf budget kept source now after faults faults' quiets quiets' clock clock' waits sink sink' sink'' u handed flushed =
       let read : (length (bytes_of u.readings) ≤ history) × Goes (TakesSome (bytes_of u.readings)) source after =
-      ends_failed history (bytes_of u.readings) buf budget source now after quiets quiets' u.taken handed in
+      ends_failed history (bytes_of u.readings) buf budget source now after faults faults' quiets quiets' u.taken handed in
       record { readings = u.readings; reads = u.pieces; stamps = u.stamps; ends = (read.0, read.1, waits_all (texts_so_far says (stream_of u.readings)) waits sink sink' sink'' u.wrote flushed) }
 
   pub too_quiet : (history : ℕ) (buf : List ℕ) (budget : Budget) (kept : DeviceKept)
-      (source now after : Option Stream) (quiets quiets' : ℕ) (clock clock' : Option Dial) (waits : List ℕ) (sink sink' sink'' : Option (List ℕ))
-      → UnderWay history budget kept source now quiets quiets' clock clock' waits sink sink'
+      (source now after : Option Stream) (faults faults' quiets quiets' : ℕ) (clock clock' : Option Dial) (waits : List ℕ) (sink sink' sink'' : Option (List ℕ))
+      → UnderWay history budget kept source now faults faults' quiets quiets' clock clock' waits sink sink'
       → Hands TooQuiet buf now after
       → Goes (Appends waits) sink' sink''
       → Decoded says QuietOutcome history source after clock clock' sink sink''
-  too_quiet history buf budget kept source now after quiets quiets' clock clock' waits sink sink' sink'' u handed flushed =
+  too_quiet history buf budget kept source now after faults faults' quiets quiets' clock clock' waits sink sink' sink'' u handed flushed =
       let all : (length (bytes_of u.readings) ≤ history) × Goes (Passes (bytes_of u.readings)) source after =
-      ends_too_quiet history (bytes_of u.readings) buf budget source now after quiets quiets' u.taken handed in
+      ends_too_quiet history (bytes_of u.readings) buf budget source now after faults faults' quiets quiets' u.taken handed in
       record { readings = u.readings; reads = u.pieces; stamps = u.stamps; ends = (all.0, all.1, waits_all (texts_so_far says (stream_of u.readings)) waits sink sink' sink'' u.wrote flushed) }
 
   -- the sink failed before the next read
   pub not_flushed : (history : ℕ) (budget : Budget) (kept : DeviceKept)
-      (source now : Option Stream) (quiets quiets' : ℕ) (clock clock' : Option Dial) (waits : List ℕ) (sink sink' sink'' : Option (List ℕ))
-      → UnderWay history budget kept source now quiets quiets' clock clock' waits sink sink'
+      (source now : Option Stream) (faults faults' quiets quiets' : ℕ) (clock clock' : Option Dial) (waits : List ℕ) (sink sink' sink'' : Option (List ℕ))
+      → UnderWay history budget kept source now faults faults' quiets quiets' clock clock' waits sink sink'
       → Goes (AppendsPart waits) sink' sink''
       → Decoded says WriteFault history source now clock clock' sink sink''
-  not_flushed history budget kept source now quiets quiets' clock clock' waits sink sink' sink'' u part = record {
+  not_flushed history budget kept source now faults faults' quiets quiets' clock clock' waits sink sink' sink'' u part = record {
     readings = u.readings;
     reads = inl u.pieces;
     stamps = u.stamps;
@@ -373,11 +373,11 @@ module _ (says : Texts) where
 
   -- what waited was written before the next read, or goes on waiting
   pub ready_or_flushed : (history : ℕ) (budget : Budget) (kept : DeviceKept)
-      (source now : Option Stream) (quiets quiets' : ℕ) (clock clock' : Option Dial) (waits waits' : List ℕ) (sink sink' sink'' : Option (List ℕ))
-      → UnderWay history budget kept source now quiets quiets' clock clock' waits sink sink'
+      (source now : Option Stream) (faults faults' quiets quiets' : ℕ) (clock clock' : Option Dial) (waits waits' : List ℕ) (sink sink' sink'' : Option (List ℕ))
+      → UnderWay history budget kept source now faults faults' quiets quiets' clock clock' waits sink sink'
       → Waits waits waits' sink' sink''
-      → UnderWay history budget kept source now quiets quiets' clock clock' waits' sink sink''
-  ready_or_flushed history budget kept source now quiets quiets' clock clock' waits waits' sink sink' sink'' u wrote = record {
+      → UnderWay history budget kept source now faults faults' quiets quiets' clock clock' waits' sink sink''
+  ready_or_flushed history budget kept source now faults faults' quiets quiets' clock clock' waits waits' sink sink' sink'' u wrote = record {
     readings = u.readings;
     pieces = u.pieces;
     taken = u.taken;
@@ -388,14 +388,14 @@ module _ (says : Texts) where
 
   -- the sink failed after a read that brought nothing and lost nothing
   pub unwritten : (history : ℕ) (buf : List ℕ) (budget : Budget) (kept : DeviceKept)
-      (source now after : Option Stream) (quiets quiets' : ℕ) (clock clock' : Option Dial) (waits : List ℕ) (sink sink' sink'' : Option (List ℕ))
-      → UnderWay history budget kept source now quiets quiets' clock clock' waits sink sink'
+      (source now after : Option Stream) (faults faults' quiets quiets' : ℕ) (clock clock' : Option Dial) (waits : List ℕ) (sink sink' sink'' : Option (List ℕ))
+      → UnderWay history budget kept source now faults faults' quiets quiets' clock clock' waits sink sink'
       → Goes Stays now after
       → Goes (AppendsPart waits) sink' sink''
       → Decoded says WriteFault history source after clock clock' sink sink''
-  unwritten history buf budget kept source now after quiets quiets' clock clock' waits sink sink' sink'' u same part =
+  unwritten history buf budget kept source now after faults faults' quiets quiets' clock clock' waits sink sink' sink'' u same part =
       let all : (length (bytes_of u.readings) ≤ history) × Goes (Passes (bytes_of u.readings)) source after =
-      ends_too_quiet history (bytes_of u.readings) buf budget source now after quiets quiets' u.taken same in
+      ends_too_quiet history (bytes_of u.readings) buf budget source now after faults faults' quiets quiets' u.taken same in
       record {
         readings = u.readings;
         reads = inl u.pieces;

@@ -3,5 +3,6 @@ pub mod Decoding
 pub mod LineStatuses
 pub mod PlayStatuses
 pub mod Statuses
+pub mod Causes
 pub mod Serving
 pub mod QuietTexts

@@ -1,18 +1,21 @@
 -- What the status of a play says of its outcome.
-use Rattle.std.proofs.Common.{◌≡◌, ℕ, Option, Some, None, ◌⊎◌, inl, inr, refl, sym, ◌∙◌, ap, arith}
+use Rattle.std.proofs.Common.{◌≡◌, ◌⊎◌, inl, inr, refl, sym, ap, subst, arith}
 use Rattle.gpsrelay.specs.Calls.{CountsSatisfy, SinkCall, SourceCall, WriteFailed}
 use Rattle.line_player.specs.declared.outcome.PlayOutcome.{PlayOutcome}
 use Rattle.line_player.specs.declared.outcome.PlayOutcome.TheVariants.{Done, ReadFault, TooQuiet, WriteFault, Full, BadLine, NoMemory}
 use Rattle.line_player.specs.Outcomes.{status_of, PlayHasCause}
 use Rattle.gps_replay.specs.Generated.{GeneratedCause}
 use Rattle.gpsrelay.specs.Commands.{NothingFails}
-use Rattle.gpsrelay.specs.Outcomes.{HasReadCause}
+use Rattle.gpsrelay.specs.Outcomes.{HasReadCause, StatusHasCause}
+use Rattle.gpsrelay.proofs.Causes.{quiet_long, quiet_never}
+use Rattle.gps_outside.specs.ReadSteps.{IsQuietSometimes}
+use Rattle.gps_outside.specs.declared.whole.ReadEnd.TheVariants.{AtEnd}
 
 pub read_cause : (outcome : PlayOutcome) (source : SourceCall) (sink : SinkCall)
     → CountsSatisfy (PlayHasCause outcome) source sink → status_of outcome ≡ 3 → HasReadCause source
 read_cause Done source sink cause e = absurd (omega (arith, e))
-read_cause ReadFault source sink cause e = inl cause
-read_cause TooQuiet source sink cause e = inr cause
+read_cause ReadFault source sink cause e = inl cause.0
+read_cause TooQuiet source sink cause e = inr (quiet_long source.before.quiets source.after.quiets cause.1)
 read_cause WriteFault source sink cause e = absurd (omega (arith, e))
 read_cause Full source sink cause e = absurd (omega (arith, e))
 read_cause BadLine source sink cause e = absurd (omega (arith, e))
@@ -23,10 +26,20 @@ pub write_cause : (outcome : PlayOutcome) (source : SourceCall) (sink : SinkCall
 write_cause Done source sink cause e = absurd (omega (arith, e))
 write_cause ReadFault source sink cause e = absurd (omega (arith, e))
 write_cause TooQuiet source sink cause e = absurd (omega (arith, e))
-write_cause WriteFault source sink cause e = cause
+write_cause WriteFault source sink cause e = cause.2
 write_cause Full source sink cause e = absurd (omega (arith, e))
 write_cause BadLine source sink cause e = absurd (omega (arith, e))
 write_cause NoMemory source sink cause e = absurd (omega (arith, e))
+
+pub has_cause : (outcome : PlayOutcome) (source : SourceCall) (sink : SinkCall)
+    → CountsSatisfy (PlayHasCause outcome) source sink → StatusHasCause (status_of outcome) source sink
+has_cause Done source sink cause = inr (inr (λ e. omega (arith, e), λ e. omega (arith, e), cause))
+has_cause ReadFault source sink cause = inl (refl, (inl (cause.0, cause.1), cause.2))
+has_cause TooQuiet source sink cause = inl (refl, (inr (cause.0, cause.1), cause.2))
+has_cause WriteFault source sink cause = inr (inl (refl, ((AtEnd, (cause.0, cause.1)), cause.2)))
+has_cause Full source sink cause = inr (inr (λ e. omega (arith, e), λ e. omega (arith, e), cause))
+has_cause BadLine source sink cause = inr (inr (λ e. omega (arith, e), λ e. omega (arith, e), cause))
+has_cause NoMemory source sink cause = inr (inr (λ e. omega (arith, e), λ e. omega (arith, e), cause))
 
 pub not_refused : (outcome : PlayOutcome) → status_of outcome ≡ 2 → ⊥
 not_refused Done e = omega (arith, e)
@@ -43,9 +56,9 @@ pub ends_by_itself : (outcome : PlayOutcome) (source : SourceCall) (sink : SinkC
     → NothingFails source sink
     → (status_of outcome ≡ 0) ⊎ ((status_of outcome ≡ 5) ⊎ ((status_of outcome ≡ 6) ⊎ (status_of outcome ≡ 7)))
 ends_by_itself Done source sink cause sound = inl refl
-ends_by_itself ReadFault source sink cause sound = absurd (sound.0 cause)
-ends_by_itself TooQuiet source sink cause sound = absurd (sound.1 cause)
-ends_by_itself WriteFault source sink cause sound = absurd (sound.2 cause)
+ends_by_itself ReadFault source sink cause sound = absurd (sound.0 cause.0)
+ends_by_itself TooQuiet source sink cause sound = absurd (sound.1 (quiet_long source.before.quiets source.after.quiets cause.1))
+ends_by_itself WriteFault source sink cause sound = absurd (sound.2 cause.2)
 ends_by_itself Full source sink cause sound = inr (inl refl)
 ends_by_itself BadLine source sink cause sound = inr (inr (inl refl))
 ends_by_itself NoMemory source sink cause sound = inr (inr (inr refl))
@@ -73,6 +86,26 @@ made_write_cause WriteFault sink cause e = cause
 made_write_cause Full sink cause e = absurd cause
 made_write_cause BadLine sink cause e = absurd cause
 made_write_cause NoMemory sink cause e = absurd (omega (arith, e))
+
+-- no source is read
+pub made_has_cause : (outcome : PlayOutcome) (source : SourceCall) (sink : SinkCall) → source.before ≡ source.after
+    → GeneratedCause outcome sink.before.faults sink.after.faults → StatusHasCause (status_of outcome) source sink
+made_has_cause outcome source sink same cause = go outcome cause
+  where
+    sound : source.after.faults ≡ source.before.faults
+    sound = ap (λ s. s.faults) (sym same)
+
+    lively : IsQuietSometimes source.before.quiets source.after.quiets
+    lively = subst (λ n. IsQuietSometimes source.before.quiets n) (ap (λ s. s.quiets) same) (quiet_never source.before.quiets)
+
+    go : (o : PlayOutcome) → GeneratedCause o sink.before.faults sink.after.faults → StatusHasCause (status_of o) source sink
+    go Done wrote = inr (inr (λ e. omega (arith, e), λ e. omega (arith, e), (sound, lively, wrote)))
+    go ReadFault wrote = absurd wrote
+    go TooQuiet wrote = absurd wrote
+    go WriteFault wrote = inr (inl (refl, ((AtEnd, (sound, lively)), wrote)))
+    go Full wrote = absurd wrote
+    go BadLine wrote = absurd wrote
+    go NoMemory wrote = inr (inr (λ e. omega (arith, e), λ e. omega (arith, e), (sound, lively, wrote)))
 
 pub made_ends : (outcome : PlayOutcome) (sink : SinkCall) → GeneratedCause outcome sink.before.faults sink.after.faults → (WriteFailed sink → ⊥)
     → (status_of outcome ≡ 0) ⊎ (status_of outcome ≡ 7)

@@ -78,14 +78,15 @@ abbrev pub GaveUp : Fault → List ℕ → Option (List ℕ) → Option (List �
 GaveUp Sink waited before after = Goes (AppendsPart waited) before after
 GaveUp NoMemoryFault waited before after = Goes (Appends waited) before after
 
+-- the sink's faults rose exactly if the sink failed
 abbrev pub FaultCause : Fault → ℕ → ℕ → Type 0
 FaultCause Sink before after = Rose before after
-FaultCause NoMemoryFault before after = Unit {0}
+FaultCause NoMemoryFault before after = after ≡ before
 
 abbrev pub WriteCause : {X : Type 0} → Result X Fault → ℕ → ℕ → Type 0
-WriteCause (Ok _) before after = Unit {0}
+WriteCause (Ok _) before after = after ≡ before
 WriteCause (Err Sink) before after = Rose before after
-WriteCause (Err NoMemoryFault) before after = Unit {0}
+WriteCause (Err NoMemoryFault) before after = after ≡ before
 
 -- the lines of what a stream gains by more of it were written or wait, behind what waited, and what is kept then is a summary of the longer stream;
 -- or the sink failed, and a prefix of them was written; or, out of memory, what waited was written

@@ -24,6 +24,8 @@ fn hand_on<K: Sink>(
     bytes: &[u8],
     sink: &mut K,
 ) -> Result<(), Fault>
+    requires takes { K.takes sink.old }
+    ensures takes { K.takes sink.new }
     ensures lines { (stream : List Symbol) → StandsFor device.old.now stream
         → HandsOn (texts_by output.now) result stream (piece at bytes.now) device.new.now draft.old draft.new (K.written sink.old) (K.written sink.new) }
     ensures cause { WriteCause result (K.faults sink.old) (K.faults sink.new) }
@@ -45,6 +47,8 @@ fn hand_on_last<K: Sink>(
     bytes: &[u8],
     sink: &mut K,
 ) -> Result<(), Fault>
+    requires takes { K.takes sink.old }
+    ensures takes { K.takes sink.new }
     ensures lines { (stream : List Symbol) → StandsFor device.old.now stream
         → HandsOn (texts_by output.now) result stream (piece at bytes.now) device.new.now draft.old [] (K.written sink.old) (K.written sink.new) }
     ensures cause { WriteCause result (K.faults sink.old) (K.faults sink.new) }
@@ -70,6 +74,8 @@ fn close<K: Sink>(
     draft: &mut Draft,
     sink: &mut K,
 ) -> Result<(), Fault>
+    requires takes { K.takes sink.old }
+    ensures takes { K.takes sink.new }
     ensures lines { (stream : List Symbol) → StandsFor device.old.now stream
         → Written result (texts_of (texts_by output.now) (device_close stream)) draft.old [] (K.written sink.old) (K.written sink.new) }
     ensures cause { WriteCause result (K.faults sink.old) (K.faults sink.new) }
@@ -97,12 +103,14 @@ fn write_reports<S: Source, K: Sink, C: Clock>(
     alloc: Global,
     device: &mut Device,
     output: &Output,
-    history: u32,
+    history: u64,
     source: &mut S,
     sink: &mut K,
     clock: &mut C,
 ) -> CommandOutcome
     requires fresh { StandsFor device.old.now [] }
+    requires takes { K.takes sink.old }
+    ensures takes { K.takes sink.new }
     ensures decoded { Decoded (texts_by output.now) result history (S.content source.old) (S.content source.new)
         (C.stamps clock.old) (C.stamps clock.new) (K.written sink.old) (K.written sink.new) }
     ensures cause { CommandHasCause result (S.faults source.old) (S.faults source.new) (S.quiets source.old) (S.quiets source.new)
@@ -156,11 +164,13 @@ fn write_reports<S: Source, K: Sink, C: Clock>(
 /// that they bring, as epochs close.
 pub fn decode<S: Source, K: Sink, C: Clock>(
     alloc: Global,
-    history: u32,
+    history: u64,
     source: &mut S,
     sink: &mut K,
     clock: &mut C,
 ) -> CommandOutcome
+    requires takes { K.takes sink.old }
+    ensures takes { K.takes sink.new }
     ensures decoded { Decoded line_of result history (S.content source.old) (S.content source.new)
         (C.stamps clock.old) (C.stamps clock.new) (K.written sink.old) (K.written sink.new) }
     ensures cause { CommandHasCause result (S.faults source.old) (S.faults source.new) (S.quiets source.old) (S.quiets source.new)
@@ -184,11 +194,13 @@ pub fn decode<S: Source, K: Sink, C: Clock>(
 /// Reads device bytes as [`decode`] does, and writes the two sentences of each fix.
 pub fn pseudo<S: Source, K: Sink, C: Clock>(
     alloc: Global,
-    history: u32,
+    history: u64,
     source: &mut S,
     sink: &mut K,
     clock: &mut C,
 ) -> CommandOutcome
+    requires takes { K.takes sink.old }
+    ensures takes { K.takes sink.new }
     ensures decoded { Decoded sentences_of result history (S.content source.old) (S.content source.new)
         (C.stamps clock.old) (C.stamps clock.new) (K.written sink.old) (K.written sink.new) }
     ensures cause { CommandHasCause result (S.faults source.old) (S.faults source.new) (S.quiets source.old) (S.quiets source.new)

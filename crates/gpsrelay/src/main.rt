@@ -1,5 +1,5 @@
 //! The program `gpsrelay`: a daemon after gpsd that serves satellite receivers to up to 64 clients at a time, and commands that read what a
-//! receiver or a recorded script sends on standard input.
+//! receiver or a recorded script sends on standard input. Help and the version are answered before any of them is asked.
 #![tactic(auto)]
 
 ghost use Rattle.std.specs.Prelude.{◌≤◌};
@@ -7,33 +7,45 @@ ghost use Rattle.serve_end_parts.specs.Lines.{text_of};
 ghost use Rattle.gpsrelay.specs.Closing.{WritesClosing};
 
 mod decode;
+mod first_bytes;
+mod link_count;
+mod messages;
 mod outcome;
 mod place_text;
 mod progress;
 mod reasons;
 mod run;
+mod same_place;
 mod serve;
 mod standard_streams;
+mod stopping;
 mod streams;
+mod subject;
 mod system;
 mod telling;
 mod telling_door;
 mod telling_source;
+mod terminal_check;
 mod texts;
 
-use gps_fixed::NoMemory;
+use gps_fixed::{Bytes, NoMemory};
+use gps_help::question_in;
 use gps_outside::{RealClock, RealSink, RealSource, Sink, write_all};
 use gps_serve::Served;
-use gps_words::{WordsFault, asked};
+use gps_words::{WordsFault, asked, serve_asked};
 use gps_world::World;
+use messages::Speaker;
 use outcome::CommandOutcome;
-use reasons::{say, tell_end, tell_no_memory, tell_no_text, tell_refused};
+use reasons::{answer, say, tell_end, tell_no_memory, tell_no_text, tell_refused, tell_same_place};
 use standard_streams::StandardStreams;
 use std::alloc::Global;
+use std::fs::File;
 use std::io::{Eprint, ErrorKind, IsTerminal};
 use std::process::ExitCode;
+use std::rt::Files;
 use std::sync::Wait;
 use std::{env, io};
+use stopping::{Machine, start_stop};
 use streams::{CountedInput, CountedOutput};
 use telling::TellingWorld;
 
@@ -65,7 +77,7 @@ fn words_of_call(rt: &HostRuntime) -> Result<Vec<String>, WordsFault> {
 fn run_outside(rt: HostRuntime, words: &[String]) -> Result<u8, NoMemory> {
     let is_shown = rt.stderr().is_terminal() && !rt.stdout().is_terminal();
     let input = RealSource::of_input(rt, rt.alloc(), rt.stdin())?;
-    let mut source = CountedInput::new(rt, input, is_shown);
+    let mut source = CountedInput::new(rt.alloc(), rt, input, is_shown);
     let mut sink = CountedOutput::new(RealSink::of_output(rt.stdout()));
     let mut clock = RealClock::new(rt);
     let status = run::run(rt.alloc(), words, &mut source, &mut sink, &mut clock);
@@ -84,6 +96,8 @@ fn close<W: World, K: Sink, R: Wait + Copy>(
     served: &Served<W, R>,
     sink: &mut K,
 ) -> u8
+    requires takes { K.takes sink.old }
+    ensures takes { K.takes sink.new }
     ensures closes { WritesClosing served.now.status (text_of served.now.book served.now.sessions.items served.now.monitors.items) result
         (K.written sink.old) (K.written sink.new) (K.faults sink.old) (K.faults sink.new) }
     ensures faults_stay { K.faults sink.old ≤ K.faults sink.new }
@@ -128,6 +142,22 @@ fn are_for_daemon(words: &[String]) -> bool {
     }
 }
 
+/// Whether two words of the daemon name one FIFO or terminal, which is said.
+fn has_same_place<R: Eprint + Files<File = File>>(rt: &R, alloc: Global, words: &[String]) -> bool {
+    match serve_asked(alloc, words) {
+        Ok(options) => tell_same_place(rt, &options),
+        Err(_) => false,
+    }
+}
+
+/// After how many seconds a place is opened again, and the path that stops the daemon.
+fn asked_of_service(alloc: Global, words: &[String]) -> (Option<u32>, Option<Bytes>) {
+    match serve_asked(alloc, words) {
+        Ok(options) => (options.numbers.reopen, options.stop),
+        Err(_) => (None, None),
+    }
+}
+
 /// Does what the words of a command ask for.
 fn do_command(rt: HostRuntime, words: &[String]) -> u8 {
     match run_outside(rt, words) {
@@ -154,12 +184,35 @@ fn main(rt: HostRuntime) -> ExitCode {
         }
     };
     let words = words.as_slice();
+    if let Some(question) = question_in(words) {
+        let mut sink = RealSink::of_output(rt.stdout());
+        return ExitCode::from(answer(&rt, question, &mut sink));
+    }
     let status = if are_for_daemon(words) {
         let alloc = rt.alloc();
+        if has_same_place(&rt, alloc, words) {
+            return ExitCode::from(run::REFUSED);
+        }
+        let Ok(speaker) = Speaker::start(rt, alloc) else {
+            tell_no_memory(&rt);
+            return ExitCode::from(CommandOutcome::NoMemory.status());
+        };
+        let voice = speaker.voice(rt);
+        let (reopen, path) = asked_of_service(alloc, words);
+        let Ok(stop) = start_stop(rt, Machine(rt), alloc, &speaker, path) else {
+            tell_no_memory(&rt);
+            return ExitCode::from(CommandOutcome::NoMemory.status());
+        };
         let mut sink = RealSink::of_output(rt.stdout());
-        let served = serve::serve_main(rt, alloc, words, TellingWorld::new(alloc, rt));
+        let served = serve::serve_main(
+            rt,
+            alloc,
+            words,
+            TellingWorld::new(alloc, rt, voice, reopen, stop),
+        );
         let status = close(alloc, &served, &mut sink);
-        tell_status(&rt, status);
+        tell_status(&voice, status);
+        speaker.end(&rt);
         status
     } else {
         do_command(rt, words)

@@ -1,22 +1,46 @@
-//! What stands on standard error if a command ends with another status than 0. What is said there changes no status: a standard error that
-//! is closed or full is passed over.
+//! The answers to `help` and `--version`, and what is said on standard error if a command ends with another status than 0. What is said there
+//! changes no status: a standard error that is closed or full is passed over.
 
+use crate::outcome::CommandOutcome;
+use crate::same_place::same_place;
 use crate::streams::{CountedInput, CountedOutput};
-use gps_help::{Cause, HELP, RELEASE, Refusal, USAGE, refused};
-use gps_outside::{Sink, Source};
-use gps_words::CommandLine;
+use crate::system::is_pipe;
+use gps_help::{COMMANDS, EXAMPLES, OTHERS, Question, Refusal, SERVE, USAGE, refused};
+use gps_outside::{Sink, Source, write_all};
+use gps_words::{CommandLine, ServeOptions};
 use std::alloc::Global;
+use std::fs::File;
 use std::io::Eprint;
+use std::rt::Files;
 
 /// How many bytes `replay` and `lines` read at most.
 const MOST: u64 = 1_073_741_824;
+
+/// The greatest number of `--history`.
+const GREATEST: u32 = 33_554_432;
 
 /// The lines of a script.
 const EVENTS: &str =
     "device NAME, segment U N, bytes D STAMP HEX, text D STAMP TEXT, edge D LINE, end D, lose D, open S [N], say S TEXT, part S TEXT, \
 input S HEX, hang S, take S N, monitor M U, store U N, load M N, a comment (#), or nothing";
 
-/// Says why the words are refused: the usage line first, then the reason, and the help if no command was asked for or help was.
+/// Answers what was asked of the program itself on standard output, and gives its status.
+pub fn answer<K: Sink, R: Eprint>(rt: &R, question: Question, sink: &mut K) -> u8
+    requires { K.takes sink.old }
+{
+    'parts: for part in question.answer() {
+        if !write_all(sink, part.as_bytes()) {
+            say(
+                rt,
+                "standard output: the answer could not be written: its reader has gone, it is closed, or the disk is full",
+            );
+            return CommandOutcome::WriteFault.status();
+        }
+    }
+    CommandOutcome::Done.status()
+}
+
+/// Says why the words are refused: the usage line first, then the reason, and how the command is called, or the help if none was asked for.
 pub fn tell_refused<R: Eprint>(rt: &R, alloc: Global, words: &[String]) {
     let _ = eprintln!(rt; "{USAGE}");
     match refused(alloc, words) {
@@ -27,18 +51,26 @@ pub fn tell_refused<R: Eprint>(rt: &R, alloc: Global, words: &[String]) {
 }
 
 fn tell_refusal<R: Eprint>(rt: &R, refusal: &Refusal, words: &[String]) {
-    match refusal.cause {
-        Cause::Help => {}
-        Cause::Version => {
-            let _ = eprintln!(rt; "{RELEASE}, gpsd's protocol 3.1");
-        }
-        _ => {
-            let told = refusal.told(words);
-            let _ = eprintln!(rt; "gpsrelay: {told}");
-        }
+    let told = refusal.told(words);
+    let _ = eprintln!(rt; "gpsrelay: {told}");
+    if let Some(command) = refusal.command {
+        let usage = command.usage();
+        let _ = eprintln!(rt; "usage: {usage}");
     }
     if refusal.wants_help() {
-        let _ = eprint!(rt; "{HELP}");
+        let _ = eprint!(rt; "{COMMANDS}{SERVE}{OTHERS}{EXAMPLES}");
+    }
+}
+
+/// Says that two words name one FIFO or terminal, if they do.
+pub fn tell_same_place<R: Eprint + Files<File = File>>(rt: &R, options: &ServeOptions) -> bool {
+    match same_place(rt, options) {
+        Some(same) => {
+            let _ = eprintln!(rt; "{USAGE}");
+            let _ = eprintln!(rt; "gpsrelay: {same}");
+            true
+        }
+        None => false,
     }
 }
 
@@ -71,7 +103,7 @@ fn tell_full<R: Eprint>(rt: &R, command: &CommandLine) {
     let _ = match command {
         CommandLine::Decode { history } | CommandLine::Pseudo { history } => {
             eprintln!(rt;
-                "gpsrelay: stopped after {history} bytes: --history is the most that is read"
+                "gpsrelay: stopped after {history} bytes: say --history N for more, up to {GREATEST}, or --history all"
             )
         }
         CommandLine::Replay { .. } | CommandLine::Generate { .. } | CommandLine::Lines => {
@@ -98,7 +130,7 @@ fn tell_bad_line<R: Eprint>(rt: &R, command: &CommandLine, number: u64) {
     };
 }
 
-/// Says that bytes came in which nothing was found.
+/// Says that bytes came in which no fix was found.
 fn tell_nothing_found<S: Source, K: Sink, R: Eprint>(
     rt: &R,
     command: &CommandLine,
@@ -110,14 +142,27 @@ fn tell_nothing_found<S: Source, K: Sink, R: Eprint>(
         return;
     }
     if let CommandLine::Decode { .. } | CommandLine::Pseudo { .. } = command {
-        let _ = eprintln!(rt;
-            "gpsrelay: {bytes} bytes came, and no fix was found: is it NMEA 0183 or UBX, at the right speed?"
+        let _ = match input.first().packets() {
+            Some(packets) => eprintln!(rt; "gpsrelay: {bytes} bytes came: {packets}"),
+            None => eprintln!(rt;
+                "gpsrelay: {bytes} bytes came, and no fix was found: is it NMEA 0183 or UBX, at the right speed?"
+            ),
+        };
+    }
+}
+
+/// Says that a write failed. Where the reader of a pipe has gone, as that of `decode | head`, nothing is said.
+fn tell_write_fault<R: Eprint + Files<File = File>>(rt: &R) {
+    if !is_pipe(rt) {
+        say(
+            rt,
+            "standard output: a write failed: it is closed, or the disk is full",
         );
     }
 }
 
 /// Says how a command ended, if there is something to say.
-pub fn tell_end<S: Source, K: Sink, R: Eprint>(
+pub fn tell_end<S: Source, K: Sink, R: Eprint + Files<File = File>>(
     rt: &R,
     command: &CommandLine,
     status: u8,
@@ -127,10 +172,7 @@ pub fn tell_end<S: Source, K: Sink, R: Eprint>(
     match status {
         0 => tell_nothing_found(rt, command, input, output),
         3 => tell_read_fault(rt, input),
-        4 => say(
-            rt,
-            "standard output: a write failed: its reader has gone, it is closed, or the disk is full",
-        ),
+        4 => tell_write_fault(rt),
         5 => tell_full(rt, command),
         6 => tell_bad_line(rt, command, output.number()),
         7 => tell_no_memory(rt),

@@ -4,7 +4,7 @@ ghost use Rattle.gps_words.specs.Within.{IsInRange};
 ghost use Rattle.gps_words.specs.declared.command.CommandLine.{CommandLine};
 ghost use Rattle.gpsrelay.specs.Calls.{WriteFailed, clock_call, sink_call, source_call};
 ghost use Rattle.gpsrelay.specs.Commands.{Does, EndsAt, IsWithinLimits, NothingFails};
-ghost use Rattle.gpsrelay.specs.Outcomes.{HasReadCause};
+ghost use Rattle.gpsrelay.specs.Outcomes.{HasReadCause, StatusHasCause};
 
 use crate::decode::{decode, pseudo};
 use crate::outcome::CommandOutcome;
@@ -25,7 +25,9 @@ fn do_command<S: Source, K: Sink, C: Clock>(
     sink: &mut K,
     clock: &mut C,
 ) -> u8
-    requires { IsInRange command }
+    requires within { IsInRange command }
+    requires takes { K.takes sink.old }
+    ensures takes { K.takes sink.new }
     ensures does { Does command result
         (source_call S.Source source.old source.new) (sink_call K.Sink sink.old sink.new) (clock_call C.Clock clock.old clock.new) }
     ensures faults_stay { S.faults source.old ≤ S.faults source.new }
@@ -52,6 +54,8 @@ fn do_words<S: Source, K: Sink, C: Clock>(
     sink: &mut K,
     clock: &mut C,
 ) -> u8
+    requires takes { K.takes sink.old }
+    ensures takes { K.takes sink.new }
     ensures refused { result ≡ 2 → asked_of (map string_bytes words.now) ≡ None }
     ensures only { asked_of (map string_bytes words.now) ≡ None → (result ≡ 2) ⊎ (result ≡ 7) }
     ensures untouched { asked_of (map string_bytes words.now) ≡ None
@@ -90,6 +94,10 @@ fn do_words<S: Source, K: Sink, C: Clock>(
 /// than a thousand reads bring nothing, the status is neither 3 nor 4. It is 0 or 7 if the source also holds no more than is
 /// allowed and no line that is refused; for `generate` it always is. What is said of bytes and stamps is said of a source, a
 /// sink and a clock whose contents are modelled.
+///
+/// The sink is open, and stays open. With status 0, 2, 5, 6 or 7 no read and no write failed, and fewer than a thousand reads
+/// brought nothing. With status 3 either a read failed, or it was the thousandth that brought nothing, and no write failed.
+/// With status 4 a write failed; of `decode` and `pseudo` the source may have failed before it, since what waits is written then.
 pub fn run<S: Source, K: Sink, C: Clock>(
     alloc: Global,
     words: &[String],
@@ -97,6 +105,8 @@ pub fn run<S: Source, K: Sink, C: Clock>(
     sink: &mut K,
     clock: &mut C,
 ) -> u8
+    requires takes { K.takes sink.old }
+    ensures takes { K.takes sink.new }
     ensures refused { result ≡ 2 → asked_of (map string_bytes words.now) ≡ None }
     ensures only { asked_of (map string_bytes words.now) ≡ None → (result ≡ 2) ⊎ (result ≡ 7) }
     ensures untouched { asked_of (map string_bytes words.now) ≡ None
@@ -104,6 +114,7 @@ pub fn run<S: Source, K: Sink, C: Clock>(
     ensures does { (command : CommandLine) → asked_of (map string_bytes words.now) ≡ Some command
         → Does command result (source_call S.Source source.old source.new) (sink_call K.Sink sink.old sink.new) (clock_call C.Clock clock.old clock.new) }
     ensures read_fault { result ≡ 3 → HasReadCause (source_call S.Source source.old source.new) }
+    ensures cause { StatusHasCause result (source_call S.Source source.old source.new) (sink_call K.Sink sink.old sink.new) }
     ensures write_fault { result ≡ 4 → WriteFailed (sink_call K.Sink sink.old sink.new) }
     ensures ends { (command : CommandLine) → asked_of (map string_bytes words.now) ≡ Some command
         → NothingFails (source_call S.Source source.old source.new) (sink_call K.Sink sink.old sink.new) → EndsAt command result }

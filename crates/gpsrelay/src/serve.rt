@@ -80,12 +80,14 @@ fn plan_of(alloc: Global, options: ServeOptions) -> Result<Plan, NoMemory>
         edges,
         listen,
         numbers,
+        stop: _,
     } = options;
     let ServeNumbers {
         queue,
         history,
         wait,
         monitor,
+        reopen: _,
     } = numbers;
     let inputs = places_of(alloc, inputs)?;
     let edges = edge_places_of(alloc, edges)?;
@@ -108,6 +110,7 @@ fn nothing<W: World, R: Wait + Copy>(alloc: Global, world: W, status: u8) -> Ser
     ensures book { result.book ≡ None }
     ensures world { result.world ≡ world }
     ensures devices { result.devices.items ≡ [] }
+    ensures met { AnyOf (DeviceFailed W.In.faults) result.devices.items → result.status ≡ 3 }
     ensures first { AnyOf WasLostByFault result.devices.items → result.status ≡ 3 }
     ensures untold { (result.status ≡ 3) ⊎ All TellsNoFault result.devices.items }
     ensures readers { ReadersHadMemory result.devices.items result.sessions.items }
@@ -152,6 +155,7 @@ pub fn serve_main<W: World, R: Threads + Wait + Copy + Send + Sync>(
     ensures three { result.status ≡ 3 → AnyOf (DeviceFailed W.In.faults) result.devices.items ⊎ Rose (W.input_faults world) (W.input_faults result.world) }
     ensures eight { result.status ≡ 8 → SourceFailed W.Gate.faults result.gate ⊎ Rose (W.listen_faults world) (W.listen_faults result.world) }
     ensures seven { result.status ≡ 7 → result.no_memory ≡ true }
+    ensures met { AnyOf (DeviceFailed W.In.faults) result.devices.items → result.status ≡ 3 }
     ensures first { AnyOf WasLostByFault result.devices.items → result.status ≡ 3 }
     ensures untold { (result.status ≡ 3) ⊎ All TellsNoFault result.devices.items }
     ensures door { SourceFailed W.Gate.faults result.gate → (result.status ≡ 3) ⊎ (result.status ≡ 8) }
@@ -169,7 +173,7 @@ pub fn serve_main<W: World, R: Threads + Wait + Copy + Send + Sync>(
         → IfSome (serve_asked_of (map string_bytes words.now)) (HeldBehind (W.behind world) (source_facts W.In.Source)
         result.devices.items) }
     ensures at_end { IfSome result.book (λ book. IfSome (serve_asked_of (map string_bytes words.now))
-        (λ s. AtEnd (start_in W.World (told_by s) world) (world_facts W.In.Source W.Out.Sink W.Gate.Door) (handed_back result) book)) }
+        (λ s. AtEnd (start_in W.World (told_by s) world) (world_facts W.In.Source W.Out.ClientSink W.Gate.Door) (handed_back result) book)) }
 {
     match serve_asked(alloc, words) {
         Ok(options) => match plan_of(alloc, options) {

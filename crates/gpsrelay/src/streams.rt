@@ -3,22 +3,25 @@
 
 ghost use Rattle.std.specs.Prelude.{◌≡◌, ◌≤◌, length};
 
+use crate::first_bytes::FirstBytes;
 use crate::progress::Progress;
 use gps_outside::{ReadStep, Sink, Source, WriteStep};
+use std::alloc::Global;
 use std::io::Eprint;
 use std::time;
 
-/// Standard input, which counts its bytes, knows whether a read failed, and may show how far it has come.
+/// Standard input, which counts its bytes, keeps the first of them, knows whether a read failed, and may show how far it has come.
 #[derive(Drop)]
 pub struct CountedInput<S: Source, R> {
     source: S,
     bytes: u64,
+    first: FirstBytes,
     failed: bool,
     progress: Option<Progress<R>>,
 }
 
 impl<S: Source, R: Copy> CountedInput<S, R> {
-    pub fn new(machine: R, source: S, is_shown: bool) -> CountedInput<S, R>
+    pub fn new(alloc: Global, machine: R, source: S, is_shown: bool) -> CountedInput<S, R>
         ensures { result.source ≡ source }
     {
         let progress = if is_shown {
@@ -29,6 +32,7 @@ impl<S: Source, R: Copy> CountedInput<S, R> {
         CountedInput {
             source,
             bytes: 0,
+            first: FirstBytes::new(alloc),
             failed: false,
             progress,
         }
@@ -48,6 +52,11 @@ impl<S: Source, R> CountedInput<S, R> {
     /// How many bytes came.
     pub fn bytes(&self) -> u64 {
         self.bytes
+    }
+
+    /// The first bytes that came.
+    pub fn first(&self) -> &FirstBytes {
+        &self.first
     }
 
     /// Whether a read failed.
@@ -70,6 +79,7 @@ impl<S: Source, R: Eprint + time::Clock + Copy + Drop> Source for CountedInput<S
         match step {
             ReadStep::Got(n) => {
                 self.bytes = self.bytes.saturating_add(n as u64);
+                self.first.add(&buf[..n]);
                 if let Some(progress) = &mut self.progress {
                     progress.add(&buf[..n]);
                 }
@@ -144,6 +154,8 @@ impl<K: Sink> Sink for CountedOutput<K> {
 
     ghost written = { λ s. K.written s.sink };
 
+    ghost takes = { λ s. K.takes s.sink };
+
     fn write(&mut self, piece: &[u8]) -> WriteStep {
         let step = self.sink.write(piece);
         if let WriteStep::Wrote(n) = step {
@@ -151,10 +163,6 @@ impl<K: Sink> Sink for CountedOutput<K> {
             self.number = last_number(&piece[n.saturating_sub(TAIL)..n]);
         }
         step
-    }
-
-    fn end_soon(&mut self) {
-        self.sink.end_soon();
     }
 
     fn finish(&mut self) {

@@ -1,12 +1,13 @@
-//! What the system says of a place: why it cannot be opened or read, and whether it is a terminal.
+//! What the system says of a place: why it cannot be opened or read, who may read it, and whether it is a terminal.
 
 use crate::place_text::text_of;
 use gps_fixed::Bytes;
 use gps_world::DaemonFault;
+use std::alloc::Global;
 use std::fmt;
 use std::fs::{self, File, FileType};
 use std::io::{self, ErrorKind, IsTerminal};
-use std::os::unix::fs::FileTypeExt;
+use std::os::unix::fs::{FileTypeExt, MetadataExt};
 use std::rt::Files;
 
 /// A reason of the system behind a message, or nothing if none is known.
@@ -22,17 +23,15 @@ impl fmt::Display for Reason {
         match kind {
             ErrorKind::NotFound => f.write_str(": no such file"),
             ErrorKind::InvalidInput => f.write_str(": no such address"),
-            ErrorKind::PermissionDenied => {
-                f.write_str(
-                    ": permission denied; is this user in its group, or is the port below 1024?",
-                )
-            }
+            ErrorKind::PermissionDenied => f.write_str(": permission denied"),
             ErrorKind::AddrInUse => f.write_str(
                 ": address in use; another daemon may serve there: say --listen HOST:PORT",
             ),
             ErrorKind::AddrNotAvailable => {
                 f.write_str(": address not available; this machine has no such address")
             }
+            // A connection is the only thing here that has a time to come about.
+            ErrorKind::TimedOut => f.write_str(": no answer within 5 seconds"),
             // The kind says nothing; the error has the system's text.
             ErrorKind::Uncategorized => write!(f, ": {}", error),
             _ => write!(f, ": {}", kind),
@@ -47,6 +46,7 @@ pub struct DaemonReason(pub DaemonFault);
 impl fmt::Display for DaemonReason {
     fn fmt<W: fmt::Write>(&self, f: &mut fmt::Formatter<W>) -> fmt::Result {
         match self.0 {
+            DaemonFault::Own => f.write_str("this daemon itself listens there"),
             DaemonFault::Unreached(error) => {
                 let kind = error.kind();
                 match kind {
@@ -85,6 +85,62 @@ pub fn is_terminal<R: Files<File = File>>(rt: &R, path: &Bytes) -> bool {
     }
     match fs::open(rt, text_of(path)) {
         Ok(file) => file.is_terminal(),
+        Err(_) => false,
+    }
+}
+
+/// The bit of a file's mode by which its group may read it.
+const GROUP_READS: u32 = 0o040;
+
+/// The bit of a file's mode by which everybody may read it.
+const OTHERS_READ: u32 = 0o004;
+
+/// The number of the group in a line of /etc/group, as `dialout:x:20:me`, if the line is of this group.
+fn name_in_line(line: &str, group: u32) -> Option<&str> {
+    let (name, rest) = line.split_once(':')?;
+    let (_, rest) = rest.split_once(':')?;
+    let number = match rest.split_once(':') {
+        Some((number, _)) => number,
+        None => rest,
+    };
+    match number.parse::<u32>() {
+        Ok(number) if number == group => Some(name),
+        _ => None,
+    }
+}
+
+/// The name of a group, or its number, if /etc/group has no name for it.
+fn group_name<R: Files<File = File>>(rt: &R, alloc: Global, group: u32) -> Option<String> {
+    if let Ok(file) = File::open(rt, "/etc/group") {
+        if let Ok(text) = io::read_to_string(alloc, file) {
+            for line in text.lines() {
+                if let Some(name) = name_in_line(line, group) {
+                    return String::from_str(alloc, name).ok();
+                }
+            }
+        }
+    }
+    format!(in alloc; "{group}").ok()
+}
+
+/// Who may read a file that this user may not, in words, if that is known.
+pub fn who_may_read<R: Files<File = File>>(rt: &R, alloc: Global, path: &Bytes) -> Option<String> {
+    let metadata = fs::metadata(rt, text_of(path)).ok()?;
+    let mode = metadata.mode();
+    if mode & OTHERS_READ != 0 {
+        return None;
+    }
+    if mode & GROUP_READS == 0 {
+        return format!(in alloc; "only its owner may read it").ok();
+    }
+    let group = group_name(rt, alloc, metadata.gid())?;
+    format!(in alloc; "its group is {group}: is this user in it?").ok()
+}
+
+/// Whether standard output is a pipe or a socket. A write there fails only where its reader has gone.
+pub fn is_pipe<R: Files<File = File>>(rt: &R) -> bool {
+    match fs::metadata(rt, "/proc/self/fd/1") {
+        Ok(metadata) => metadata.file_type().is_fifo() || metadata.file_type().is_socket(),
         Err(_) => false,
     }
 }

@@ -1,19 +1,16 @@
 ghost use Rattle.std.specs.Prelude.{◌≡◌};
+ghost use Rattle.gps_outside.specs.declared.source.ReadStep.{ReadStep};
 
-use crate::place_text::PlaceText;
-use crate::system::{DaemonReason, Reason};
+use crate::link_count::{Seat, Ticket};
+use crate::stopping::StopRequest;
+use crate::subject::Subject;
 use gps_outside::{Awaited, ReadStep, Source};
-use gps_world::{DaemonFault, Place, RealInput};
+use gps_world::{DaemonFault, Loss, Place, RealInput};
 use std::fs::File;
 use std::io::{self, Eprint};
 use std::net::{Net, TcpStream};
 use std::rt::Files;
-use std::sync::Arc;
-use std::sync::atomic::{AtomicBool, Ordering};
-use std::time::{self, Duration};
-
-/// How many seconds a device is silent before that is said.
-const SILENCE: u64 = 60;
+use std::time;
 
 /// A source that knows what it waits for and why it failed.
 pub trait KnowsWhy: Source {
@@ -25,6 +22,12 @@ pub trait KnowsWhy: Source {
 
     /// Why its last read failed, if it is another daemon.
     fn daemon_fault(&self) -> Option<DaemonFault>;
+
+    /// Why its last read found its place gone, if it is opened again.
+    fn loss(&self) -> Option<Loss>;
+
+    /// Whether its place is gone, and is opened again.
+    fn is_away(&self) -> bool;
 }
 
 impl<R> KnowsWhy for RealInput<R>
@@ -42,65 +45,45 @@ where
     fn daemon_fault(&self) -> Option<DaemonFault> {
         RealInput::daemon_fault(self)
     }
-}
 
-/// Says, when it is dropped, that a link was dropped before anything of it was read.
-pub struct Ticket {
-    dropped: Arc<AtomicBool>,
-}
-
-impl Ticket {
-    pub fn new(dropped: Arc<AtomicBool>) -> Ticket {
-        Ticket { dropped }
+    fn loss(&self) -> Option<Loss> {
+        RealInput::loss(self)
     }
 
-    /// The link is read.
-    fn used(self) {
-        let Ticket { dropped: _ } = self;
+    fn is_away(&self) -> bool {
+        RealInput::is_away(self)
     }
-}
-
-impl Drop for Ticket {
-    fn drop(self) {
-        let Ticket { dropped } = self;
-        dropped.store(true, Ordering::SeqCst);
-    }
-}
-
-/// What is known of a device that is told of.
-#[derive(Drop)]
-struct Subject {
-    place: Place,
-    /// Whether a byte came.
-    has_come: bool,
-    /// Since when nothing came: the beginning of the first read after the last byte.
-    since: Option<Duration>,
-    /// Whether the silence was said.
-    is_silent: bool,
 }
 
 /// A source that says, of a device, when it ends, fails or was lost, once, and when it is silent for a minute and speaks again. That of a link says
-/// nothing. It reports the contents and counts of the source within, and hands on its answers.
+/// nothing. It reports the counts of the source within and hands on its answers, but once the daemon was told to stop: then a device has ended,
+/// and what it gave in that moment is dropped. It tells no content.
 #[derive(Drop)]
 pub struct TellingSource<S: KnowsWhy, R> {
     rt: R,
     source: S,
     subject: Option<Subject>,
     ticket: Option<Ticket>,
+    /// Given back by a link whose reader has ended.
+    seat: Option<Seat>,
+    /// What ends a device that has neither ended nor failed.
+    stop: Option<StopRequest>,
 }
 
 impl<S: KnowsWhy, R> TellingSource<S, R> {
     /// The source of a device.
-    pub fn of_device(rt: R, source: S, place: Option<Place>) -> TellingSource<S, R>
+    pub fn of_device(
+        rt: R,
+        source: S,
+        place: Option<Place>,
+        is_terminal: bool,
+        reopen: Option<u32>,
+        stop: Option<StopRequest>,
+    ) -> TellingSource<S, R>
         ensures { result.source ≡ source }
     {
         let subject = match place {
-            Some(place) => Some(Subject {
-                place,
-                has_come: false,
-                since: None,
-                is_silent: false,
-            }),
+            Some(place) => Some(Subject::new(place, is_terminal, reopen)),
             None => None,
         };
         TellingSource {
@@ -108,11 +91,18 @@ impl<S: KnowsWhy, R> TellingSource<S, R> {
             source,
             subject,
             ticket: None,
+            seat: None,
+            stop,
         }
     }
 
     /// The source of a link.
-    pub fn of_link(rt: R, source: S, ticket: Option<Ticket>) -> TellingSource<S, R>
+    pub fn of_link(
+        rt: R,
+        source: S,
+        ticket: Option<Ticket>,
+        seat: Option<Seat>,
+    ) -> TellingSource<S, R>
         ensures { result.source ≡ source }
     {
         TellingSource {
@@ -120,36 +110,56 @@ impl<S: KnowsWhy, R> TellingSource<S, R> {
             source,
             subject: None,
             ticket,
+            seat,
+            stop: None,
         }
     }
 }
 
+impl<S: KnowsWhy, R> TellingSource<S, R> {
+    /// Whether the daemon was told to stop.
+    fn is_stopped(&self) -> bool {
+        match &self.stop {
+            Some(stop) => stop.is_told(),
+            None => false,
+        }
+    }
+
+    /// The device has ended, of which nothing is said.
+    fn stopped(&mut self) -> ReadStep
+        ensures step { result ≡ ReadStep.End }
+        ensures source { self.new.source ≡ self.old.source }
+    {
+        self.subject = None;
+        ReadStep::End
+    }
+}
+
 impl<S: KnowsWhy, R: Eprint + time::Clock> TellingSource<S, R> {
-    /// A read begins.
+    /// A read begins. Says, once, what it waits for before it can give bytes; that is no silence.
     fn begin(&mut self)
         ensures { self.new.source ≡ self.old.source }
     {
+        let awaited = self.source.awaited();
         let Some(subject) = &mut self.subject else {
             return;
         };
-        if subject.since.is_none() {
-            if let Ok(now) = self.rt.monotonic() {
-                subject.since = Some(now);
+        match awaited {
+            Some(awaited) => subject.tell_awaited(&self.rt, awaited),
+            None => {
+                if let Ok(now) = self.rt.monotonic() {
+                    subject.begin(now);
+                }
             }
         }
     }
 
     /// Bytes came.
-    fn heard(&mut self)
+    fn heard(&mut self, piece: &[u8])
         ensures { self.new.source ≡ self.old.source }
     {
         if let Some(subject) = &mut self.subject {
-            subject.has_come = true;
-            subject.since = None;
-            if subject.is_silent {
-                subject.is_silent = false;
-                let _ = eprintln!(self.rt; "gpsrelay: {} speaks again", PlaceText(&subject.place));
-            }
+            subject.heard(&self.rt, piece);
         }
     }
 
@@ -160,16 +170,18 @@ impl<S: KnowsWhy, R: Eprint + time::Clock> TellingSource<S, R> {
         let Ok(now) = self.rt.monotonic() else {
             return;
         };
-        if let Some(subject) = &mut self.subject {
-            let silence = now.saturating_sub(subject.since.unwrap_or(now));
-            if !subject.is_silent && silence >= Duration::from_secs(SILENCE) {
-                subject.is_silent = true;
-                let _ = eprintln!(self.rt;
-                    "gpsrelay: {} has been silent for {} s",
-                    PlaceText(&subject.place),
-                    SILENCE
-                );
-            }
+        let loss = self.source.loss();
+        let is_there = !self.source.is_away() && self.source.awaited().is_none();
+        let Some(subject) = &mut self.subject else {
+            return;
+        };
+        if let Some(loss) = loss {
+            subject.lost_place(&self.rt, loss, now);
+        }
+        if is_there {
+            subject.quiet(&self.rt, now);
+        } else {
+            subject.not_there();
         }
     }
 
@@ -177,7 +189,7 @@ impl<S: KnowsWhy, R: Eprint + time::Clock> TellingSource<S, R> {
         ensures { self.new.source ≡ self.old.source }
     {
         if let Some(subject) = self.subject.take() {
-            let _ = eprintln!(self.rt; "gpsrelay: {} has ended", PlaceText(&subject.place));
+            subject.tell_ended(&self.rt);
         }
     }
 
@@ -185,31 +197,10 @@ impl<S: KnowsWhy, R: Eprint + time::Clock> TellingSource<S, R> {
         ensures { self.new.source ≡ self.old.source }
     {
         if let Some(subject) = self.subject.take() {
-            let place = PlaceText(&subject.place);
-            if let Some(fault) = self.source.daemon_fault() {
-                let reason = DaemonReason(fault);
-                let _ = eprintln!(self.rt; "gpsrelay: {place} failed: {reason}");
-                return;
+            match self.source.daemon_fault() {
+                Some(fault) => subject.tell_daemon_failed(&self.rt, fault),
+                None => subject.tell_failed(&self.rt, self.source.fault()),
             }
-            let reason = Reason(self.source.fault());
-            let _ = if subject.has_come {
-                eprintln!(self.rt;
-                    "gpsrelay: {place} failed{reason}; was it unplugged, or did its peer reset?"
-                )
-            } else {
-                eprintln!(self.rt; "gpsrelay: {place} failed before a byte came{reason}")
-            };
-        }
-    }
-
-    /// Says what the next read waits for.
-    fn tell_awaited(&self) {
-        if let (Some(subject), Some(awaited)) = (&self.subject, self.source.awaited()) {
-            let place = PlaceText(&subject.place);
-            let _ = match awaited {
-                Awaited::Writer => eprintln!(self.rt; "gpsrelay: waiting for a writer of {place}"),
-                Awaited::Host => eprintln!(self.rt; "gpsrelay: connecting to {place}"),
-            };
         }
     }
 
@@ -218,20 +209,19 @@ impl<S: KnowsWhy, R: Eprint + time::Clock> TellingSource<S, R> {
         ensures { self.new.source ≡ self.old.source }
     {
         if let Some(subject) = self.subject.take() {
-            let _ = eprintln!(self.rt;
-                "gpsrelay: {} was lost: out of memory, or no thread",
-                PlaceText(&subject.place)
-            );
+            subject.tell_lost(&self.rt);
         }
     }
 }
 
 impl<S: KnowsWhy, R: Eprint + time::Clock + Drop> Source for TellingSource<S, R> {
+    ghost use Rattle.std.specs.Prelude.{None};
+
     ghost faults = { λ s. S.faults s.source };
 
     ghost quiets = { λ s. S.quiets s.source };
 
-    ghost content = { λ s. S.content s.source };
+    ghost content = { λ _. None };
 
     ghost keeps_at_fault = { λ s. S.keeps_at_fault s.source };
 
@@ -239,11 +229,14 @@ impl<S: KnowsWhy, R: Eprint + time::Clock + Drop> Source for TellingSource<S, R>
         if let Some(ticket) = self.ticket.take() {
             ticket.used();
         }
-        self.tell_awaited();
+        if self.is_stopped() {
+            return self.stopped();
+        }
         self.begin();
         let step = self.source.read(buf);
         match step {
-            ReadStep::Got(_) => self.heard(),
+            ReadStep::Got(_) if self.is_stopped() => return self.stopped(),
+            ReadStep::Got(n) => self.heard(&buf[..n]),
             ReadStep::Quiet => self.quiet(),
             ReadStep::End => self.ended(),
             ReadStep::Failed => self.failed(),
@@ -257,6 +250,7 @@ impl<S: KnowsWhy, R: Eprint + time::Clock + Drop> Source for TellingSource<S, R>
 
     fn finish(&mut self) {
         self.lost();
+        self.seat = None;
         self.source.finish();
     }
 }

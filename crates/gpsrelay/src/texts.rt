@@ -97,6 +97,8 @@ impl Draft {
         bodies: &[Body],
         sink: &mut K,
     ) -> Result<(), Fault>
+        requires takes { K.takes sink.old }
+        ensures takes { K.takes sink.new }
         ensures wrote { Written result (texts_of (texts_by output.now) bodies.now) self.old self.new (K.written sink.old) (K.written sink.new) }
         ensures cause { WriteCause result (K.faults sink.old) (K.faults sink.new) }
         ensures faults_stay { K.faults sink.old ≤ K.faults sink.new }
@@ -116,6 +118,8 @@ impl Draft {
 
     /// Writes what waits when there is no memory for more.
     pub fn give_up<K: Sink>(&mut self, sink: &mut K) -> Fault
+        requires takes { K.takes sink.old }
+        ensures takes { K.takes sink.new }
         ensures wrote { GaveUp result self.old (K.written sink.old) (K.written sink.new) }
         ensures cause { FaultCause result (K.faults sink.old) (K.faults sink.new) }
         ensures faults_stay { K.faults sink.old ≤ K.faults sink.new }
@@ -131,11 +135,14 @@ impl Draft {
     ///
     /// False: the sink failed.
     pub fn flush<K: Sink>(&mut self, sink: &mut K) -> bool
+        requires takes { K.takes sink.old }
+        ensures takes { K.takes sink.new }
         ensures bytes { WritesAll result self.old (K.written sink.old) (K.written sink.new) }
         ensures empty { self.new ≡ [] }
         ensures none { self.old ≡ [] → result ≡ true }
         ensures faults_stay { K.faults sink.old ≤ K.faults sink.new }
         ensures failed { result ≡ false → Rose (K.faults sink.old) (K.faults sink.new) }
+        ensures fails_only { result ≡ true → K.faults sink.new ≡ K.faults sink.old }
     {
         self.outbox.flush(sink)
     }
@@ -144,10 +151,13 @@ impl Draft {
     ///
     /// False: the sink failed.
     pub fn flush_unless_ready<S: Source, K: Sink>(&mut self, source: &S, sink: &mut K) -> bool
+        requires takes { K.takes sink.old }
+        ensures takes { K.takes sink.new }
         ensures bytes { Sends result self.old self.new (K.written sink.old) (K.written sink.new) }
         ensures kept { result ≡ true → (self.new ≡ []) ⊎ S.keeps_at_fault source.now }
         ensures faults_stay { K.faults sink.old ≤ K.faults sink.new }
         ensures failed { result ≡ false → Rose (K.faults sink.old) (K.faults sink.new) }
+        ensures fails_only { result ≡ true → K.faults sink.new ≡ K.faults sink.old }
     {
         self.outbox.flush_unless_ready(source, sink)
     }

@@ -3,7 +3,7 @@
 ghost use Rattle.std.specs.Prelude.{◌≡◌, ◌≤◌, IfOk, length};
 
 use gps_fixed::NoMemory;
-use gps_outside::{MemorySink, ReadStep, Sink, Source, WritePlan, WriteStep};
+use gps_outside::{ClientSink, MemorySink, ReadStep, Source, WritePlan, WriteStep};
 use std::alloc::Global;
 use std::sync::Arc;
 use std::sync::atomic::{AtomicU64, Ordering};
@@ -60,7 +60,7 @@ fn lines_in(bytes: &[u8]) -> u64 {
     bytes.iter().filter(|byte| **byte == b'\n').count() as u64
 }
 
-impl Sink for CountingSink {
+impl ClientSink for CountingSink {
     ghost use Rattle.std.specs.Prelude.{None};
 
     ghost faults = { λ s. s.faults };
@@ -69,7 +69,7 @@ impl Sink for CountingSink {
 
     fn write(&mut self, piece: &[u8]) -> WriteStep {
         let step = if self.may_write() {
-            self.sink.write(piece)
+            ClientSink::write(&mut self.sink, piece)
         } else {
             WriteStep::Failed
         };

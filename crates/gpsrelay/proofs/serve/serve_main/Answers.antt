@@ -11,7 +11,7 @@ use Rattle.gpsrelay.proofs.serve.serve_main.Goals as goal
 pub returns-in-Ok-plan_of-clause-at_end : goal.returns-in-Ok-plan_of-clause-at_end
 returns-in-Ok-plan_of-clause-at_end g c =
     told_for (λ (told : DaemonSettings) (book : BookView). AtEnd (start_in g.W.World told c.args.world)
-    (world_facts g.W.In.Source g.W.Out.Sink g.W.Gate.Door) (handed_back c.serve.result) book)
+    (world_facts g.W.In.Source g.W.Out.ClientSink g.W.Gate.Door) (handed_back c.serve.result) book)
     _ (shown c.in-Ok.options) (settings_in c.in-Ok-plan_of.plan) c.serve.result.book c.in-Ok.ensures.ok c.in-Ok-plan_of.ensures.told c.serve.ensures.at_end
 
 pub returns-in-Ok-plan_of-clause-range : goal.returns-in-Ok-plan_of-clause-range

@@ -1,109 +1,213 @@
 #!/usr/bin/env bash
-# Installs the built program, its manual page, its examples, its tools and its completion for bash, or removes them.
+# Installs the built program with its tools, manual pages, documents, examples and completion for bash, or removes them.
 #
-# Use: tools/install.sh [--prefix DIR] [--remove]       DIR is /usr/local unless told otherwise
+# Use: tools/install.sh [--prefix DIR] [--unproved] [--remove]
 #
-# If nothing is built yet, it builds first, which proves the program: some 40 minutes on four processors, some 75 on two.
-# A package sets DESTDIR: files go to $DESTDIR$DIR, and name $DIR. PROGRAM names another build than that of this checkout.
+#   --prefix DIR   the folder to install below, as a whole path; /usr/local if left out
+#   --unproved     installs the program that `tools/build.sh --unproved` made
+#   --remove       removes what was installed below DIR
+#
+# It builds nothing: `tools/build.sh` does, before. PROGRAM is the path of another build to install.
+# DESTDIR, for packages, is put before each path that is written, and appears in no file.
 set -eu
 
 top=$(cd "$(dirname "${BASH_SOURCE[0]}")/.." && pwd)
+say() { echo "install.sh: $1" >&2; }
+refuse() { # STATUS TEXT: nothing was written yet
+    say "$2"
+    exit "$1"
+}
+
 prefix=/usr/local
+unproved=
 remove=
 while [ $# -gt 0 ]; do
     case $1 in
     --prefix)
-        [ $# -ge 2 ] || { echo "install.sh: --prefix needs a folder" >&2; exit 2; }
+        [ $# -ge 2 ] || refuse 2 "--prefix needs a folder"
         prefix=$2
-        shift 2
-        ;;
-    --prefix=*)
-        prefix=${1#--prefix=}
         shift
         ;;
-    --remove)
-        remove=1
-        shift
-        ;;
+    --prefix=*) prefix=${1#--prefix=} ;;
+    --unproved) unproved=1 ;;
+    --remove) remove=1 ;;
     -h | --help)
-        sed -n '2,7s/^# \{0,1\}//p' "${BASH_SOURCE[0]}"
+        sed -n '2,11s/^# \{0,1\}//p' "${BASH_SOURCE[0]}"
         exit 0
         ;;
-    *)
-        echo "install.sh: $1: no such option; see install.sh --help" >&2
-        exit 2
-        ;;
+    *) refuse 2 "$1: no such option; see install.sh --help" ;;
     esac
+    shift
 done
 case $prefix in
 /*) ;;
-*) echo "install.sh: $prefix: say the whole path of the folder" >&2; exit 2 ;;
+*) refuse 2 "$prefix: give the whole path of the folder" ;;
+esac
+# A service has no way to write these in the path of its program that all versions of systemd read alike.
+case $prefix in
+*[[:cntrl:]\"\\%\$]*) refuse 2 "$prefix: the path may have no \", \\, %, \$ and no control character" ;;
 esac
 prefix=${prefix%/}
-root=${DESTDIR:-}$prefix
-program=${PROGRAM:-$top/crates/gpsrelay/out/gpsrelay}
+destdir=${DESTDIR:-}
+case $destdir in
+'' | /*) ;;
+*) destdir=$PWD/$destdir ;;
+esac
+root=$destdir$prefix
+list=share/gpsrelay/installed # what was installed, one path a line
 
-# MODE (or link), the file in this folder (or what the link says), and where it goes below the prefix
-files() {
-    cat <<FILES
-755 $program bin/gpsrelay
-755 tools/track.py share/gpsrelay/track.py
-644 tools/track_picture.py share/gpsrelay/track_picture.py
-644 tools/track_marks.py share/gpsrelay/track_marks.py
-755 tools/view.py share/gpsrelay/view.py
-644 tools/view.html share/gpsrelay/view.html
-link ../share/gpsrelay/track.py bin/gpsrelay-track
-link ../share/gpsrelay/view.py bin/gpsrelay-view
-644 docs/gpsrelay.8 share/man/man8/gpsrelay.8
-644 tools/gpsrelay.bash share/bash-completion/completions/gpsrelay
-644 examples/gpsrelay.service lib/systemd/system/gpsrelay.service
-644 examples/usb.env share/doc/gpsrelay/examples/usb.env
-644 examples/tcp.env share/doc/gpsrelay/examples/tcp.env
-644 examples/chain.env share/doc/gpsrelay/examples/chain.env
-644 samples/drive.nmea share/doc/gpsrelay/examples/drive.nmea
-644 samples/two_devices.script share/doc/gpsrelay/examples/two_devices.script
-644 samples/two_devices.md share/doc/gpsrelay/examples/two_devices.md
-644 README.md share/doc/gpsrelay/README.md
-FILES
-    (cd "$top" && for it in docs/*.md; do echo "644 $it share/doc/gpsrelay/$it"; done)
+# What is installed: MODE (or link), FROM (or what the link holds), and TO below the prefix.
+modes=() froms=() tos=()
+file() {
+    modes+=("$1") froms+=("$2") tos+=("$3")
+}
+files() { # PROGRAM
+    local it name
+    file 755 "$1" bin/gpsrelay
+    # A tool of these names is a command; what the tools import lies beside them.
+    for it in "$top"/tools/*.py "$top"/tools/*.html; do
+        name=${it##*/}
+        case $name in
+        '*'.* | build_*.py | kept_*.py) ;;
+        clock.py | export.py | mqtt.py | track.py | view.py)
+            file 755 "$it" "share/gpsrelay/$name"
+            file link "../share/gpsrelay/$name" "bin/gpsrelay-${name%.py}"
+            ;;
+        *) file 644 "$it" "share/gpsrelay/$name" ;;
+        esac
+    done
+    file 644 "$top/tools/gpsrelay.bash" share/bash-completion/completions/gpsrelay
+    for it in "$top"/docs/*.[1-8]; do file 644 "$it" "share/man/man${it##*.}/${it##*/}"; done
+    file 644 "$top/README.md" share/doc/gpsrelay/README.md
+    for it in "$top"/docs/*.md; do file 644 "$it" "share/doc/gpsrelay/docs/${it##*/}"; done
+    for it in "$top"/samples/*; do
+        case $it in
+        *.py | */__pycache__) ;;
+        *) file 644 "$it" "share/doc/gpsrelay/samples/${it##*/}" ;;
+        esac
+    done
+    for it in "$top"/examples/*; do
+        case $it in
+        *.service) file unit "$it" "lib/systemd/system/${it##*/}" ;;
+        *.sh) file 755 "$it" "share/doc/gpsrelay/examples/${it##*/}" ;;
+        *) file 644 "$it" "share/doc/gpsrelay/examples/${it##*/}" ;;
+        esac
+    done
 }
 
-build() {
-    command -v rt >/dev/null || { echo "install.sh: nothing is built, and the toolchain's command rt is not on the PATH" >&2; exit 1; }
-    echo "Nothing is built yet. Proving and building: some 40 minutes on four processors, some 75 on two ..."
-    (cd "$top/crates/gpsrelay" && rt run -- decode </dev/null)
+# The program to install, in $program, or the end with what to do.
+choose_program() {
+    local proved=$top/crates/gpsrelay/out/gpsrelay without=$top/out/unproved/gpsrelay
+    if [ -n "${PROGRAM:-}" ]; then
+        [ -z "$unproved" ] || refuse 2 "give PROGRAM or --unproved, not both"
+        program=$PROGRAM
+    elif [ -n "$unproved" ]; then
+        program=$without
+        [ -e "$program" ] || refuse 1 "nothing is built without proof yet: tools/build.sh --unproved does so, in some three minutes"
+    else
+        program=$proved
+        if [ ! -e "$program" ]; then
+            [ ! -e "$without" ] || say "there is a program that was built without proof: --unproved installs it"
+            refuse 1 "nothing is built yet: tools/build.sh proves and builds (some 40 minutes on four processors), tools/build.sh --unproved only builds (some three minutes)"
+        fi
+    fi
+    local given=$program
+    program=$(realpath -e -- "$given" 2>/dev/null) || refuse 1 "$given: no such file"
+    if [ ! -f "$program" ] || [ ! -x "$program" ]; then refuse 1 "$program: not a program"; fi
+    version=$("$program" --version </dev/null 2>&1 | grep -a -m 1 '^gpsrelay-') || refuse 1 "$program: it gives no version of gpsrelay, or does not run on this machine"
+}
+
+# Whether a path below the root can be written: the nearest folder above it that is there decides.
+can_write() { # PATH
+    local folder=${1%/*}
+    while [ -n "$folder" ] && [ ! -e "$folder" ] && [ ! -L "$folder" ]; do folder=${folder%/*}; done
+    [ -d "${folder:-/}" ] && [ -w "${folder:-/}" ]
+}
+
+# The end with a reason, if not everything can be installed.
+look() {
+    local at
+    for at in "${!tos[@]}"; do
+        [ "${modes[at]}" = link ] || [ -r "${froms[at]}" ] || refuse 1 "${froms[at]}: cannot be read"
+        [ ! -d "$root/${tos[at]}" ] || refuse 1 "$root/${tos[at]}: is a folder"
+        can_write "$root/${tos[at]}" || refuse 1 "$root/${tos[at]}: cannot be written; call it with sudo, or give another --prefix"
+    done
+    can_write "$root/$list" || refuse 1 "$root/$list: cannot be written"
+}
+
+# A unit with the prefix in place of its mark.
+unit() { # FILE
+    local text done=
+    text=$(cat "$1"; echo .)
+    text=${text%.}
+    while [[ $text == *@PREFIX@* ]]; do
+        done+=${text%%@PREFIX@*}$prefix
+        text=${text#*@PREFIX@}
+    done
+    printf '%s%s' "$done" "$text"
+}
+
+put() { # MODE FROM TO, through a new file, so that a program that runs is replaced too
+    local new=$3.new$$
+    case $1 in
+    link) ln -s "$2" "$new" ;;
+    unit) unit "$2" >"$new" && chmod 644 "$new" ;;
+    *) install -m "$1" -T -- "$2" "$new" ;;
+    esac
+    mv -fT -- "$new" "$3"
+}
+
+# Removes a file of the list, and the folders that have become empty and bear this program's name.
+take_away() { # TO
+    local folder=${1%/*}
+    case /$1/ in
+    */../* | //*) return 1 ;; # no path of ours
+    esac
+    [ -e "$root/$1" ] || [ -L "$root/$1" ] || return 1
+    rm -f -- "$root/$1"
+    while [[ $folder == */gpsrelay* ]] && rmdir "$root/$folder" 2>/dev/null; do folder=${folder%/*}; done
 }
 
 install_all() {
-    [ -x "$program" ] || build
-    local number=0 mode from to
-    while read -r mode from to; do
-        mkdir -p "$root/$(dirname "$to")"
-        case $mode:$from in
-        link:*) ln -sf "$from" "$root/$to" ;;
-        *:/*) cp --remove-destination "$from" "$root/$to" ;;
-        *.service) sed "s#@PREFIX@#$prefix#g" "$top/$from" >"$root/$to" ;;
-        *) cp --remove-destination "$top/$from" "$root/$to" ;;
-        esac
-        [ "$mode" = link ] || chmod "$mode" "$root/$to"
-        number=$((number + 1))
-    done < <(files)
-    echo "$number files installed below $root. Try: $prefix/bin/gpsrelay decode < $prefix/share/doc/gpsrelay/examples/drive.nmea"
-    echo "As a service: copy one of $prefix/share/doc/gpsrelay/examples/*.env to /etc/gpsrelay.env, change it, and say"
+    choose_program
+    files "$program"
+    look
+    if [ -z "${PROGRAM:-}" ] && [ -n "$(find "$top/crates" -name out -prune -o -name '*.rt' -newer "$program" -print -quit)" ]; then
+        say "note: the sources are newer than this program; tools/build.sh builds it again"
+    fi
+    local at former=()
+    [ ! -r "$root/$list" ] || mapfile -t former <"$root/$list"
+    for at in "${!tos[@]}"; do
+        [ -d "$root/${tos[at]%/*}" ] || mkdir -p "$root/${tos[at]%/*}"
+        put "${modes[at]}" "${froms[at]}" "$root/${tos[at]}"
+    done
+    printf '%s\n' "${tos[@]}" >"$root/$list"
+    # What an earlier version installed and this one does not have.
+    for at in "${former[@]}"; do
+        grep -Fxq -e "$at" "$root/$list" || take_away "$at" || true
+    done
+    echo "$version: ${#tos[@]} files are installed below $root. Try:"
+    echo "  '$prefix/bin/gpsrelay' decode < '$prefix/share/doc/gpsrelay/samples/drive.nmea'"
+    echo "As a service: copy one of $prefix/share/doc/gpsrelay/examples/*.env to /etc/gpsrelay.env, edit it, and call"
     echo "  systemctl daemon-reload && systemctl enable --now gpsrelay"
 }
 
 remove_all() {
-    local number=0 mode from to folder
-    while read -r mode from to; do
-        [ -e "$root/$to" ] || [ -L "$root/$to" ] || continue
-        rm -f "$root/$to"
-        number=$((number + 1))
-        folder=$(dirname "$to")
-        # Only folders of its own name are its own.
-        while [[ $folder == */gpsrelay* ]] && rmdir "$root/$folder" 2>/dev/null; do folder=$(dirname "$folder"); done
-    done < <(files)
-    echo "$number files removed from $root. /etc/gpsrelay.env, if there is one, stays."
+    local number=0 at all=()
+    files ""
+    all=("${tos[@]}")
+    if [ -r "$root/$list" ]; then
+        mapfile -t all <"$root/$list"
+        all+=("$list")
+    fi
+    for at in "${all[@]}"; do
+        [ ! -e "$root/$at" ] && [ ! -L "$root/$at" ] || [ -w "$root/${at%/*}" ] || refuse 1 "$root/$at: cannot be removed; call it with sudo"
+    done
+    rm -rf -- "$root/share/gpsrelay/__pycache__"
+    for at in "${all[@]}"; do
+        if take_away "$at"; then number=$((number + 1)); fi
+    done
+    echo "$number files are removed from $root. /etc/gpsrelay.env is kept, if it is there."
 }
 
 if [ -n "$remove" ]; then remove_all; else install_all; fi

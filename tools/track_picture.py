@@ -7,6 +7,7 @@ import math
 from track_marks import (
     SYSTEMS, clean, clock_words, date_words, dense, duration_words, empty_note, free_place, key, line, metres_words, nice_step,
     panel, points, scale_words, shape, shortened, style, text, text_width, thinned)
+from track_lines import GAP, segments
 
 WIDTH, HEIGHT, MARGIN = 960, 832, 28
 TRACK_BOX = (MARGIN, 96, 572, 420)  # left, top, width, height
@@ -20,9 +21,11 @@ SMALLEST_VIEW = 10.0  # metres across the track's picture at least, so that nois
 TIME_STEPS = [1, 2, 5, 10, 15, 30, 60, 120, 300, 600, 900, 1800, 3600, 7200, 10800, 21600, 43200, 86400]
 
 
-def draw(device, fixes, sky):
-    """The whole SVG as a text."""
+def draw(device, fixes, sky, wanted=None, gap=GAP):
+    """The whole SVG as a text. `wanted` is its title, if that is not device and date; after `gap` seconds without a position the track is
+    cut."""
     title, about = title_of(device, fixes)
+    title = shortened(wanted, 60) if wanted else title
     parts = [
         f'<svg xmlns="http://www.w3.org/2000/svg" viewBox="0 0 {WIDTH} {HEIGHT}" width="{WIDTH}" height="{HEIGHT}" '
         'role="img" aria-labelledby="title about">',
@@ -30,7 +33,7 @@ def draw(device, fixes, sky):
         f"<style>{style()}</style>",
         f'<rect class="paper" width="{WIDTH}" height="{HEIGHT}" rx="10"/>',
         text(MARGIN, 48, title, "ink title"), text(MARGIN, 76, about, "muted lead"),
-        *track_panel(fixes), *sky_panel(sky), *strips(fixes), "</svg>\n",
+        *track_panel(fixes, gap), *sky_panel(sky), *strips(fixes, gap), "</svg>\n",
     ]
     return "\n".join(parts)
 
@@ -102,19 +105,7 @@ class Plan:
 
 # The track
 
-def runs_of_fixes(fixes):
-    """The fixes with a position, in runs between which a line tells that there was none."""
-    runs, open_run = [], False
-    for fix in fixes:
-        if fix.has_place and open_run:
-            runs[-1].append(fix)
-        elif fix.has_place:
-            runs.append([fix])
-        open_run = fix.has_place
-    return runs
-
-
-def track_panel(fixes):
+def track_panel(fixes, gap):
     left, top, width, height = TRACK_BOX
     parts = panel(TRACK_BOX, "Track")
     placed = [fix for fix in fixes if fix.has_place]
@@ -123,7 +114,7 @@ def track_panel(fixes):
     view = (left + 1, top + 40, width - 2, height - 84)
     plan = Plan(placed, (view[0] + 30, view[1] + 26, view[2] - 60, view[3] - 52))
     square = nice_step(70 / plan.scale)
-    return (parts + grid(plan, view, square) + track_lines(plan, fixes) + ends(plan, placed, view)
+    return (parts + grid(plan, view, square) + track_lines(plan, fixes, gap) + ends(plan, placed, view)
             + north_arrow(left + width - 26, top + 21) + scale_bar(plan, square, left + 16, top + height - 16)
             + [text(left + width - 16, top + height - 16, "Start at " + place_words(placed[0]), "muted small", "end")])
 
@@ -145,9 +136,9 @@ def grid(plan, view, square):
     return found
 
 
-def track_lines(plan, fixes):
+def track_lines(plan, fixes, gap):
     """One path with a point for each fix that has a position; and another, dotted, over the times without one."""
-    runs = [[plan.pixel(fix) for fix in run] for run in runs_of_fixes(fixes)]
+    runs = [[plan.pixel(fix) for fix in run] for run in segments(fixes, gap)]
     whole = "".join("M" + points(run) + ("Z" if len(run) == 1 else "") for run in runs)
     gaps = "".join("M" + points([one[-1], other[0]]) for one, other in zip(runs, runs[1:]))
     found = [f'<path id="track" class="track" d="{whole}"/>']
@@ -301,42 +292,48 @@ class Axis:
             at += step
 
 
-def strips(fixes):
+def strips(fixes, gap):
     if not any(fix.has_place for fix in fixes):
         return [*panel(SPEED_BOX, "Speed"), empty_note(SPEED_BOX, "No fix"), *panel(HEIGHT_BOX, "Height"), empty_note(HEIGHT_BOX, "No fix")]
     axis = Axis(fixes, MARGIN + 64, SPEED_BOX[2] - 96)
     over_sea = any(fix.msl is not None for fix in fixes)
-    speeds = samples(fixes, axis, [None if fix.speed is None else fix.speed * 3.6 for fix in fixes])
-    heights = samples(fixes, axis, [fix.msl if over_sea else fix.hae for fix in fixes])
-    lost = lost_times(fixes, axis)
+    speeds = samples(fixes, axis, [None if fix.speed is None else fix.speed * 3.6 for fix in fixes], gap)
+    heights = samples(fixes, axis, [fix.msl if over_sea else fix.hae for fix in fixes], gap)
+    lost = lost_times(fixes, axis, gap)
     return (strip(SPEED_BOX, axis, "Speed", "km/h", speeds, lost, floor=0, least=5)
             + strip(HEIGHT_BOX, axis, f"Height above the {'sea' if over_sea else 'ellipsoid'}", "m", heights, lost, with_times=True))
 
 
-def samples(fixes, axis, values):
-    """Runs of (time, value) of fixes that follow each other with a position and a value; time goes on in each."""
-    runs, open_run = [], False
+def samples(fixes, axis, values, gap):
+    """Runs of (time, value) of fixes that follow each other with a position and a value; time goes on in each, by at most a gap."""
+    runs, open_run, longest = [], False, gap if axis.timed else math.inf
     for number, (fix, value) in enumerate(zip(fixes, values)):
         at = fix.time if axis.timed else number
         if not fix.has_place or value is None or at is None:
             open_run = False
             continue
-        if not open_run or at < runs[-1][-1][0]:
+        if not open_run or not 0 <= at - runs[-1][-1][0] <= longest:
             runs.append([])
         runs[-1].append((at, value))
         open_run = True
     return runs
 
 
-def lost_times(fixes, axis):
-    """The times (from, to) over which no line tells a position."""
-    found, since = [], None
-    timed = [(fix.time if axis.timed else number, fix.has_place) for number, fix in enumerate(fixes)]
-    for at, placed in [one for one in timed if one[0] is not None] + [(axis.last, True)]:
-        if placed and since is not None and at > since:
-            found.append((since, at))
-        since = None if placed else at if since is None else since
-    return found
+def lost_times(fixes, axis, gap):
+    """The times (from, to) over which lines tell no position, or no line tells one for longer than a gap."""
+    found, since, last, longest = [], None, math.inf, gap if axis.timed else math.inf
+    for number, fix in enumerate(fixes):
+        at = fix.time if axis.timed else number
+        if at is None:
+            continue
+        if not fix.has_place:
+            since = at if since is None else since
+            continue
+        begun = last if since is None and at - last > longest else since
+        if begun is not None and at > begun:
+            found.append((begun, at))
+        since, last = None, at
+    return found if since is None or since >= axis.last else [*found, (since, axis.last)]
 
 
 def value_range(values, floor, least):

@@ -1,0 +1,45 @@
+#!/usr/bin/env bash
+# Builds the program.
+#
+# Use: tools/build.sh [--unproved]
+#
+# Without an option it proves the program and builds it from what is proved, as crates/gpsrelay/out/gpsrelay. That takes some
+# 40 minutes on four processors and some 75 on two. If it is ended early, the next call goes on where it was.
+#
+# --unproved builds it without any proof, as out/unproved/gpsrelay, in some three minutes. `gpsrelay --version` then says
+# that it is built without proof. It has checks of its own and is slower.
+#
+# Both programs need only the C library. tools/install.sh installs them, and tools/package.sh makes a Debian package.
+set -eu
+
+top=$(cd "$(dirname "${BASH_SOURCE[0]}")/.." && pwd)
+refuse() { # STATUS TEXT
+    echo "build.sh: $2" >&2
+    exit "$1"
+}
+
+unproved=
+while [ $# -gt 0 ]; do
+    case $1 in
+    --unproved) unproved=1 ;;
+    -h | --help)
+        sed -n '2,13s/^# \{0,1\}//p' "${BASH_SOURCE[0]}"
+        exit 0
+        ;;
+    *) refuse 2 "$1: no such option; see build.sh --help" ;;
+    esac
+    shift
+done
+
+if ! command -v rt >/dev/null; then
+    [ -z "${SUDO_USER:-}" ] || refuse 1 "the toolchain's command rt is not on root's PATH: build without sudo"
+    refuse 1 "the toolchain's command rt is not on the PATH"
+fi
+if [ -n "$unproved" ]; then
+    echo "Building without proof: some three minutes ..."
+    exec python3 "$top/tools/build_unproved.py" "$top/out/unproved/gpsrelay"
+fi
+echo "Proving and building: some 40 minutes on four processors, some 75 on two; less if parts of it are proved already ..."
+cd "$top/crates/gpsrelay"
+rt run -- decode </dev/null
+echo "$PWD/out/gpsrelay: built from what is proved"

@@ -1,0 +1,65 @@
+"""A client of the daemon that comes back by itself: what track.py, export.py and view.py follow a daemon with."""
+import argparse
+import socket
+import time
+
+WATCH = b'?WATCH={"json":true};\n'
+LONGEST_LINE = 1_048_576  # bytes; a longer one is passed over
+FIRST_PAUSE, LONGEST_PAUSE = 0.25, 3.0  # seconds before a daemon that is gone is tried again
+SETTLED = 5.0  # seconds after which a link that ends was a good one: the next pause is the first one again
+
+
+def address_of(text):
+    """(host, port) of HOST:PORT; a host with colons stands in brackets."""
+    host, colon, port = text.rpartition(":")
+    if not colon or not port.isdecimal() or int(port) > 65_535:
+        raise argparse.ArgumentTypeError(f"{text} is no HOST:PORT")
+    return host.removeprefix("[").removesuffix("]") or "127.0.0.1", int(port)
+
+
+def address_words(host, port):
+    return f"[{host}]:{port}" if ":" in host else f"{host}:{port}"
+
+
+def daemon_lines(address, tell, over=lambda: False):
+    """The lines of a daemon, which it is asked for by WATCH; from one link after another, until `over()`. `tell` is called with True at the
+    first line of a link, and with False when a link that had one has ended. A daemon that is gone, or takes no client, is tried again
+    after a pause, which is doubled each time up to the longest one."""
+    pause = FIRST_PAUSE
+    while not over():
+        begun, heard = time.monotonic(), False
+        try:
+            with socket.create_connection(address, timeout=LONGEST_PAUSE) as link:
+                link.settimeout(None)
+                keep_alive(link)
+                link.sendall(WATCH)
+                for line in lines_of(link):
+                    if not heard:
+                        tell(True)
+                    heard = True
+                    yield line
+        except OSError:
+            pass
+        if heard:
+            tell(False)
+        if heard and time.monotonic() - begun > SETTLED:
+            pause = FIRST_PAUSE
+        time.sleep(pause)
+        pause = min(pause * 2, LONGEST_PAUSE)
+
+
+def keep_alive(link):
+    """Lets the system find out within 15 seconds that the other machine is gone, if it can."""
+    link.setsockopt(socket.SOL_SOCKET, socket.SO_KEEPALIVE, 1)
+    for name, value in ("TCP_KEEPIDLE", 6), ("TCP_KEEPINTVL", 3), ("TCP_KEEPCNT", 3):
+        if hasattr(socket, name):
+            link.setsockopt(socket.IPPROTO_TCP, getattr(socket, name), value)
+
+
+def lines_of(link):
+    """The lines of a link. Of one that is too long only its end is given, which is a bad line."""
+    rest = b""
+    while data := link.recv(65_536):
+        *whole, rest = (rest + data).split(b"\n")
+        yield from (line for line in whole if line.strip())
+        rest = rest[-LONGEST_LINE:]

@@ -1,0 +1,106 @@
+"""The words and the input that track.py and export.py have in common."""
+import argparse
+import os
+import shlex
+import signal
+import sys
+
+from daemon_link import address_of, address_words, daemon_lines
+from track_lines import GAP, Run, Undecoded, lines_of, read_lines
+
+PROGRAM = os.path.basename(sys.argv[0])
+
+
+def say(text):
+    """One line on standard error; a name in it may hold anything, so what is no printable character is shown as a question mark."""
+    print(f"{PROGRAM}: " + "".join(c if c.isprintable() else "?" for c in text), file=sys.stderr, flush=True)
+
+
+def seconds(text):
+    """A number of seconds above 0."""
+    try:
+        value = float(text)
+    except ValueError:
+        value = 0.0
+    if not 0 < value < float("inf"):
+        raise argparse.ArgumentTypeError(f"{text} is no number of seconds")
+    return value
+
+
+def command_line(about, output, further):
+    """The words. `output` is what -o is called, `further` adds the words of one program to the parser."""
+    parser = argparse.ArgumentParser(prog=PROGRAM, description=about)
+    parser.add_argument("files", nargs="*", metavar="FILE", help="lines of decode or of a session, one file after another (standard input by default)")
+    parser.add_argument("-o", "--output", metavar=output, help="the file that is written (standard output by default)")
+    parser.add_argument("--daemon", nargs="?", type=address_of, const="127.0.0.1:2947", metavar="HOST:PORT",
+                        help="reads no file, but follows a daemon until Ctrl-C (127.0.0.1:2947), also if it restarts")
+    parser.add_argument("--device", metavar="NAME", help="the device (the first one by default)")
+    parser.add_argument("--title", metavar="TEXT", help="the title (device and date by default)")
+    parser.add_argument("--gap", type=seconds, default=GAP, metavar="SECONDS",
+                        help=f"a track without a position for longer is cut there ({GAP:g})")
+    further(parser)
+    given = parser.parse_args()
+    if given.daemon is not None and given.files:
+        parser.error("--daemon or FILE, not both")
+    if given.output and os.path.exists(given.output) and any(os.path.exists(name) and os.path.samefile(name, given.output) for name in given.files):
+        parser.error(f"{given.output} would be read and written")
+    return parser, given
+
+
+def read_run(given, output):
+    """All that the words name, and the device of it. `output` is the word of -o in an example. None if there is nothing to write."""
+    run = Run()
+    if given.daemon is not None:
+        follow(run, given.daemon)
+    for name in given.files or ([None] if given.daemon is None else []):
+        then = f"{PROGRAM} -o {shlex.quote(given.output or output)}"
+        if name is None:
+            read_lines(run, lines_of(sys.stdin.buffer), name, then)
+        else:
+            with open(name, "rb") as source:
+                read_lines(run, lines_of(source), name, then)
+    device = run.chosen(given.device)
+    if run.bad:
+        say(f"{run.bad} bad line{'s' if run.bad > 1 else ''} of {run.lines}, the first is line {run.first_bad}")
+    if len(run.devices()) > 1:
+        say(f"devices: {', '.join(run.devices())}; the track is that of {device}")
+    return run, device
+
+
+def follow(run, address):
+    """Takes the lines of a daemon until Ctrl-C or SIGTERM. Where a link ends, the track is cut."""
+    place = address_words(*address)
+
+    def tell(connected):
+        say(f"the daemon at {place} is there" if connected else f"the daemon at {place} is gone; trying again")
+        if not connected:
+            run.cut()
+
+    signal.signal(signal.SIGTERM, signal.default_int_handler)
+    try:
+        say(f"following the daemon at {place}; Ctrl-C ends it")
+        for line in daemon_lines(address, tell):
+            run.take(line)
+    except KeyboardInterrupt:
+        signal.signal(signal.SIGTERM, signal.SIG_DFL)
+
+
+def written(call):
+    """The exit status of a program whose work is `call`: 1, with a line on standard error, if its input or output fails."""
+    try:
+        return call()
+    except Undecoded as fault:
+        say(str(fault))
+    except OSError as fault:
+        say(f"{fault.filename or 'input or output'}: {fault.strerror}")
+    return 1
+
+
+def write(path, text):
+    """Writes a text to a file, or to standard output if there is no path."""
+    if path is None:
+        sys.stdout.buffer.write(text.encode())
+        sys.stdout.buffer.flush()
+    else:
+        with open(path, "w", encoding="utf-8", newline="") as out:
+            out.write(text)

@@ -121,7 +121,11 @@ class Browser:
         return found
 
     def size(self, width, height):
-        self.call("Emulation.setDeviceMetricsOverride", width=width, height=height, deviceScaleFactor=1, mobile=width < 600)
+        self.call("Emulation.setDeviceMetricsOverride", width=width, height=height, deviceScaleFactor=1, mobile=min(width, height) < 600)
+
+    def downloads(self, folder):
+        """From here on what is downloaded goes to this folder."""
+        self.call("Browser.setDownloadBehavior", behavior="allow", downloadPath=folder)
 
     def prefer(self, **features):
         """Media features, as color_scheme="dark"."""
@@ -134,9 +138,9 @@ class Browser:
         for kind in "keyDown", "keyUp":
             self.call("Input.dispatchKeyEvent", type=kind, key=key, windowsVirtualKeyCode=code, **(character if kind == "keyDown" else {}))
 
-    def screenshot(self, path):
-        """The whole page as a PNG."""
-        shot = self.call("Page.captureScreenshot", captureBeyondViewport=True)
+    def screenshot(self, path, whole=True):
+        """The whole page as a PNG, or what the screen shows of it."""
+        shot = self.call("Page.captureScreenshot", captureBeyondViewport=whole)
         with open(path, "wb") as out:
             out.write(base64.b64decode(shot["data"]))
 

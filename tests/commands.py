@@ -253,7 +253,7 @@ def examples():
 
 def documents():
     """README.md, docs/*.md and the manual pages."""
-    pages = [it for it in glob.glob(f"{TOP}/**/*.8", recursive=True) if it not in EXAMPLES]
+    pages = [it for it in glob.glob(f"{TOP}/docs/*.[1-8]")]
     return [os.path.join(TOP, "README.md"), *sorted(glob.glob(f"{TOP}/docs/*.md")), *sorted(pages)]
 
 

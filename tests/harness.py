@@ -226,19 +226,25 @@ class Client:
         return None if line is None else json.loads(line)
 
     def lines(self):
-        """All lines up to the end."""
+        """All lines up to the end of the stream, at which it closes its side too."""
         found = []
         while (line := self.line()) is not None:
             found.append(line)
+        self.close_at_end()
         return found
 
     def rest(self):
-        """All bytes up to the end."""
+        """All bytes up to the end of the stream, at which it closes its side too."""
         had = bytearray(self.buffer)
         while data := self.receive():
             had += data
         self.buffer = b""
+        self.close_at_end()
         return bytes(had)
+
+    def close_at_end(self):
+        if self.ended:
+            self.close()
 
     def watching(self, words='{"json":true}'):
         """Reads the greeting, watches with these words, and reads the two lines of the answer."""

@@ -8,6 +8,7 @@ import subprocess
 import sys
 import tempfile
 import time
+import xml.etree.ElementTree as xml
 
 import browser
 from harness import Daemon, check, free_port
@@ -220,7 +221,7 @@ class Drive:
         self.fifos = {"gps0": os.path.join(folder, "gps0"), OTHER: os.path.join(folder, "other")}
         for fifo in self.fifos.values():
             os.mkfifo(fifo)
-        self.positions = 0  # of gps0
+        self.positions, self.last = 0, None  # of gps0: how many, and the last report that has one
         self.start()
 
     def start(self):
@@ -237,7 +238,8 @@ class Drive:
         while report := self.client.object():
             if report["class"] != "TPV":
                 continue
-            self.positions += "lat" in report and report["device"] == "gps0"
+            if "lat" in report and report["device"] == "gps0":
+                self.positions, self.last = self.positions + 1, report
             if (report["device"], report["time"]) == (device, clock):
                 return report
         return None
@@ -255,8 +257,8 @@ def words(name):
 
 def shows(chromium, fix):
     """The page shows a fix of the daemon's own lines."""
-    wanted = {"lat": f"{fix['lat']:.7f}° N", "lon": f"{fix['lon']:.7f}° E", "mode": f"{fix['mode']}D fix", "speed": f"{fix['speed']:.2f} m/s",
-              "speed-kmh": f"{fix['speed'] * 3.6:.1f} km/h", "course": f"{fix['track']:.1f}°", "msl": f"{fix['altMSL']:.1f} m",
+    wanted = {"lat": f"{fix['lat']:.7f}° N", "lon": f"{fix['lon']:.7f}° E", "mode": f"{fix['mode']}D fix",
+              "speed": f"{fix['speed'] * 3.6:.1f} km/h", "speed-ms": f"{fix['speed']:.2f} m/s", "course": f"{fix['track']:.1f}°", "msl": f"{fix['altMSL']:.1f} m",
               "clock": f"{fix['time'][11:19]} UTC", "date": fix["time"][:10], "status": f"{fix['mode']}D fix"}
     chromium.wait(words("clock"), wanted["clock"])
     check(f"page: the fix of {wanted['clock']}", wanted, {name: chromium.value(words(name)) for name in wanted})
@@ -280,6 +282,8 @@ def in_browser(program, path, shots):
             chromium.size(360, 800)
             chromium.call("Page.navigate", url=f"http://127.0.0.1:{view.port}/")
             the_drive(chromium, drive, shots)
+            sideways(chromium, shots)
+            links(chromium, view, drive, folder)
             another_device(chromium, drive)
             by_keyboard(chromium)
             gone_and_back(chromium, drive, shots)
@@ -305,7 +309,9 @@ def the_drive(chromium, drive, shots):
     check("page: a change of mode is said aloud", ["polite", "status"],
           chromium.value("[document.getElementById('status').ariaLive, document.getElementById('status').getAttribute('role')]"))
     shows(chromium, drive.drive(6, 40))
-    shows(chromium, drive.drive(40, 120))
+    in_the_tunnel(chromium, drive, shots)
+    shows(chromium, drive.drive(105, 120))
+    check("page: and in colour again", False, chromium.value("document.getElementById('fix').classList.contains('lost')"))
     drawn(chromium, drive)
     for width in 360, 1280:
         fits(chromium, width)
@@ -318,10 +324,24 @@ def the_drive(chromium, drive, shots):
           chromium.value("getComputedStyle(document.getElementById('status'), '::before').animationName"))
 
 
-def fits(chromium, width):
-    chromium.size(width, 800)
+def in_the_tunnel(chromium, drive, shots):
+    """The fix is lost: the last position is kept in grey, the clock goes on, and what is not known is not shown."""
+    lost = drive.drive(40, 105)
+    wanted = {"lat": f"{drive.last['lat']:.7f}° N", "lon": f"{drive.last['lon']:.7f}° E", "msl": f"{drive.last['altMSL']:.1f} m", "speed": "–",
+              "course": "–", "mode": "No fix", "clock": f"{lost['time'][11:19]} UTC", "status": "No fix. The last position is in grey."}
+    chromium.wait(words("clock"), wanted["clock"])
+    check("page: the fix is lost, the last position stays", (False, wanted), ("lat" in lost, {name: chromium.value(words(name)) for name in wanted}))
+    colours = ("(() => { const of = (id, what) => getComputedStyle(typeof id === 'string' ? document.getElementById(id) : id)[what], "
+               "grey = of(document.querySelector('dt'), 'color'); return [of('lat', 'color') === grey, of('lon', 'color') === grey, "
+               "of('msl', 'color') === grey, of('clock', 'color') === grey, of(document.querySelector('.here'), 'fill') === grey]; })()")
+    check("page: place, height and mark are grey, and the clock is not", [True, True, True, False, True], chromium.value(colours))
+    chromium.screenshot(os.path.join(shots, "view-lost.png"))
+
+
+def fits(chromium, width, height=800):
+    chromium.size(width, height)
     check(f"page: nothing is wider than {width} pixels", True, chromium.wait(f"document.documentElement.scrollWidth <= {width} "
-          "&& [...document.querySelectorAll('dd, dt, h2, button, #status')].every(e => e.scrollWidth <= e.clientWidth + 1)", True))
+          "&& [...document.querySelectorAll('dd, dt, h2, button, .button, #status')].every(e => e.scrollWidth <= e.clientWidth + 1)", True))
 
 
 def another_device(chromium, drive):
@@ -337,15 +357,47 @@ def another_device(chromium, drive):
     check("page: and the first one again", "10:16:58 UTC", chromium.wait(words("clock"), "10:16:58 UTC"))
 
 
+def sideways(chromium, shots):
+    """A phone held sideways shows the values and the whole track at once."""
+    for width, height in (800, 360), (667, 375):
+        fits(chromium, width, height)
+        on_one_screen = ("['status', 'lat', 'lon', 'mode', 'age', 'speed', 'course', 'msl', 'clock', 'maps', 'trackplot'].filter(id => { "
+                         f"const box = document.getElementById(id).getBoundingClientRect(); return box.top < 0 || box.bottom > {height}; }})")
+        check(f"page: {width} by {height}: all of it on one screen", [], chromium.wait(on_one_screen, []))
+        tall = "document.getElementById('trackplot').getBoundingClientRect().height >= 150"
+        check(f"page: {width} by {height}: the track is not too small", True, chromium.wait(tall, True))
+        chromium.screenshot(os.path.join(shots, f"view-{width}-sideways.png"), whole=False)
+    chromium.size(360, 800)
+
+
+def links(chromium, view, drive, folder):
+    """A map is opened by a click alone, and the track is a file of this page's own server."""
+    place = f"{drive.last['lat']:.6f},{drive.last['lon']:.6f}"
+    north, east = place.split(",")
+    osm = f"https://www.openstreetmap.org/?mlat={north}&mlon={east}#map=17/{north}/{east}"
+    found = chromium.value("[document.getElementById('geo').href, document.getElementById('osm').href, document.getElementById('osm').rel]")
+    check("page: links to a map", [f"geo:{place}", osm, "noopener noreferrer"], found)
+    chromium.downloads(folder)
+    chromium.value("document.getElementById('gpx').click()")
+    path, end = os.path.join(folder, "gps0-2024-06-01.gpx"), time.monotonic() + 8
+    while not os.path.exists(path) and time.monotonic() < end:
+        time.sleep(0.05)
+    points = []
+    if os.path.exists(path):
+        points = [(point.get("lat"), point.get("lon")) for point in xml.parse(path).getroot().iter("{http://www.topografix.com/GPX/1/1}trkpt")]
+    check("page: the track is downloaded as GPX", (drive.positions, [f"{drive.last['lat']:.9f}", f"{drive.last['lon']:.9f}"]),
+          (len(points), list(points[-1]) if points else None))
+
+
 def by_keyboard(chromium):
     focus, pressed = "document.activeElement.id || document.activeElement.tagName", "document.getElementById('follow').ariaPressed"
     places = []
-    for _ in range(3):
+    for _ in range(6):
         chromium.press("Tab", 9)
         places.append(chromium.value(focus))
         if places[-1] == "follow":
             chromium.press(" ", 32)
-    check("page: device, button and list by the keyboard", (["device", "follow", "SUMMARY"], "true"), (places, chromium.value(pressed)))
+    check("page: device, links, button and list by the keyboard", (["device", "geo", "osm", "gpx", "follow", "SUMMARY"], "true"), (places, chromium.value(pressed)))
     chromium.press("\r", 13)
     check("page: the list of satellites opens", 8, chromium.wait("document.querySelectorAll('#satellites tr').length", 8))
 

@@ -1,8 +1,8 @@
 #!/usr/bin/env python3
 """What a daemon does only after a quarter of an hour, or after a hundred thousand clients. The gate leaves this out, because it takes so long.
 
-Use: long_runs.py PROGRAM [NAME..]. NAME picks some of the parts: `idle` (15 minutes) and `sessions` (some minutes). Prints a line for each
-check, and ends with 1 if one fails. Every wait is bounded.
+Use: long_runs.py PROGRAM [NAME..]. NAME picks some of the parts: `idle` (15 minutes) and `sessions` (three hours, since the door takes ten
+clients a second). Prints a line for each check, and ends with 1 if one fails. Every wait is bounded.
 """
 import os
 import socket

@@ -128,7 +128,18 @@ def ended(sessions, items):
     report("the same end", {0, 7}, seen, wrong)
 
 
+def without_end(times, kilobytes):
+    """`decode --history all` over more bytes than any number of --history allows takes no more memory than over few."""
+    drive = sample("drive.nmea")
+    lines = run(PROGRAM, "decode", given=drive)[1].count(b"\n")
+    status, out, _ = run(PROGRAM, "decode", "--history", "all", given=drive * times, kilobytes=kilobytes)
+    found = (status, out.count(b"\n"), times * lines)
+    good = status == 0 and found[1] > found[2] - 3 * times and len(drive) * times > 33_554_432
+    within(f"decode --history all of {len(drive) * times:,} bytes in {kilobytes:,} KB of address space", good, found)
+
+
 tried("decode", ["decode"], sample("drive.nmea"))
+without_end(33_554_432 // len(sample("drive.nmea")) + 1, 8_000)
 tried("pseudo", ["pseudo"], sample("drive.nmea"))
 tried("replay", ["replay"], sample("two_devices.script"))
 tried("generate", ["generate", "--seed", "1", "--size", "100"], b"")

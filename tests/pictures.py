@@ -17,11 +17,12 @@ import time
 import xml.etree.ElementTree as xml
 
 import live_page
+import page_links
 from checks import check, exit_status
 
 HERE = os.path.dirname(os.path.abspath(__file__))
 ROOT = os.path.dirname(HERE)
-TRACK = os.path.join(ROOT, "tools", "track.py")
+TRACK, EXPORT = (os.path.join(ROOT, "tools", name) for name in ("track.py", "export.py"))
 SVG = "{http://www.w3.org/2000/svg}"
 
 sys.path.insert(0, os.path.join(ROOT, "samples"))
@@ -66,43 +67,65 @@ def positions(lines):
     return [report for report in map(json.loads, lines) if report["class"] == "TPV" and "lat" in report]
 
 
+def made():
+    """The seconds of the made drive in which its receiver has a fix."""
+    return [moment for moment in make_drive.moments() if moment.fix]
+
+
 def metres_of_drive():
-    """The length of the made drive between its first and its last fix, by its own legs."""
-    return sum(seconds * speed for seconds, _, speed in make_drive.LEGS) - make_drive.LEGS[-1][2]
+    """The length of the made drive from its first to its last fix: its own way, and straight on through the tunnel."""
+    return sum(after.way - before.way if after.at == before.at + 1 else math.dist((before.east, before.north), (after.east, after.north))
+               for before, after in zip(made(), made()[1:]))
 
 
 def near(wanted, found, part=0.01):
     return abs(found - wanted) <= abs(wanted) * part
 
 
+def decoded(lines):
+    """Each fix of the lines is the made one, as exactly as its sentences tell it: 1e-4 minute, 0.1 m, 0.01 degree, 0.001 knot."""
+    def clock(moment):
+        return f"2024-06-01T{moment.at // 3600:02d}:{moment.at // 60 % 60:02d}:{moment.at % 60:02d}.000Z"
+
+    found = positions(lines)
+    check("the made drive: a position in each second with a fix, and in no other", [clock(moment) for moment in made()], [fix["time"] for fix in found])
+    exact = {"lat": 0.5e-4 / 60 + 1e-9, "lon": 0.5e-4 / 60 + 1e-9, "altMSL": 0.0501, "track": 0.00501, "speed": 0.001}
+    wrong = [(fix["time"], name) for moment, fix in zip(made(), found) for name, most in exact.items()
+             if abs(fix[name] - getattr(moment, "height" if name == "altMSL" else name)) > most]
+    check("the made drive: place, height, track and speed", [], wrong)
+
+
 def the_drive(lines):
     status, picture, text, errors = track(lines)
-    words = words_of(picture)
+    words, speeds, heights = words_of(picture), [moment.speed * 3.6 for moment in made()], [moment.height for moment in made()]
     check("the drive: status and no word", (0, ""), (status, errors))
-    check("the drive: a point for each position", len(positions(lines)), len(pixels(by_id(picture, "track"))))
+    check("the drive: a point for each position", len(made()), len(pixels(by_id(picture, "track"))))
     check("the drive: device and date", "stdin, 1 June 2024", words[0])
-    told = re.fullmatch(r"10:15:10 to 10:17:59 UTC  ·  2 min 49 s  ·  ([\d.]+) km  ·  170 fixes", words[1])
+    told = re.fullmatch(rf"10:15:10 to 10:17:59 UTC  ·  2 min 49 s  ·  ([\d.]+) km  ·  {len(made())} fixes", words[1])
     check("the drive: times, duration and number of fixes", True, told is not None or words[1])
-    check("the drive: the distance is that of its legs", True, near(metres_of_drive(), float(told[1]) * 1000) or told[1])
+    check("the drive: the distance is that of its way", True, near(metres_of_drive(), float(told[1]) * 1000) or told[1])
     scales(picture, words)
     sky(picture)
     check("the drive: speeds and heights with their units", True,
-          {"Speed, km/h", "0.0 to 50.0 km/h", "Height above the sea, m", "545.4 to 545.4 m", "no fix"} <= set(words) or words)
+          {"Speed, km/h", f"{min(speeds):.1f} to {max(speeds):.1f} km/h", "Height above the sea, m",
+           f"{min(heights):.1f} to {max(heights):.1f} m"} <= set(words) or words)
+    check("the drive: a tunnel and a beginning without a fix, in both strips", 4, words.count("no fix"))
+    gap = pixels(by_id(picture, "gaps"))
+    points = pixels(by_id(picture, "track"))
+    enters = next(number for number, (before, after) in enumerate(zip(made(), made()[1:])) if after.at > before.at + 1)
+    check("the drive: the tunnel is dotted", points[enters:enters + 2], gap)
     check("the drive: for dark and for light", True, "@media (prefers-color-scheme:dark)" in text)
     with open(os.path.join(ROOT, "samples", "drive.svg"), encoding="utf-8") as shown:
         check("samples/drive.svg is this picture", True, shown.read() == text)
 
 
 def scales(picture, words):
-    """Both axes have the scale of the bar: along the first leg, which goes east, and along the third, which goes south."""
+    """Each point is where it must be from the first one, by the scale of the bar: east to the right, north up."""
     points = pixels(by_id(picture, "track"))
     bar = next(float(found[1]) for part in picture.iter(SVG + "path") if (found := re.search(r"v8h([\d.]+)v-8", part.get("d"))))
     metres = next(float(found[1]) for word in words if (found := re.fullmatch(r"([\d.]+) m", word)))
-    first, stop, third = make_drive.LEGS[:3]
-    south = first[0] + stop[0]
-    check("the scale is right towards the east", True, near(bar / metres, math.dist(points[0], points[first[0]]) / (first[0] * first[2])))
-    check("and towards the south", True, near(bar / metres, math.dist(points[south], points[south + third[0]]) / (third[0] * third[2])))
-    check("east is right and south is below", (True, True), (points[first[0]][0] > points[0][0], points[south + third[0]][1] > points[south][1]))
+    wanted = [(points[0][0] + moment.east * bar / metres, points[0][1] - moment.north * bar / metres) for moment in made()]
+    check("each point within a pixel of its place, by the bar's scale", True, max(map(math.dist, wanted, points)) < 1 or max(map(math.dist, wanted, points)))
 
 
 def sky(picture):
@@ -131,12 +154,33 @@ def other_streams(lines):
     check("bad lines are counted and change nothing", (0, told, True), (status, errors, text == plain))
     cut = lines[:60] + [b'{"class":"TPV","device":"stdin","mode":1}'] + lines[60:]
     status, picture, _, _ = track(cut)
-    check("a fix that is lost in between: two runs, no point less", (2, len(positions(lines))),
+    check("a fix that is lost in between: one run more, no point less", (3, len(positions(lines))),
           (by_id(picture, "track").get("d").count("M"), len(pixels(by_id(picture, "track")))))
     untimed = [re.sub(rb'"time":"[^"]*",', b"", line) for line in lines]
     check("without times: a point for each position", len(positions(lines)), len(pixels(by_id(track(untimed)[1], "track"))))
     check("a file that is not there: status and one line", (1, None, "track.py: /nowhere: No such file or directory\n"),
           track([], "/nowhere")[:2] + (track([], "/nowhere")[3],))
+
+
+def further_words(lines):
+    """A title, a gap of another length, the same track as GPX, and a file that is not decoded."""
+    check("a title", "Over <the> hill", words_of(track(lines, "--title", "Over <the> hill")[1])[0])
+    late = [line for line in lines if not re.search(rb"T10:17:3[0-4]", line)]
+    runs = [by_id(track(late, *words)[1], "track").get("d").count("M") for words in ((), ("--gap", "4"))]
+    check("five seconds without a line: no gap; one if --gap is 4", [2, 3], runs)
+    check("a gap that is none", 2, track(lines, "--gap", "0")[0])
+    with tempfile.TemporaryDirectory() as folder:
+        both, alone = (os.path.join(folder, name) for name in ("both.gpx", "alone.gpx"))
+        text = track(lines, "--gpx", both)[2]
+        check("the picture is the same with --gpx", True, text == track(lines)[2])
+        subprocess.run([sys.executable, EXPORT, "-o", alone], input=b"".join(line + b"\r\n" for line in lines), check=True, timeout=60)
+        with open(both, "rb") as one, open(alone, "rb") as other:
+            check("--gpx is the file of export.py", True, one.read() == other.read())
+    drive = os.path.join(ROOT, "samples", "drive.nmea")
+    told = f"track.py: {drive} holds what a receiver sends; decode it first: gpsrelay decode < {drive} | track.py -o OUT.svg\n"
+    check("a file of sentences: status, no picture, and what to do", (1, "", told), (lambda found: (found[0], found[2], found[3]))(track([], drive)))
+    told = "track.py: standard input has no line of `gpsrelay decode` or of a daemon\n"
+    check("lines of something else: status and a reason", (1, "", told), (lambda found: (found[0], found[2], found[3]))(track([b"a", b"b"])))
 
 
 def devices(lines):
@@ -172,10 +216,13 @@ def main():
     program = os.path.abspath(sys.argv[1])
     with open(os.path.join(ROOT, "samples", "drive.nmea"), "rb") as drive:
         lines = subprocess.run([program, "decode"], stdin=drive, capture_output=True, check=True, timeout=60).stdout.split(b"\r\n")[:-1]
+    decoded(lines)
     the_drive(lines)
     other_streams(lines)
     devices(lines)
+    further_words(lines)
     an_hour(lines)
+    page_links.run(program)
     with tempfile.TemporaryDirectory() as folder:
         live_page.run(program, sys.argv[2] if len(sys.argv) > 2 else folder)
     return exit_status()

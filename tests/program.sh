@@ -36,7 +36,7 @@ check 'one byte more than the history: no line' '' "$(cat "$place/out")"
 run decode --history 70
 check 'as many bytes as the history: status' 0 "$status"
 
-for words in '' 'frob' 'decode --history 0' 'decode --history x' 'decode --help' 'decode more' 'pseudo more' 'lines more' 'lines --history 5' 'replay --queue 0' 'generate' 'generate --seed 1' 'generate --seed 1 --size 0' 'serve'; do
+for words in '' 'frob' 'decode --history 0' 'decode --history x' 'decode more' 'pseudo more' 'lines more' 'lines --history 5' 'replay --queue 0' 'generate' 'generate --seed 1' 'generate --seed 1 --size 0' 'serve'; do
     run $words
     check "refused words '$words': status" 2 "$status"
     check "refused words '$words': nothing on standard output" '' "$(cat "$place/out")"

@@ -29,7 +29,10 @@ def served(program, words, requests, then=None):
         greetings.append(clients[-1].line())
     if then:
         greetings[0] += then(clients[0])
-    got = [greeting + client.rest() for greeting, client in zip(greetings, clients)]
+    got = []
+    for greeting, client in zip(greetings, clients):
+        got.append(greeting + client.rest())
+        client.close()
     return got, *daemon.wait()
 
 

@@ -17,7 +17,7 @@ from harness import VERSION, Daemon, FifoDevice, TcpDevice, check, many_files, r
 
 PROGRAM = os.path.abspath(sys.argv[1])
 WATCH = b'?WATCH={"json":true};'
-LINKS = 10_000  # how many clients come and go one after another
+LINKS = 400  # how many clients come and go one after another: a burst at once, and then ten a second
 
 
 def started(*words):
@@ -56,6 +56,7 @@ def a_day():
     check("a bad WATCH in two pieces", {"class": "ERROR", "message": "Invalid WATCH"}, client.object())
     device.end()
     rest = client.lines()
+    client.close()
     check("the end: the last fix, the device's end, and nothing else", ["TPV", "DEVICE"], classes_of(rest))
     status, out = daemon.wait()
     check("the daemon ends by itself: status", 0, status)
@@ -144,7 +145,7 @@ def crowd():
     time.sleep(1.5)
     within(f"{LINKS:,} links later: open files", daemon.open_files() <= files + 8, (files, daemon.open_files()))
     within(f"{LINKS:,} links later: threads", daemon.threads() <= threads + 8, (threads, daemon.threads()))
-    within(f"{LINKS:,} links later: at most 2 KB each", daemon.memory() <= memory + LINKS * 2, (memory, daemon.memory()))
+    within(f"{LINKS:,} links later: at most 10 KB each", daemon.memory() <= memory + LINKS * 10, (memory, daemon.memory()))
     device.end()
     check("the crowd: status", 0, daemon.wait()[0])
 

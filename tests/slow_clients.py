@@ -170,15 +170,16 @@ def few_threads():
         print("        few threads: left out, as it wants root, setpriv and prlimit", flush=True)
         return
     with tempfile.TemporaryDirectory() as folder:
-        # The daemon, its publisher and its door have three threads; a fourth one reads the first device.
-        for most in 4, 3:
+        # The daemon, its messages, its publisher and its door have four threads; a fifth one reads the first device.
+        for most in 5, 4:
             device, silent = TcpDevice("gps0"), TcpDevice("gps1")
-            words = [device.word] if most == 4 else []
+            words = [device.word] if most == 5 else []
             daemon = FewThreads(folder, most, *words, silent.word)
-            if most == 4:
+            if most == 5:
                 client = daemon.client()
                 check(f"{most} threads: a client is greeted", VERSION, client.line())
                 check(f"{most} threads: and closed", None, client.line())
+                client.close()
                 device.take().send(fixes(1))
                 device.end()
             status = daemon.wait(10)[0]

@@ -1,19 +1,21 @@
 #!/usr/bin/env python3
-"""What the program says on standard error: why words are refused, the help, one line at each status but 0, and the daemon's messages.
+"""What the program says: the help and the version, why words are refused, and one line at each status but 0.
 
 Use: words.py PROGRAM. Prints a line for each check, and ends with 1 if one fails. Every wait is bounded.
 """
 import os
-import socket
+import re
 import subprocess
 import sys
 import tempfile
 
-from harness import Daemon, TcpDevice, check, exit_status, free_port, sentence
+from harness import check, exit_status, frame, run_parts, sentence
 
 PROGRAM = os.path.abspath(sys.argv[1])
+TOP = os.path.dirname(os.path.dirname(os.path.abspath(__file__)))
 USAGE = "usage: gpsrelay decode|replay|generate|pseudo|lines|serve"
 WAIT = 20
+COMMANDS = ["decode", "replay", "generate", "pseudo", "lines", "serve"]
 
 RMC = sentence("GPRMC,123519,A,4807.038,N,01131.000,E,022.4,084.4,230394,003.1,W")
 TPV = (b'{"class":"TPV","device":"stdin","mode":2,"time":"1994-03-23T12:35:19.000Z","lat":48.117300000,"lon":11.516666667,'
@@ -32,13 +34,20 @@ REFUSED = [
     ("lines log", "lines reads standard input: lines < log"),
     ("replay a.script", "replay reads standard input: replay < a.script"),
     ("generate 5", "generate --seed N --size N"),
-    ("decode --history 0", "0: --history takes a whole number from 1 to 33554432"),
-    ("decode --history x", "x: --history takes a whole number from 1 to 33554432"),
+    ("decode -", "-: leave it out: decode reads standard input"),
+    ("decode --history 0", "0: --history takes a whole number from 1 to 33554432, or all"),
+    ("pseudo --history=0", "--history takes a whole number from 1 to 33554432, or all"),
+    ("decode --history x", "x: --history takes a whole number from 1 to 33554432, or all"),
+    ("decode --history all --history all", "--history: the option is given twice"),
+    ("decode --history ALL", "ALL: --history takes a whole number from 1 to 33554432, or all"),
+    ("replay --history all", "all: --history takes a whole number from 1 to 33554432; all is for decode and pseudo"),
+    ("serve --history=all g=file:a", "--history takes a whole number from 1 to 33554432; all is for decode and pseudo"),
+    ("replay --history 0", "0: --history takes a whole number from 1 to 33554432"),
     ("decode --history=33554433", "--history takes a whole number from 1 to 33554432"),
     ("decode --history +5", "+5: --history takes a whole number"),
     ("decode --history", "--history: the value is missing"),
     ("pseudo --history --history", "--history"),
-    ("decode --history 1 --history 2", "--history: the option stands twice"),
+    ("decode --history 1 --history 2", "--history: the option is given twice"),
     ("decode --histroy 5", "--histroy: no such option of decode; did you mean --history?"),
     ("decode --queue 5", "--queue: no such option of decode"),
     ("decode -x", "-x: no such option of decode"),
@@ -56,7 +65,31 @@ REFUSED = [
     ("serve --listne 127.0.0.1:0 g=file:a", "--listne: no such option of serve; did you mean --listen?"),
     ("serve --frobnicate g=file:a", "--frobnicate: no such option of serve"),
     ("serve --listen here g=file:a", "here: --listen takes HOST:PORT"),
-    ("serve --listen 127.0.0.1:65536 g=file:a", "127.0.0.1:65536: --listen takes HOST:PORT"),
+    ("serve --listen 127.0.0.1:65536 g=file:a", "127.0.0.1:65536: --listen takes HOST:PORT, as 127.0.0.1:2947; a port has at most 5 digits, and is at most 65535"),
+    ("serve --listen 127.0.0.1:000080 g=file:a", "a port has at most 5 digits, and is at most 65535"),
+    ("serve --listen :2947 g=file:a", "the host is missing"),
+    ("serve --listen 2947 g=file:a", "say 127.0.0.1:2947"),
+    ("serve --listen tcp://127.0.0.1:2947 g=file:a", "--listen takes HOST:PORT"),
+    ("serve --stop", "--stop: the value is missing: a path"),
+    ("serve --stop= g=file:a", "--stop takes a path"),
+    ("serve --stop a --stop b g=file:a", "--stop: the option is given twice"),
+    ("serve --reopen 0 g=file:a", "0: --reopen takes a whole number from 1 to 3600"),
+    ("serve --reopen 3601 g=file:a", "3601: --reopen takes a whole number from 1 to 3600"),
+    ("serve --reopne 2 g=file:a", "--reopne: no such option of serve; did you mean --reopen?"),
+    ("decode --stop a", "--stop: no such option of decode"),
+    ("serve -n g=file:a", "-n: no such option of serve; leave it out: serve reads its devices before a client connects"),
+    ("serve -N g=file:a", "-N: no such option of serve; leave it out: serve stays in the foreground"),
+    ("serve -G g=file:a", "-G: no such option of serve; say --listen 0.0.0.0:2947 for all addresses"),
+    ("serve -b g=file:a", "-b: no such option of serve; leave it out: serve writes nothing to a device"),
+    ("serve -D 5 g=file:a", "-D: no such option of serve; leave it out: serve has no levels of messages"),
+    ("serve -D5 g=file:a", "-D5: no such option of serve; leave it out: serve has no levels of messages"),
+    ("-n /dev/ttyUSB0", "-n: no such command; leave it out"),
+    ("-G", "-G: no such command; say --listen 0.0.0.0:2947"),
+    ("/dev/ttyUSB0", "/dev/ttyUSB0: no such command; say serve gps0=file:/dev/ttyUSB0"),
+    ("gps0=file:/dev/ttyUSB0", "no such command; say serve gps0=file:/dev/ttyUSB0"),
+    ("help bogus", "bogus: no such command"),
+    ("help decod", "decod: no such command; did you mean decode?"),
+    ("help decode lines", "lines: help takes one command"),
     ("serve --queue 0 g=file:a", "--queue takes a whole number from 1 to 65536"),
     ("serve --wait 65 g=file:a", "--wait takes a whole number from 0 to 64"),
     ("serve --monitor 1000001 g=file:a", "--monitor takes a whole number from 0 to 1000000"),
@@ -67,26 +100,49 @@ REFUSED = [
     ("serve gps0=serial:/dev/ttyS0", "say gps0=file:PATH"),
     ("serve gps0=file:", "gps0=file:: the path is missing"),
     ("serve gps0=tcp:host", "say gps0=tcp:HOST:PORT"),
-    ("serve gps0=tcp:host:65536", "say gps0=tcp:HOST:PORT"),
+    ("serve gps0=tcp:host:65536", "say gps0=tcp:HOST:PORT; a port has at most 5 digits, and is at most 65535"),
+    ("serve gps0=tcp::2000", "say gps0=tcp:HOST:PORT; the host is missing"),
+    ("serve gps0=tcp://host:2000", "gps0=tcp://host:2000: say gps0=tcp:host:2000"),
+    ("serve gps0=gpsd://host:2947/", "gps0=gpsd://host:2947/: say gps0=gpsd:host:2947"),
+    ("serve gps0=gpsd://host", "say gps0=gpsd:HOST:PORT"),
+    ("serve gpsd://host:2947", "gpsd://host:2947: say NAME=gpsd:host:2947"),
+    ("serve gps0=host:2000", "gps0=host:2000: say gps0=tcp:host:2000"),
+    ("serve gps0:/dev/ttyUSB0", "gps0:/dev/ttyUSB0: say gps0=file:/dev/ttyUSB0"),
+    ("serve gps0:tcp:host:2000", "gps0:tcp:host:2000: say gps0=tcp:host:2000"),
     ("serve gpsd:localhost:2947", "gpsd:localhost:2947: say NAME=gpsd:localhost:2947"),
     ("serve gps0=gpsd:host", "say gps0=gpsd:HOST:PORT"),
     ("serve =file:a", "a name has 1 to 64 printable ASCII characters"),
     ("serve gps\"0=file:a", "a name has 1 to 64 printable ASCII characters"),
-    ("serve gps0=file:a gps0=tcp:b:1", "the name gps0 stands twice"),
+    ("serve gps0=file:a gps0=tcp:b:1", "the name gps0 is used twice"),
     ("serve gps0=edges:e", "the device gps0 is missing"),
-    ("serve gps0=edges:e gps0=file:a", "edges stand behind the word of their device gps0"),
-    ("serve gps0=file:a gps0=edges:e gps0=edges:f", "edges of gps0 stand twice"),
+    ("serve gps0=edges:e gps0=file:a", "give the edges of gps0 after its own word"),
+    ("serve gps0=file:a gps0=edges:e gps0=edges:f", "the edges of gps0 are given twice"),
     ("serve " + NINE, "g8=file:/dev/null: at most 8 devices"),
 ]
 
-# Words that ask for the help, and what it must say.
-HELP = ["", "help", "-h", "--help", "decode --help", "serve -h", "serve --help g=file:a", "generate --seed 1 --help"]
+# Words that ask for the whole help, and what it must say.
+HELP = ["help", "-h", "--help"]
 HELP_SAYS = ["serve", "decode", "pseudo", "lines", "replay", "generate", "--listen HOST:PORT", "127.0.0.1:2947", "--queue N", "1 to 65536",
              "--history N", "1 to 33554432", "16777216", "--wait N", "0 to 64", "--monitor N", "0 to 1000000", "--seed N", "0 to 4294967295",
              "--size N", "1 to 10000", "NAME=file:PATH", "NAME=tcp:HOST:PORT", "NAME=gpsd:HOST:PORT",
-             "NAME=edges:PATH"]
+             "NAME=edges:PATH", "--reopen SECONDS", "1 to 3600", "--stop PATH", "1 to 33554432, or all"]
 
-VERSION = ["version", "--version"]
+# Words that ask for the help of one command, what it must say, and what it must not.
+HELP_OF = [
+    ("help serve", "serve", ["--listen HOST:PORT", "--stop PATH", "--reopen SECONDS", "NAME=gpsd:HOST:PORT"], "--seed"),
+    ("serve --help", "serve", ["--listen HOST:PORT"], "--seed"),
+    ("serve -h", "serve", ["--listen HOST:PORT"], "--seed"),
+    ("serve --help g=file:a", "serve", ["--queue N"], "--seed"),
+    ("--help serve", "serve", ["--wait N"], "--seed"),
+    ("help decode", "decode", ["--history N", "33554432, or all"], "--listen"),
+    ("decode --help", "decode", ["gpsrelay decode < drive.nmea"], "--listen"),
+    ("help pseudo", "pseudo", ["RMC and GGA"], "--listen"),
+    ("help lines", "lines", ["has no options"], "--history N"),
+    ("help replay", "replay", ["--queue N"], "--listen"),
+    ("generate --seed 1 --help", "generate", ["--size N"], "--listen"),
+]
+
+VERSION = ["version", "--version", "-V"]
 
 
 def run(words, given=b"", out=subprocess.PIPE):
@@ -114,21 +170,47 @@ def refused(words, *texts):
 def words_that_are_refused():
     for words, text in REFUSED:
         rest = refused(words, text)
-        check(f"{words!r}: one line with the reason", 1, rest.count("\n"))
+        reason, *usage = rest.splitlines()
+        command = words.split()[0]
+        wanted = [f"usage: gpsrelay {command} "] if command in COMMANDS else []
+        check(f"{words!r}: one line with the reason, and how the command is called", wanted, [row[:len(wanted[0])] if wanted else row for row in usage])
+        says(f"{words!r}: the reason comes first", text, reason)
     refused(["serve", "a b=file:x"], "a name has 1 to 64 printable ASCII characters")
     refused([b"\xff"], "not UTF-8")
     refused([b"decode", b"--history", b"\xff"], "not UTF-8")
 
 
+def is_whole_help(words, text):
+    missing = [it for it in HELP_SAYS if it not in text]
+    check(f"{words!r}: the whole help", [], missing)
+    examples = [line for line in text.splitlines() if line.strip().startswith("gpsrelay ")]
+    check(f"{words!r}: three examples", 3, len(examples))
+
+
+def answered(words):
+    """The answer on standard output, with status 0 and nothing on standard error."""
+    status, out, errors = run(words)
+    check(f"{words!r}: status and standard error", (0, ""), (status, errors))
+    return out.decode()
+
+
 def helps():
+    is_whole_help("", refused(""))
     for words in HELP:
-        rest = refused(words)
-        missing = [text for text in HELP_SAYS if text not in rest]
-        check(f"{words!r}: the whole help", [], missing)
-        examples = [line for line in rest.splitlines() if line.strip().startswith("gpsrelay ")]
-        check(f"{words!r}: three examples", 3, len(examples))
+        text = answered(words)
+        check(f"{words!r}: the usage line comes first", USAGE, text.splitlines()[0])
+        is_whole_help(words, text)
+    for words, command, texts, other in HELP_OF:
+        text = answered(words)
+        check(f"{words!r}: how it is called comes first", True, text.startswith(f"usage: gpsrelay {command} ") or text)
+        check(f"{words!r}: what it says", [], [it for it in texts if it not in text])
+        check(f"{words!r}: nothing of other commands", False, other in text)
     for words in VERSION:
-        refused(words, "gpsrelay-1")
+        check(f"{words!r}: the version", "gpsrelay-1", answered(words).split(",")[0].strip())
+    with open("/dev/full", "wb") as full:
+        for words in ["help", "decode --help", "--version"]:
+            status, _, errors = run(words, out=full)
+            check(f"{words!r} to a full disk: the status and one line", (4, 1), (status, errors.count("\n")))
 
 
 def statuses():
@@ -145,8 +227,8 @@ def statuses():
         folder = os.open(place, os.O_RDONLY)
         rows = [("decode", folder, 3, "standard input: a read failed"), ("lines", folder, 3, "standard input: a read failed"),
                 ("replay", folder, 3, "standard input: a read failed"),
-                ("decode --history 69", RMC, 5, "stopped after 69 bytes: --history is the most that is read"),
-                ("pseudo --history 1", RMC, 5, "stopped after 1 bytes: --history is the most that is read"),
+                ("decode --history 69", RMC, 5, "stopped after 69 bytes: say --history N for more, up to 33554432, or --history all"),
+                ("pseudo --history 1", RMC, 5, "stopped after 1 bytes: say --history N for more, up to 33554432, or --history all"),
                 ("lines", TPV + b"{}\r\n", 6, "line 2 of the input is not a line of the daemon"),
                 ("lines", TPV * 16 + TPV[:-2], 6, "line 17 of the input is not a line of the daemon"),
                 ("replay", b"frob\n", 6, "line 1 of the input is no line of a script"),
@@ -163,92 +245,65 @@ def statuses():
             check(f"{words!r} to a full disk: the status and one line", (4, 1), (status, errors.count("\n")))
 
 
-def started(*words, listen="127.0.0.1:0"):
-    return Daemon(PROGRAM, *words, listen=listen)
+def without_a_fix():
+    """What came, if no fix did."""
+    kinds = ["GNGST,101500.00,1.2,,,,0.8,0.9,1.5", "GPHDT,84.1,T", "GNGNS,101500.00,,,,,NNNN,00,99.99,,,"]
+    rows = [
+        (b"".join(sentence(kinds[n % 3]) for n in range(15)), ": 15 sentences, none that gives a fix: GST 5, HDT 5, GNS 5\n"),
+        (sentence("PUBX,00,101500.00") + sentence("GPTXT,01,01,02,hello"), ": 2 sentences, none that gives a fix: PUBX 1, TXT 1\n"),
+        (frame(0x0A, 0x04, bytes(40)) * 3, ": 3 UBX frames, none that gives a fix\n"),
+        (sentence("GPTXT,01,01,02,hello") + frame(0x0A, 0x04, bytes(40)), ": 1 sentences and 1 UBX frames, none that gives a fix: TXT 1\n"),
+        (sentence("GPTXT,01,01,02,hello") * 4000, ": of the first 65536 bytes, "),
+    ]
+    for given, text in rows:
+        for command in "decode", "pseudo":
+            status, out, errors = run(command, given)
+            check(f"{command} of {len(given)} bytes without a fix: status and output", (0, b""), (status, out))
+            says(f"{command} of {len(given)} bytes without a fix: {text!r}", f"gpsrelay: {len(given)} bytes came{text}", errors)
+            check(f"{command} of {len(given)} bytes without a fix: one line", 1, errors.count("\n"))
 
 
-def port_of(daemon):
-    """The port that a daemon got, as it says."""
-    return int(daemon.listening().said().partition("listening at ")[2].split()[0].rpartition(":")[2])
+def all_of_it():
+    """`--history all` reads to the end of more than any number allows; a number does not."""
+    given = b"\n" * 33_554_432 + RMC
+    for command, first in ("decode", b'{"class":"TPV"'), ("pseudo", b"$GPRMC,"):
+        status, out, errors = run(f"{command} --history all", given)
+        check(f"{command} --history all of {len(given)} bytes: status, output and errors", (0, first, ""), (status, out[:len(first)], errors))
+        status, out, _ = run(f"{command} --history 33554432", given)
+        check(f"{command} --history 33554432 of {len(given)} bytes: status and output", (5, b""), (status, out))
 
 
-def ends(name, daemon, status, *texts):
-    """The daemon ends with this status, and has said these."""
-    check(f"{name}: status", status, daemon.wait(WAIT)[0])
-    for text in texts:
-        says(f"{name}: {text!r}", text, daemon.said())
+def pipe_without_a_reader():
+    """As in `decode | head`: the status stays 4, and nothing is said."""
+    for words in "decode", "pseudo", "generate --seed 1 --size 5":
+        reader, writer = os.pipe()
+        os.close(reader)
+        status, _, errors = run(words, RMC, writer)
+        os.close(writer)
+        check(f"{words!r} into a pipe without a reader: status, and nothing is said", (4, ""), (status, errors))
 
 
-def faults():
-    ends("a file that is missing", started("g=file:/nonexistent/gps"), 3, "file:/nonexistent/gps cannot be opened: no such file")
-    ends("a folder as a device", started("g=file:/tmp"), 3, "file:/tmp ", ": is a directory")
-    closed = free_port()
-    ends("a peer that is not there", started(f"g=tcp:127.0.0.1:{closed}"), 3, f"connecting to tcp:127.0.0.1:{closed}", ": connection refused")
-    ends("a device that ends", started("g=file:/dev/null"), 0, "file:/dev/null has ended")
-    with tempfile.TemporaryDirectory() as place:
-        path = f"{place}/secret"
-        open(path, "w").close()
-        os.chmod(path, 0)
-        if not os.access(path, os.R_OK):
-            ends("a file that is forbidden", started(f"g=file:{path}"), 3, f"file:{path} cannot be opened: permission denied")
-    with socket.create_server(("127.0.0.1", 0)) as taken:
-        port = taken.getsockname()[1]
-        ends("an address that is taken", started("g=file:/dev/null", listen=f"127.0.0.1:{port}"), 8,
-             f"cannot listen at 127.0.0.1:{port}: address in use")
-    ends("an address of another machine", started("g=file:/dev/null", listen="192.0.2.1:2947"), 8,
-         "cannot listen at 192.0.2.1:2947: address not available")
+def completed(*words):
+    """What bash completes the last of these words to."""
+    script = r'''source "$1"; shift; COMP_WORDS=("$@"); COMP_CWORD=$(($# - 1)); COMP_LINE="$*"; COMP_POINT=${#COMP_LINE}
+        _gpsrelay; printf '%s\n' "${COMPREPLY[@]}"'''
+    done = subprocess.run(["bash", "-c", script, "bash", f"{TOP}/tools/gpsrelay.bash", "gpsrelay", *words], capture_output=True, timeout=WAIT, check=False)
+    return set(done.stdout.decode().split())
 
 
-def waiting():
-    with tempfile.TemporaryDirectory() as place:
-        path = f"{place}/fifo"
-        os.mkfifo(path)
-        fifo = started(f"g=file:{path}")
-        check("a FIFO: what is waited for", True, fifo.says(f"waiting for a writer of file:{path}"))
-        with open(path, "wb"):
-            pass
-        ends("a FIFO", fifo, 0, f"file:{path} has ended")
+def options_everywhere():
+    """The help of a command, the completion of bash and the manual page name the same options."""
+    with open(f"{TOP}/docs/gpsrelay.8", encoding="utf-8") as it:
+        manual = it.read()
+    check("completion: the commands", {*COMMANDS, "help", "--version"}, completed(""))
+    check("completion: the commands of help", set(COMMANDS), completed("help", ""))
+    for command in COMMANDS:
+        named = set(re.findall(r"--[a-z]+", answered(f"help {command}")))
+        check(f"completion: the options of {command}", named | {"--help"}, completed(command, "-"))
+        check(f"the manual page: the options of {command}", [], [it for it in named if f"Fl -{it[2:]} " not in manual])
+    check("completion: --history of decode", {"all"}, completed("decode", "--history", ""))
+    check("completion: --history of replay", set(), completed("replay", "--history", ""))
 
 
-def terminals():
-    master, slave = os.openpty()
-    path = os.ttyname(slave)
-    terminal = started(f"g=file:{path}")
-    check("a terminal: how it is set", True, terminal.says(f"file:{path} is a terminal: set it raw first: stty -F {path} raw -echo"))
-    terminal.listening()
-    os.close(slave)
-    os.close(master)
-    # Its hang-up is an end or a fault of the read, whichever the system's read meets.
-    check("a terminal that hangs up: status", True, terminal.wait(WAIT)[0] in (0, 3))
-    says("a terminal that hangs up: it is said", f"file:{path} ", terminal.said().partition("listening at ")[2])
-
-
-def clients():
-    """The port that `:0` got, and the 65th client."""
-    device = TcpDevice("g")
-    full = started(device.word)
-    device.take()
-    port = port_of(full)
-    check("the port that it got is said", True, port > 0 or full.said())
-    links = []
-    for _ in range(64):
-        links.append(socket.create_connection(("127.0.0.1", port), WAIT))
-        check_first = links[-1].recv(1)
-        if check_first != b"{":
-            check("64 clients: each is served", b"{", check_first)
-    check("64 clients: none is turned away", True, "turned away" not in full.said() or full.said())
-    for _ in range(3):
-        further = socket.create_connection(("127.0.0.1", port), WAIT)
-        check("a further client: it is closed without a byte", b"", further.recv(1))
-        further.close()
-    check("a further client: it is said", True, full.says("a client was turned away: 64 clients are the most at a time"))
-    check("further clients: it is said once", 1, full.said().count("turned away"))
-    for it in links:
-        it.close()
-    device.close()
-    ends("a device that is closed", full, 0, "has ended")
-
-
-for part in words_that_are_refused, helps, statuses, faults, waiting, terminals, clients:
-    part()
+run_parts(words_that_are_refused, helps, options_everywhere, statuses, without_a_fix, all_of_it, pipe_without_a_reader)
 sys.exit(exit_status())

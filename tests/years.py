@@ -187,8 +187,8 @@ def openings():
         device.take()
         time.sleep(6)
         device.end()
+        client.rest()
         check("a host that does not answer: status", 3, daemon.status(5))
-        client.close()
     else:
         daemon.stop()
     daemon = Daemon(f"deaf=tcp:127.0.0.1:{listener.getsockname()[1]}")
@@ -253,10 +253,13 @@ def idle():
     seconds = time.monotonic() - start
     rate, used = (daemon.wakeups() - switches) / seconds, daemon.cpu() - cpu
     print(f"        64 idle clients: {rate:.2f} wake-ups a second, {used:.2f} s of processor time in {seconds:.1f} s", flush=True)
-    check("64 idle clients: below two wake-ups a second", True, rate < 2 or rate)
+    # A silent device costs two a second, its read and the pause of its reader after it, and the door two in five seconds.
+    check("64 idle clients: below two and a half wake-ups a second", True, rate < 2.5 or rate)
     check("64 idle clients: no processor time", True, used < 0.02 or used)
     start = time.monotonic()
     device.end()
+    for client in clients:
+        client.rest()
     check("64 idle clients: status", 0, daemon.status())
     took = time.monotonic() - start
     print(f"        it ended after {took * 1000:.0f} ms", flush=True)

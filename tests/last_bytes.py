@@ -1,0 +1,156 @@
+#!/usr/bin/env python3
+"""The last bytes of a session, over the built program: a client that reads on sees every byte of a session that is called drained, whatever it
+sends meanwhile. Every wait is bounded.
+
+Use: last_bytes.py PROGRAM. Prints a line for each check, and ends with 1 if one fails.
+"""
+import os
+import re
+import sys
+import threading
+import time
+
+from harness import Daemon, TcpDevice, check, run_parts, second, until, within
+
+PROGRAM = os.path.abspath(sys.argv[1])
+WATCH = b'?WATCH={"json":true};'
+SMALL = 4096
+
+
+def fixes(count):
+    """Sentences of this number of fixes; each is told once the next one begins."""
+    return b"".join(second(t, "RMC") for t in range(count + 1))
+
+
+class Asker:
+    """Sends a request each 20 ms until its link ends, as a client does that never stops asking."""
+
+    def __init__(self, client, request=b"?VERSION;"):
+        self.client, self.request = client, request
+        self.thread = threading.Thread(target=self.ask, daemon=True)
+        self.thread.start()
+
+    def ask(self):
+        try:
+            while True:
+                self.client.send(self.request)
+                time.sleep(0.02)
+        except OSError:
+            pass
+
+
+def started(*words):
+    device = TcpDevice()
+    daemon = Daemon(PROGRAM, *words, device.word).listening()
+    return daemon, device.take()
+
+
+def watching(daemon):
+    client = daemon.client(buffer=SMALL)
+    client.line()
+    client.send(WATCH)
+    client.line(), client.line()
+    return client
+
+
+def read_on(client, pause=0.002, found=b""):
+    """How many lines come to the end of the link, with those that came before, read slowly enough that the daemon has done its part long before."""
+    found, end = bytearray(client.buffer) + found, time.monotonic() + 60
+    while time.monotonic() < end:
+        try:
+            data = client.receive(8192, 15)
+        except OSError:
+            break
+        if not data:
+            break
+        found += data
+        time.sleep(pause)
+    return found.count(b"\r\n")
+
+
+def closing(out):
+    """How the first session ended: whether it was drained, why it was closed, and how many items it was given."""
+    how, why, items = re.search(rb"^s0 (\w+) (\w+) (\d+)$", out, re.M).groups()
+    return how, why, int(items)
+
+
+def ask_at_the_end():
+    """The device ends, and so does the daemon, beside a client that asks on and reads slowly: it sees all."""
+    daemon, device = started("--queue", "65536")
+    client = watching(daemon)
+    Asker(client)
+    device.send(fixes(6_000))
+    device.end()
+    lines = read_on(client)
+    client.close()
+    status, out = daemon.wait(30)
+    how, why, items = closing(out)
+    # Each item is one line, but for the answer to WATCH, which has two.
+    check("asking at the daemon's end: how it ended", (0, b"drained", b"daemonend"), (status, how, why))
+    check("asking at the daemon's end: the lines that came", items + 1 - 3, lines)
+
+
+def ask_after_an_overrun():
+    """A client that was closed, as it fell behind, asks on and reads: it sees all that was put into its queue."""
+    daemon, device = started("--queue", "2000")
+    client = watching(daemon)
+    before = daemon.threads()
+    Asker(client)
+    feeder = threading.Thread(target=device.send, args=(fixes(60_000),))
+    feeder.start()
+    # It takes little while the device sends, so that its queue is full long before the device has sent all.
+    slow = bytearray()
+    while feeder.is_alive() or len(slow) < 20_000:
+        slow += client.receive(1_000) or b""
+        time.sleep(0.02)
+    feeder.join()
+    lines = read_on(client, 0, slow)
+    client.close()
+    gone = until(lambda: daemon.threads() < before, 15)
+    device.end()
+    status, out = daemon.wait(30)
+    how, why, items = closing(out)
+    within("asking after an overrun: its threads are gone", gone, gone)
+    check("asking after an overrun: how it ended", (0, b"drained", b"overrun"), (status, how, why))
+    check("asking after an overrun: the lines that came", items + 1 - 3, lines)
+
+
+def stay_at_the_end():
+    """A client that reads nothing more and keeps its link cannot be known to have all: the daemon ends within some ten seconds, and says so."""
+    daemon, device = started()
+    client = watching(daemon)
+    device.send(fixes(3))
+    client.line()
+    start = time.monotonic()
+    device.end()
+    status, out = daemon.wait(30)
+    took = time.monotonic() - start
+    client.close()
+    within("a client that stays: the daemon ends within 13 s", took < 13, took)
+    check("a client that stays: how it ended", (0, b"writefault", b"daemonend"), (status, *closing(out)[:2]))
+
+
+def half_closed():
+    """A client that has closed its sending side before, and reads: it sees all, and the daemon does not wait for it."""
+    daemon, device = started("--queue", "65536")
+    client = watching(daemon)
+    device.send(fixes(50))
+    until(lambda: client.line() is not None, 5)
+    client.finish()
+    start = time.monotonic()
+    lines = read_on(client)
+    took = time.monotonic() - start
+    client.close()
+    device.end()
+    status, out = daemon.wait(30)
+    how, why, items = closing(out)
+    within("a client that closed its side: it ends at once", took < 5, took)
+    check("a client that closed its side: how it ended", (0, b"drained", b"hungup"), (status, how, why))
+    check("a client that closed its side: the lines that came", items + 1 - 3 - 1, lines)
+
+
+def main():
+    sys.exit(run_parts(ask_at_the_end, ask_after_an_overrun, stay_at_the_end, half_closed))
+
+
+main()

@@ -253,8 +253,7 @@ def idle():
     seconds = time.monotonic() - start
     rate, used = (daemon.wakeups() - switches) / seconds, daemon.cpu() - cpu
     print(f"        64 idle clients: {rate:.2f} wake-ups a second, {used:.2f} s of processor time in {seconds:.1f} s", flush=True)
-    # A silent device costs two a second, its read and the pause of its reader after it, and the door two in five seconds.
-    check("64 idle clients: below two and a half wake-ups a second", True, rate < 2.5 or rate)
+    check("64 idle clients: below two wake-ups a second", True, rate < 2 or rate)
     check("64 idle clients: no processor time", True, used < 0.02 or used)
     start = time.monotonic()
     device.end()

@@ -12,6 +12,9 @@ use std::time::Duration;
 /// How many seconds a device is silent before that is said.
 const SILENCE: u64 = 60;
 
+/// Two reads that gave nothing are no further apart than this number of seconds, unless this process was stopped in between.
+const STEADY: u64 = 10;
+
 /// How many seconds lie between two messages of a place that stays away.
 const HOUR: u64 = 3_600;
 
@@ -45,8 +48,8 @@ pub struct Subject {
     has_come: bool,
     /// Since when nothing came: the beginning of the first read after the last byte.
     since: Option<Duration>,
-    /// Whether the last read that gave nothing came after the time of a silence.
-    is_late: bool,
+    /// When the last read that gave nothing ended, if no byte came since.
+    looked: Option<Duration>,
     /// Whether the silence was said.
     is_silent: bool,
     /// What its first bytes tell, if it is a terminal.
@@ -64,7 +67,7 @@ impl Subject {
             place,
             has_come: false,
             since: None,
-            is_late: false,
+            looked: None,
             is_silent: false,
             terminal: is_terminal.then(TerminalCheck::new),
             is_awaited: false,
@@ -94,7 +97,7 @@ impl Subject {
     pub fn heard<R: Eprint>(&mut self, rt: &R, piece: &[u8]) {
         self.has_come = true;
         self.since = None;
-        self.is_late = false;
+        self.looked = None;
         let place = PlaceText(&self.place);
         if self.outage.take().is_some() {
             self.terminal = self.terminal.is_some().then(TerminalCheck::new);
@@ -115,7 +118,7 @@ impl Subject {
     /// Nothing came, as its place is away or is not open yet. That is no silence.
     pub fn not_there(&mut self) {
         self.since = None;
-        self.is_late = false;
+        self.looked = None;
     }
 
     /// Nothing came this time.
@@ -124,7 +127,12 @@ impl Subject {
         self.since = Some(since);
         let is_long = now.saturating_sub(since) >= Duration::from_secs(SILENCE);
         // This process may have been stopped meanwhile: only the next read tells whether bytes came.
-        if is_long && self.is_late && !self.is_silent {
+        let is_steady = match self.looked {
+            Some(looked) => now.saturating_sub(looked) <= Duration::from_secs(STEADY),
+            None => false,
+        };
+        self.looked = Some(now);
+        if is_long && is_steady && !self.is_silent {
             self.is_silent = true;
             let hint = if self.terminal.is_some() && !self.has_come {
                 "; is it set raw, and to the right speed? stty -F PATH 9600 raw -echo"
@@ -138,7 +146,6 @@ impl Subject {
                 hint
             );
         }
-        self.is_late = is_long;
     }
 
     /// Whether a loss is to be said: the first of an outage is, the first that it cannot be opened, and one each hour.

@@ -313,6 +313,7 @@ where
     fn link(&mut self, source: RealInput<R>) -> TellingSource<RealInput<R>, V>
         ensures door { self.new.door ≡ self.old.door }
         ensures source { result.source ≡ source }
+        ensures quiets { result.quiets ≡ 0 }
     {
         self.gave = true;
         self.count_link();

@@ -1,4 +1,6 @@
-ghost use Rattle.std.specs.Prelude.{◌≡◌};
+ghost use Rattle.std.specs.Prelude.{◌≡◌, ◌<◌, ◌≤◌, length};
+ghost use Rattle.gps_outside.specs.Counts.{Rose};
+ghost use Rattle.gps_outside.specs.Reads.{FailsOnly, FitsBuffer};
 ghost use Rattle.gps_outside.specs.declared.source.ReadStep.{ReadStep};
 
 use crate::link_count::{Seat, Ticket};
@@ -56,12 +58,13 @@ where
 }
 
 /// A source that says, of a device, when it ends, fails or was lost, once, and when it is silent for a minute and speaks again. That of a link says
-/// nothing. It reports the counts of the source within and hands on its answers, but once the daemon was told to stop: then a device has ended,
-/// and what it gave in that moment is dropped. It tells no content.
+/// nothing. It reports the faults of the source within and hands on its answers, but once the daemon was told to stop: then a device has ended,
+/// and what it gave in that moment is dropped. A few reads of a device that gave nothing are one to its reader. It tells no content.
 #[derive(Drop)]
 pub struct TellingSource<S: KnowsWhy, R> {
     rt: R,
     source: S,
+    quiets: u64,
     subject: Option<Subject>,
     ticket: Option<Ticket>,
     /// Given back by a link whose reader has ended.
@@ -80,7 +83,8 @@ impl<S: KnowsWhy, R> TellingSource<S, R> {
         reopen: Option<u32>,
         stop: Option<StopRequest>,
     ) -> TellingSource<S, R>
-        ensures { result.source ≡ source }
+        ensures source { result.source ≡ source }
+        ensures quiets { result.quiets ≡ 0 }
     {
         let subject = match place {
             Some(place) => Some(Subject::new(place, is_terminal, reopen)),
@@ -89,6 +93,7 @@ impl<S: KnowsWhy, R> TellingSource<S, R> {
         TellingSource {
             rt,
             source,
+            quiets: 0,
             subject,
             ticket: None,
             seat: None,
@@ -103,11 +108,13 @@ impl<S: KnowsWhy, R> TellingSource<S, R> {
         ticket: Option<Ticket>,
         seat: Option<Seat>,
     ) -> TellingSource<S, R>
-        ensures { result.source ≡ source }
+        ensures source { result.source ≡ source }
+        ensures quiets { result.quiets ≡ 0 }
     {
         TellingSource {
             rt,
             source,
+            quiets: 0,
             subject: None,
             ticket,
             seat,
@@ -129,16 +136,59 @@ impl<S: KnowsWhy, R> TellingSource<S, R> {
     fn stopped(&mut self) -> ReadStep
         ensures step { result ≡ ReadStep.End }
         ensures source { self.new.source ≡ self.old.source }
+        ensures quiets { self.new.quiets ≡ self.old.quiets }
     {
         self.subject = None;
         ReadStep::End
     }
 }
 
+impl<S: KnowsWhy, R> TellingSource<S, R> {
+    /// Whether a read that gave nothing is made again: it is if a device is there, and was not told to stop.
+    fn is_waiting(&self) -> bool {
+        self.subject.is_some()
+            && !self.is_stopped()
+            && !self.source.is_away()
+            && self.source.loss().is_none()
+            && self.source.awaited().is_none()
+    }
+
+    /// Reads at most twice.
+    fn read_twice(&mut self, buf: &mut [u8]) -> ReadStep
+        requires { 0 < length buf.old }
+        ensures fits { FitsBuffer result (length buf.old) }
+        ensures faults_stay { S.faults self.old.source ≤ S.faults self.new.source }
+        ensures failed { result ≡ ReadStep.Failed → Rose (S.faults self.old.source) (S.faults self.new.source) }
+        ensures fails_only { FailsOnly result (S.faults self.old.source) (S.faults self.new.source) }
+        ensures quiets { self.new.quiets ≡ self.old.quiets }
+    {
+        match self.source.read(buf) {
+            ReadStep::Quiet if self.is_waiting() => self.source.read(buf),
+            step => step,
+        }
+    }
+
+    /// Reads at most four times, so that a device that is silent for seconds is one quiet read to its reader, which need not be woken for each.
+    fn read_on(&mut self, buf: &mut [u8]) -> ReadStep
+        requires { 0 < length buf.old }
+        ensures fits { FitsBuffer result (length buf.old) }
+        ensures faults_stay { S.faults self.old.source ≤ S.faults self.new.source }
+        ensures failed { result ≡ ReadStep.Failed → Rose (S.faults self.old.source) (S.faults self.new.source) }
+        ensures fails_only { FailsOnly result (S.faults self.old.source) (S.faults self.new.source) }
+        ensures quiets { self.new.quiets ≡ self.old.quiets }
+    {
+        match self.read_twice(buf) {
+            ReadStep::Quiet if self.is_waiting() => self.read_twice(buf),
+            step => step,
+        }
+    }
+}
+
 impl<S: KnowsWhy, R: Eprint + time::Clock> TellingSource<S, R> {
     /// A read begins. Says, once, what it waits for before it can give bytes; that is no silence.
     fn begin(&mut self)
-        ensures { self.new.source ≡ self.old.source }
+        ensures source { self.new.source ≡ self.old.source }
+        ensures quiets { self.new.quiets ≡ self.old.quiets }
     {
         let awaited = self.source.awaited();
         let Some(subject) = &mut self.subject else {
@@ -156,7 +206,8 @@ impl<S: KnowsWhy, R: Eprint + time::Clock> TellingSource<S, R> {
 
     /// Bytes came.
     fn heard(&mut self, piece: &[u8])
-        ensures { self.new.source ≡ self.old.source }
+        ensures source { self.new.source ≡ self.old.source }
+        ensures quiets { self.new.quiets ≡ self.old.quiets }
     {
         if let Some(subject) = &mut self.subject {
             subject.heard(&self.rt, piece);
@@ -165,7 +216,8 @@ impl<S: KnowsWhy, R: Eprint + time::Clock> TellingSource<S, R> {
 
     /// Nothing came this time.
     fn quiet(&mut self)
-        ensures { self.new.source ≡ self.old.source }
+        ensures source { self.new.source ≡ self.old.source }
+        ensures quiets { self.new.quiets ≡ self.old.quiets }
     {
         let Ok(now) = self.rt.monotonic() else {
             return;
@@ -186,7 +238,8 @@ impl<S: KnowsWhy, R: Eprint + time::Clock> TellingSource<S, R> {
     }
 
     fn ended(&mut self)
-        ensures { self.new.source ≡ self.old.source }
+        ensures source { self.new.source ≡ self.old.source }
+        ensures quiets { self.new.quiets ≡ self.old.quiets }
     {
         if let Some(subject) = self.subject.take() {
             subject.tell_ended(&self.rt);
@@ -194,7 +247,8 @@ impl<S: KnowsWhy, R: Eprint + time::Clock> TellingSource<S, R> {
     }
 
     fn failed(&mut self)
-        ensures { self.new.source ≡ self.old.source }
+        ensures source { self.new.source ≡ self.old.source }
+        ensures quiets { self.new.quiets ≡ self.old.quiets }
     {
         if let Some(subject) = self.subject.take() {
             match self.source.daemon_fault() {
@@ -206,7 +260,8 @@ impl<S: KnowsWhy, R: Eprint + time::Clock> TellingSource<S, R> {
 
     /// Its reader ends, though the device has neither ended nor failed: there was no memory for it, or no thread.
     fn lost(&mut self)
-        ensures { self.new.source ≡ self.old.source }
+        ensures source { self.new.source ≡ self.old.source }
+        ensures quiets { self.new.quiets ≡ self.old.quiets }
     {
         if let Some(subject) = self.subject.take() {
             subject.tell_lost(&self.rt);
@@ -219,7 +274,7 @@ impl<S: KnowsWhy, R: Eprint + time::Clock + Drop> Source for TellingSource<S, R>
 
     ghost faults = { λ s. S.faults s.source };
 
-    ghost quiets = { λ s. S.quiets s.source };
+    ghost quiets = { λ s. s.quiets };
 
     ghost content = { λ _. None };
 
@@ -233,11 +288,14 @@ impl<S: KnowsWhy, R: Eprint + time::Clock + Drop> Source for TellingSource<S, R>
             return self.stopped();
         }
         self.begin();
-        let step = self.source.read(buf);
+        let step = self.read_on(buf);
         match step {
             ReadStep::Got(_) if self.is_stopped() => return self.stopped(),
             ReadStep::Got(n) => self.heard(&buf[..n]),
-            ReadStep::Quiet => self.quiet(),
+            ReadStep::Quiet => {
+                self.quiet();
+                self.quiets = self.quiets.saturating_add(1);
+            }
             ReadStep::End => self.ended(),
             ReadStep::Failed => self.failed(),
         }

@@ -4,6 +4,7 @@
 #   examples/launcher.sh gpsrelay serve gps0=file:/run/gps0
 #
 # It adds the words `--stop FIFO`, and its status is the daemon's. If it is killed itself, the daemon stops in order too.
+[ $# -gt 0 ] || { echo "usage: launcher.sh gpsrelay serve WORD .." >&2; exit 2; }
 dir=$(mktemp -d) && mkfifo "$dir/stop" && exec 3<>"$dir/stop" 4<&0 || exit 1
 trap 'echo >&3' TERM INT HUP
 status=1

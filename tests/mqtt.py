@@ -384,7 +384,7 @@ def unit():
         nobody = free_port()
         [command] = [row.removeprefix("ExecStart=") for row in rows if row.startswith("ExecStart=")]
         done = subprocess.run(["sh", "-c", command], env={**os.environ, "OPTIONS": f"--broker 127.0.0.1:{nobody}"}, capture_output=True, text=True, timeout=WAIT)
-        check("unit: its command, with options", (1, f"mqtt.py: no broker at 127.0.0.1:{nobody}: Connection refused\n"), (done.returncode, done.stderr))
+        check("unit: its command, with options", (1, f"gpsrelay-mqtt: no broker at 127.0.0.1:{nobody}: Connection refused\n"), (done.returncode, done.stderr))
         if not shutil.which("systemd-analyze"):
             print("skipped: systemd-analyze is not installed: what systemd says of the unit")
             return

@@ -21,11 +21,11 @@ def address_words(host, port):
     return f"[{host}]:{port}" if ":" in host else f"{host}:{port}"
 
 
-def daemon_lines(address, tell, over=lambda: False):
+def daemon_lines(address, tell, over=lambda: False, fails=lambda why: None):
     """The lines of a daemon, which it is asked for by WATCH; from one link after another, until `over()`. `tell` is called with True at the
-    first line of a link, and with False when a link that had one has ended. A daemon that is gone, or takes no client, is tried again
-    after a pause, which is doubled each time up to the longest one."""
-    pause = FIRST_PAUSE
+    first line of a link, and with False when a link that had one has ended. `fails` is called once, with the reason, if no link had a line
+    yet. A daemon that is gone, or takes no client, is tried again after a pause, which is doubled each time up to the longest one."""
+    pause, told = FIRST_PAUSE, False
     while not over():
         begun, heard = time.monotonic(), False
         try:
@@ -38,10 +38,13 @@ def daemon_lines(address, tell, over=lambda: False):
                         tell(True)
                     heard = True
                     yield line
-        except OSError:
-            pass
+        except OSError as fault:
+            if not heard and not told:
+                fails(fault.strerror or str(fault))
+                told = True
         if heard:
             tell(False)
+            told = True
         if heard and time.monotonic() - begun > SETTLED:
             pause = FIRST_PAUSE
         time.sleep(pause)

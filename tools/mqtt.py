@@ -138,12 +138,15 @@ def hand_on(daemon, broker, prefix):
             answered, next_ping = False, time.monotonic() + PING
 
 
+PROGRAM = os.path.basename(sys.argv[0])  # mqtt.py, or gpsrelay-mqtt as it is installed
+
+
 def say(words):
-    print(f"mqtt.py: {words}", file=sys.stderr, flush=True)
+    print(f"{PROGRAM}: {words}", file=sys.stderr, flush=True)
 
 
 def command_line():
-    parser = argparse.ArgumentParser(prog="mqtt.py", description=__doc__.split("\n", 1)[0])
+    parser = argparse.ArgumentParser(prog=PROGRAM, description=__doc__.split("\n", 1)[0])
     parser.add_argument("daemon", nargs="?", type=address_of, default="127.0.0.1:2947", metavar="HOST:PORT", help="the daemon (127.0.0.1:2947)")
     parser.add_argument("--broker", type=address_of, default="127.0.0.1:1883", metavar="HOST:PORT", help="the MQTT broker (127.0.0.1:1883)")
     parser.add_argument("--prefix", default="gpsrelay", metavar="WORD", help="the first level of each topic (gpsrelay)")

@@ -9,6 +9,7 @@ until their end or Ctrl-C, and writes one SVG; and the same track as GPX if --gp
 are passed over. A line that is no JSON object with a class, or whose members cannot be right, is a bad line: it is counted on standard
 error. Of several devices the first is drawn, or the one that --device names.
 """
+import os
 import sys
 
 sys.dont_write_bytecode = True  # nothing is left in the folder of the installed program
@@ -24,7 +25,10 @@ def words():
     def further(parser):
         parser.add_argument("--gpx", metavar="OUT.gpx", help="writes the same track as GPX too")
 
-    return track_input.command_line(__doc__.split("\n", 1)[0], "OUT.svg", further)[1]
+    parser, given = track_input.command_line(__doc__.split("\n", 1)[0], "OUT.svg", further)
+    if given.gpx and given.output and os.path.realpath(given.gpx) == os.path.realpath(given.output):
+        parser.error(f"{given.output} would be written twice")
+    return given
 
 
 def work(given):

@@ -76,13 +76,19 @@ def follow(run, address):
         if not connected:
             run.cut()
 
-    signal.signal(signal.SIGTERM, signal.default_int_handler)
+    def end(number, frame):
+        signal.signal(signal.SIGINT, signal.SIG_IGN)  # one more must not lose what is to be written
+        signal.signal(signal.SIGTERM, signal.SIG_DFL)
+        raise KeyboardInterrupt
+
+    for number in signal.SIGINT, signal.SIGTERM:
+        signal.signal(number, end)
     try:
         say(f"following the daemon at {place}; Ctrl-C ends it")
-        for line in daemon_lines(address, tell):
+        for line in daemon_lines(address, tell, fails=lambda why: say(f"no daemon at {place}: {why}; trying again")):
             run.take(line)
     except KeyboardInterrupt:
-        signal.signal(signal.SIGTERM, signal.SIG_DFL)
+        pass
 
 
 def written(call):

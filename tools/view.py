@@ -54,7 +54,10 @@ class DaemonLink(threading.Thread):
         self.address, self.board = address, board
 
     def run(self):
-        for line in daemon_lines(self.address, self.board.tell, lambda: self.board.closing):
+        def say(why):
+            print(f"{PROGRAM}: no daemon at {address_words(*self.address)}: {why}; trying again", file=sys.stderr, flush=True)
+
+        for line in daemon_lines(self.address, self.board.tell, lambda: self.board.closing, say):
             self.board.take(line)
 
 

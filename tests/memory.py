@@ -138,7 +138,22 @@ def without_end(times, kilobytes):
     within(f"decode --history all of {len(drive) * times:,} bytes in {kilobytes:,} KB of address space", good, found)
 
 
+def flat(times):
+    """`decode --history all` over 200 MB, a piece at a time: its greatest memory is that of a short log."""
+    drive = sample("drive.nmea")
+    decode = subprocess.Popen([PROGRAM, "decode", "--history", "all"], stdin=subprocess.PIPE, stdout=subprocess.DEVNULL)
+    for _ in range(times):
+        decode.stdin.write(drive)
+    decode.stdin.flush()
+    with open(f"/proc/{decode.pid}/status", encoding="ascii") as it:
+        peak = int(re.search(r"VmHWM:\s+(\d+)", it.read())[1])
+    decode.stdin.close()
+    status = decode.wait(60)
+    within(f"decode --history all of {times * len(drive):,} bytes: status 0, and at most 4,000 KB", status == 0 and peak <= 4_000, (status, peak))
+
+
 tried("decode", ["decode"], sample("drive.nmea"))
+flat(200_000_000 // len(sample("drive.nmea")) + 1)
 without_end(33_554_432 // len(sample("drive.nmea")) + 1, 8_000)
 tried("pseudo", ["pseudo"], sample("drive.nmea"))
 tried("replay", ["replay"], sample("two_devices.script"))

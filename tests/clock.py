@@ -167,7 +167,7 @@ def devices_are_picked():
         if option == ("gps1",):
             check("--device gps1: its pulse", datagram(now, now + 4000), reader.next())
         else:
-            check("--device gps7: it says that there is none", True, clock.says("no device gps7; it has gps0, gps1"))
+            check("--device gps7: it names the devices of the daemon", True, clock.says("no device gps7; it has gps0, gps1"))
         check(f"--device {option[0]}: no other pulse", None, reader.next(0.2))
         clock.stop()
         daemon.close()

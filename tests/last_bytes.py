@@ -130,6 +130,21 @@ def stay_at_the_end():
     check("a client that stays: how it ended", (0, b"writefault", b"daemonend"), (status, *closing(out)[:2]))
 
 
+def resets_in_the_drain():
+    """Clients that reset their links while the daemon waits for them to take what it has sent: none of them has all, and none is called drained."""
+    daemon, device = started()
+    clients = [watching(daemon) for _ in range(24)]
+    device.send(fixes(100))  # more than a client's small buffer takes, and less than the system takes of the daemon
+    device.end()
+    until(lambda: "has ended" in daemon.said(), 10)
+    time.sleep(1)
+    for client in clients:
+        client.reset()
+    status, out = daemon.wait(30)
+    ends = [line.split()[1:3] for line in out.splitlines() if line.startswith(b"s")]
+    check("resets in the drain: how they ended", (0, [[b"writefault", b"daemonend"]] * 24), (status, ends))
+
+
 def half_closed():
     """A client that has closed its sending side before, and reads: it sees all, and the daemon does not wait for it."""
     daemon, device = started("--queue", "65536")
@@ -150,7 +165,7 @@ def half_closed():
 
 
 def main():
-    sys.exit(run_parts(ask_at_the_end, ask_after_an_overrun, stay_at_the_end, half_closed))
+    sys.exit(run_parts(ask_at_the_end, ask_after_an_overrun, stay_at_the_end, resets_in_the_drain, half_closed))
 
 
 main()

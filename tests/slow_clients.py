@@ -105,6 +105,30 @@ def draining():
     end_well("closed clients that still take", daemon, device, client)
 
 
+def connections_of(port):
+    """How many connections of this port the system keeps, besides those that are over (TIME_WAIT) and the listener."""
+    with open("/proc/net/tcp") as it:
+        rows = [line.split() for line in it.readlines()[1:]]
+    return sum(row[1].endswith(f":{port:04X}") and row[3] not in ("06", "0A") for row in rows)
+
+
+def left_to_the_system():
+    """What clients that take nothing have not taken when they are ended is not kept by the system for as long as they stay."""
+    daemon, device = started("--queue", "65536")
+    clients = [watching(daemon) for _ in range(6)]
+    before = connections_of(daemon.port)
+    device.send(fixes(20_000))
+    ended = until(lambda: daemon.threads() <= 8, 15)
+    start = time.monotonic()
+    within("clients that take nothing: they are ended", ended and before == len(clients), (daemon.threads(), before))
+    gone = until(lambda: connections_of(daemon.port) == 0, 20)
+    took = time.monotonic() - start
+    within("clients that take nothing: the system keeps nothing for them ten seconds later", gone and took < 10, (took, connections_of(daemon.port)))
+    for client in clients[1:]:
+        client.close()
+    end_well("clients that take nothing, and the system", daemon, device, clients[0])
+
+
 def slow_end():
     """At the daemon's end a client takes 2,000 bytes each 0.3 s of the megabytes that are left: the daemon ends within some ten seconds."""
     daemon, device, client, _ = one_watching()
@@ -190,7 +214,7 @@ def few_threads():
 
 
 def main():
-    parts = [deaf, few_threads, draining, slow_end, slow_reader]
+    parts = [deaf, few_threads, draining, left_to_the_system, slow_end, slow_reader]
     for name in sys.argv[2:]:
         if name not in [part.__name__ for part in parts]:
             sys.exit(f"slow_clients.py: no part {name}")

@@ -2,12 +2,13 @@ ghost use Rattle.std.specs.Prelude.{◌≡◌, IfOk, true};
 ghost use Rattle.std.specs.Io.{ReadsAtMost};
 
 use crate::connecting::{ConnectFault, connect};
-use crate::idle_timer::IdleTimer;
 use crate::kept_pipe::KeptPipe;
+use crate::link_sink::STEP;
 use crate::listening::Listening;
 use crate::readable::is_readable;
 use crate::reader_source::is_quiet;
 use gps_fixed::Bytes;
+use idle_client::IdleTimer;
 use std::alloc::Global;
 use std::fs::{self, File};
 use std::io::{self, BufReader, ErrorKind, Read, Stdin};
@@ -25,8 +26,9 @@ const HOST_WAIT: u64 = 1;
 /// How many milliseconds a read of a terminal, a pipe or another device waits for bytes.
 const DEVICE_WAIT: i32 = 1_000;
 
-/// How many reads of a link that is idle for too long may follow one another, while bytes of it are ready. More than a request needs.
-const LATE_READS: u32 = 8;
+/// How many reads of a link that is idle for too long may follow one another, while bytes of it are ready. In pieces of 512 bytes they are
+/// more than the system holds for a socket, so all that stood ready is read.
+const LATE_READS: u32 = 16_384;
 
 /// What the next read of a source waits for, before it can give bytes.
 #[derive(Clone, Copy, Debug, PartialEq, Eq)]
@@ -42,8 +44,10 @@ pub enum Awaited {
 pub(crate) struct Link {
     stream: TcpStream,
     timer: IdleTimer,
-    /// How long a read waits for bytes. The stream's own time-out stays as it is, since what delivers to the client sets and uses it too.
+    /// How long a read waits for bytes. The stream's own time-out stays as it is, since what delivers to the client sets it.
     wait: Duration,
+    /// When the last read was made.
+    now: Duration,
     /// How many reads came since the link is idle for too long.
     late: u32,
 }
@@ -117,19 +121,20 @@ fn open_host<R: Net<Stream = TcpStream> + Clock>(
 
 impl Link {
     /// The link of a stream that came now, and has this time-out.
-    pub(crate) fn new(stream: TcpStream, wait: Duration, now: Duration) -> Link {
+    pub(crate) fn new(alloc: Global, stream: TcpStream, wait: Duration, now: Duration) -> Link {
         Link {
             stream,
-            timer: IdleTimer::new(now),
+            timer: IdleTimer::new(alloc, now),
             wait,
+            now,
             late: 0,
         }
     }
 
     /// Whether the link ends, as it is idle for too long and none of its bytes is ready. They are looked for, since this process may have been
     /// stopped while they came.
-    fn is_over(&mut self, now: Duration) -> bool {
-        if !self.timer.is_over(now) {
+    fn is_over(&mut self) -> bool {
+        if !self.timer.is_over(self.now) {
             self.late = 0;
             return false;
         }
@@ -139,23 +144,37 @@ impl Link {
 
     /// Takes the bytes that one read gave, which may be none. Whether the link ends.
     fn take<R: Clock>(&mut self, machine: &R, bytes: &[u8]) -> bool {
-        let Ok(now) = machine.monotonic() else {
-            return false;
-        };
-        self.timer.take(bytes, now);
-        if self.is_over(now) {
+        // If the clock fails, it is as late as before.
+        if let Ok(now) = machine.monotonic() {
+            self.now = now;
+        }
+        // Out of memory: from then on it is never idle.
+        let _ = self.timer.take(bytes, self.now);
+        if self.is_over() {
             return true;
         }
-        self.wait = self.timer.wait(now);
+        self.wait = self.timer.wait(self.now);
         false
     }
 
+    /// Whether what delivers to the client has begun to read the stream: then its time-out is [`STEP`], which the system may round up.
+    fn is_delivered(&self) -> bool {
+        match self.stream.read_timeout() {
+            Ok(Some(wait)) => wait < Duration::from_millis(2 * STEP),
+            _ => false,
+        }
+    }
+
+    /// Reads once. A link that is being delivered has ended.
     fn read_once(&mut self, buf: &mut [u8]) -> io::Result<usize>
         ensures { ReadsAtMost result buf.new }
     {
         let wait = i32::try_from(self.wait.as_millis()).unwrap_or(i32::MAX);
         if !is_readable(&self.stream, wait) {
             return Err(timed_out());
+        }
+        if self.is_delivered() {
+            return Ok(0);
         }
         self.stream.read(buf)
     }

@@ -1,5 +1,6 @@
 ghost use Rattle.std.specs.Prelude.{◌≡◌, ◌≤◌, length, IfOk};
 
+use crate::patience::give_up_after;
 use crate::reader_source::is_quiet;
 use crate::{ClientSink, WriteStep};
 use std::io::{self, ErrorKind, Read, Write};
@@ -123,7 +124,6 @@ impl<R: Clock> LinkSink<R> {
     /// Reads and drops what the client still sends, until it has closed its side.
     fn drop_rest(&self, mut stream: &TcpStream) -> io::Result<()> {
         let mut buf = [0u8; REST];
-        stream.set_read_timeout(Some(Duration::from_millis(STEP)))?;
         'reads: for _ in 0..READS {
             match stream.read(&mut buf) {
                 Ok(0) => return Ok(()),
@@ -136,6 +136,14 @@ impl<R: Clock> LinkSink<R> {
             }
         }
         Err(timed_out())
+    }
+
+    /// From here on nobody else reads the stream, as its time-out tells the link's source. The system tells a reset once, to the read that
+    /// meets it first, and after it each read meets an end.
+    fn take_reading(&self) {
+        if let Some(stream) = &self.stream {
+            let _ = stream.set_read_timeout(Some(Duration::from_millis(STEP)));
+        }
     }
 
     /// Says that nothing follows, and waits until the client has closed its side too.
@@ -152,11 +160,13 @@ impl<R: Clock> LinkSink<R> {
         }
     }
 
-    /// A read of the stream that waits ends at once.
-    fn close(&mut self)
+    /// A read of the stream that waits ends at once. The system keeps what the client has not taken yet until it takes nothing for this number of
+    /// milliseconds.
+    fn close(&mut self, kept: u64)
         ensures { self.new ≡ self.old }
     {
         if let Some(stream) = &self.stream {
+            give_up_after(stream, kept);
             let _ = stream.shutdown(Shutdown::Both);
         }
         self.stream = None;
@@ -201,8 +211,9 @@ impl<R: Clock + Drop> ClientSink for LinkSink<R> {
     /// Waits until the client has closed its side, within what is left of the ten seconds, and closes. If a write had failed, it closes at once.
     fn deliver(&mut self) -> bool {
         self.set_end();
+        self.take_reading();
         let parted = self.has_parted();
-        self.close();
+        self.close(if parted { LEFT } else { PATIENCE });
         if !parted {
             self.faults = self.faults.saturating_add(1);
         }

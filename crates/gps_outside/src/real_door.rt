@@ -3,6 +3,7 @@ ghost use Rattle.std.specs.Prelude.{◌≡◌, IfOk};
 use crate::link_sink::STEP;
 use crate::reader_source::is_quiet;
 use crate::{Closer, Door, DoorStep, LinkSink, RealSource};
+use std::alloc::Global;
 use std::fs::File;
 use std::io::{self, ErrorKind};
 use std::marker::Model;
@@ -56,6 +57,7 @@ fn is_shut(error: &io::Error) -> bool {
 /// the thread that serves it.
 fn link_of<R: time::Clock + Copy>(
     machine: R,
+    alloc: Global,
     stream: TcpStream,
 ) -> io::Result<(RealSource<R>, LinkSink<R>)>
     ensures { IfOk result (λ link. (link.0 ≡ record { faults = 0; quiets = 0 }) × (link.1 ≡ 0)) }
@@ -65,7 +67,7 @@ fn link_of<R: time::Clock + Copy>(
     stream.set_read_timeout(Some(wait))?;
     stream.set_write_timeout(Some(Duration::from_millis(STEP)))?;
     let other = stream.try_clone()?;
-    let source = RealSource::of_link(machine, stream, wait)?;
+    let source = RealSource::of_link(machine, alloc, stream, wait)?;
     Ok((source, LinkSink::of_stream(machine, other)))
 }
 
@@ -76,6 +78,7 @@ fn link_of<R: time::Clock + Copy>(
 #[derive(Drop)]
 pub struct RealDoor<R> {
     machine: R,
+    alloc: Global,
     listener: TcpListener,
     faults: u64,
     quiets: u64,
@@ -97,13 +100,14 @@ fn socket_of(listener: &TcpListener) -> io::Result<TcpStream> {
 }
 
 impl<R: time::Clock + Copy> RealDoor<R> {
-    pub fn of_listener(machine: R, listener: TcpListener) -> io::Result<RealDoor<R>>
+    pub fn of_listener(machine: R, alloc: Global, listener: TcpListener) -> io::Result<RealDoor<R>>
         ensures { IfOk result (λ door. door ≡ record { faults = 0; quiets = 0 }) }
     {
         let socket = socket_of(&listener)?;
         socket.set_read_timeout(Some(Duration::from_millis(ACCEPT_WAIT)))?;
         Ok(RealDoor {
             machine,
+            alloc,
             listener,
             faults: 0,
             quiets: 0,
@@ -125,7 +129,7 @@ impl<R: time::Clock + Copy> RealDoor<R> {
         ensures { IfOk result (λ link. (link.0 ≡ record { faults = 0; quiets = 0 }) × (link.1 ≡ 0)) }
     {
         let (stream, _) = self.listener.accept()?;
-        match link_of(self.machine, stream) {
+        match link_of(self.machine, self.alloc, stream) {
             Ok(link) => Ok(link),
             Err(error) if is_lacking(&error) => Err(error),
             Err(_) => Err(io::Error::from(ErrorKind::ConnectionAborted)),

@@ -120,6 +120,7 @@ impl<R> RealSource<R> {
     /// request came within 60 s, or it watches nothing and asked nothing for 15 minutes.
     pub(crate) fn of_link(
         machine: R,
+        alloc: Global,
         stream: TcpStream,
         wait: Duration,
     ) -> io::Result<RealSource<R>>
@@ -128,7 +129,7 @@ impl<R> RealSource<R> {
         ensures { IfOk result (λ s. s ≡ record { faults = 0; quiets = 0 }) }
     {
         let now = machine.monotonic()?;
-        Ok(RealSource::new(machine, Inlet::Link(Link::new(stream, wait, now))))
+        Ok(RealSource::new(machine, Inlet::Link(Link::new(alloc, stream, wait, now))))
     }
 
     /// What its next read waits for, before it can give bytes. None once it is open.

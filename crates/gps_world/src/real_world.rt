@@ -76,7 +76,7 @@ impl<R: Net<Listener = TcpListener, Stream = TcpStream> + time::Clock + Copy> Re
         if let Ok(at) = listener.local_addr() {
             self.opener.listening().set(at);
         }
-        Ok(RealGate::new(RealDoor::of_listener(self.machine, listener)?))
+        Ok(RealGate::new(RealDoor::of_listener(self.machine, self.alloc, listener)?))
     }
 }
 

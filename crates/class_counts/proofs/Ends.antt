@@ -12,13 +12,15 @@ use Rattle.gps_client.specs.Texts.{IsLineOf, object}
 use Rattle.class_counts.specs.declared.counting.Count.{Count}
 use Rattle.class_counts.specs.declared.counting.Stop.{Stop}
 use Rattle.class_counts.specs.declared.counting.Stop.TheVariants.{Bad, NoMemory as NoMemoryStop}
-use Rattle.class_counts.specs.declared.outcome.CountOutcome.{CountOutcome}
-use Rattle.class_counts.specs.declared.outcome.CountOutcome.TheVariants as outcome
+use Rattle.command_outcome.specs.Calls.{SinkCall, SourceCall}
+use Rattle.command_outcome.specs.Outcomes.{HasCause, NoReadFailed}
+use Rattle.command_outcome.specs.Ends.{HasReadAll, HasReadSoFar}
+use Rattle.command_outcome.specs.declared.outcome.CommandOutcome.{CommandOutcome}
+use Rattle.command_outcome.specs.declared.outcome.CommandOutcome.TheVariants as outcome
 use Rattle.class_counts.specs.declared.reading.Reading.TheVariants as reading
 use Rattle.class_counts.specs.Counted.{Counted, RefusesNone}
-use Rattle.class_counts.specs.Reading.{HasReadAll, HasReadSoFar, NoReadFailed, Reads, most_bytes}
+use Rattle.class_counts.specs.Reading.{Reads, most_bytes}
 use Rattle.class_counts.specs.Lines.{AreRead, EndsBadly, Refuses, limit, long_line, whole_lines}
-use Rattle.class_counts.specs.Outcomes.{CountHasCause}
 use Rattle.class_counts.specs.Standing.{CountStands, Stops}
 use Rattle.class_counts.specs.Tallies.{bad_line, kept_number, numbers_text, summary}
 use Rattle.class_counts.specs.Writing.{EndsWith, StopsWith, WriteCause, bad_behind}
@@ -66,13 +68,13 @@ number_small bytes n refuses =
 kept_small : (n good : ℕ) → good ≡ kept_number n → n ≤ most_bytes → kept_number (good + 1) ≡ n + 1
 kept_small n good kept small = omega arith
 
-read_so_far_few : (bytes : List ℕ) (source after : Option Stream) → HasReadSoFar bytes source after → length bytes ≤ most_bytes
+read_so_far_few : (bytes : List ℕ) (source after : Option Stream) → HasReadSoFar most_bytes bytes source after → length bytes ≤ most_bytes
 read_so_far_few bytes source after (inl read) = read.0
 read_so_far_few bytes source after (inr read) = omega (arith, read.0)
 
 -- a count that stops at these bytes
-stopped : (stop : Stop) (count : Count) (bytes : List ℕ) (source after : Option Stream) (sink sink' : Option (List ℕ)) (outcome : CountOutcome)
-    → HasReadSoFar bytes source after → Stops stop count bytes → StopsWith stop count.good outcome sink sink'
+stopped : (stop : Stop) (count : Count) (bytes : List ℕ) (source after : Option Stream) (sink sink' : Option (List ℕ)) (outcome : CommandOutcome)
+    → HasReadSoFar most_bytes bytes source after → Stops stop count bytes → StopsWith stop count.good outcome sink sink'
     → Counted outcome source after sink sink'
 stopped Bad count bytes source after sink sink' outcome read stops writes =
     let n : ℕ = stops.0 in
@@ -84,12 +86,12 @@ stopped Bad count bytes source after sink sink' outcome read stops writes =
           (record { bytes = bytes; ends = inl (read, (n + 1, stops.1, subst (λ t. Goes (Appends t) sink sink') text whole.1)) })
       | inr rest ↦ elim rest [
         | inl part ↦ subst (λ o. Counted o source after sink sink') (sym part.0)
-            (record { bytes = bytes; ends = inr (inl (read, (n + 1, stops.1, subst (λ t. Goes (AppendsPart t) sink sink') text part.1))) })
-        | inr none ↦ subst (λ o. Counted o source after sink sink') (sym none.0) (record { bytes = bytes; ends = (inl read, none.1) })
+            (record { bytes = bytes; ends = inl (read, (n + 1, stops.1, subst (λ t. Goes (AppendsPart t) sink sink') text part.1)) })
+        | inr none ↦ subst (λ o. Counted o source after sink sink') (sym none.0) (record { bytes = bytes; ends = inl (read, none.1) })
       ]
     ]
 stopped NoMemoryStop count bytes source after sink sink' outcome read stops writes =
-    subst (λ o. Counted o source after sink sink') (sym writes.0) (record { bytes = bytes; ends = (inl read, writes.1) })
+    subst (λ o. Counted o source after sink sink') (sym writes.0) (record { bytes = bytes; ends = inl (read, writes.1) })
 
 -- none of the lines that are known is bad
 long_none : (line : List ℕ) → is_too_long limit line ≡ false → long_line line ≡ []
@@ -138,8 +140,8 @@ lacks_end count bytes so_far some = (
   so_far.good,
 )
 
-ended : (test : Bool) (count : Count) (bytes : List ℕ) (source after : Option Stream) (sink sink' : Option (List ℕ)) (outcome : CountOutcome)
-    → HasReadAll bytes source after → (stands : CountStands count bytes)
+ended : (test : Bool) (count : Count) (bytes : List ℕ) (source after : Option Stream) (sink sink' : Option (List ℕ)) (outcome : CommandOutcome)
+    → HasReadAll most_bytes bytes source after → (stands : CountStands count bytes)
     → not (length (open_line bytes) == 0) ≡ test → EndsWith test count outcome sink sink'
     → Counted outcome source after sink sink'
 ended true count bytes source after sink sink' outcome read stands is writes =
@@ -154,8 +156,8 @@ ended true count bytes source after sink sink' outcome read stands is writes =
           (record { bytes = bytes; ends = inr (read, (n + 1, lacks.1, subst (λ t. Goes (Appends t) sink sink') text whole.1)) })
       | inr rest ↦ elim rest [
         | inl part ↦ subst (λ o. Counted o source after sink sink') (sym part.0)
-            (record { bytes = bytes; ends = inr (inr (read, (n + 1, lacks.1, subst (λ t. Goes (AppendsPart t) sink sink') text part.1))) })
-        | inr none ↦ subst (λ o. Counted o source after sink sink') (sym none.0) (record { bytes = bytes; ends = (inr read, none.1) })
+            (record { bytes = bytes; ends = inr (read, inr (n + 1, lacks.1, subst (λ t. Goes (AppendsPart t) sink sink') text part.1)) })
+        | inr none ↦ subst (λ o. Counted o source after sink sink') (sym none.0) (record { bytes = bytes; ends = inr (read, none.1) })
       ]
     ]
 ended false count bytes source after sink sink' outcome read stands is writes =
@@ -171,41 +173,41 @@ ended false count bytes source after sink sink' outcome read stands is writes =
           (record { bytes = bytes; ends = (read, (values, are, subst (λ t. Goes (Appends t) sink sink') text whole.1)) })
       | inr rest ↦ elim rest [
         | inl part ↦ subst (λ o. Counted o source after sink sink') (sym part.0)
-            (record { bytes = bytes; ends = inl (read, (values, are, subst (λ t. Goes (AppendsPart t) sink sink') text part.1)) })
-        | inr none ↦ subst (λ o. Counted o source after sink sink') (sym none.0) (record { bytes = bytes; ends = (inr read, none.1) })
+            (record { bytes = bytes; ends = inr (read, inl (values, are, subst (λ t. Goes (AppendsPart t) sink sink') text part.1)) })
+        | inr none ↦ subst (λ o. Counted o source after sink sink') (sym none.0) (record { bytes = bytes; ends = inr (read, none.1) })
       ]
     ]
 
-pub has_cause : (o : CountOutcome) (faults faults' quiets quiets' sunk sunk' : ℕ) → WriteCause o sunk sunk' → NoReadFailed faults faults' quiets quiets'
-    → CountHasCause o faults faults' quiets quiets' sunk sunk'
-has_cause outcome.Done faults faults' quiets quiets' sunk sunk' cause sound = (sound.0, sound.1, cause)
-has_cause outcome.ReadFault faults faults' quiets quiets' sunk sunk' cause sound = absurd cause
-has_cause outcome.TooQuiet faults faults' quiets quiets' sunk sunk' cause sound = absurd cause
-has_cause outcome.WriteFault faults faults' quiets quiets' sunk sunk' cause sound = (sound.0, sound.1, cause)
-has_cause outcome.Full faults faults' quiets quiets' sunk sunk' cause sound = absurd cause
-has_cause outcome.BadLine faults faults' quiets quiets' sunk sunk' cause sound = (sound.0, sound.1, cause)
-has_cause outcome.NoMemory faults faults' quiets quiets' sunk sunk' cause sound = (sound.0, sound.1, cause)
+pub has_cause : (o : CommandOutcome) (source : SourceCall) (sink : SinkCall) → WriteCause o sink.before.faults sink.after.faults → NoReadFailed source
+    → HasCause o source sink
+has_cause outcome.Done source sink cause sound = (sound, cause)
+has_cause outcome.ReadFault source sink cause sound = absurd cause
+has_cause outcome.TooQuiet source sink cause sound = absurd cause
+has_cause outcome.WriteFault source sink cause sound = (sound, cause)
+has_cause outcome.Full source sink cause sound = absurd cause
+has_cause outcome.BadLine source sink cause sound = (sound, cause)
+has_cause outcome.NoMemory source sink cause sound = (sound, cause)
 
-pub counted_end : (count : Count) (source after : Option Stream) (sink sink' : Option (List ℕ)) (outcome : CountOutcome)
+pub counted_end : (count : Count) (source after : Option Stream) (sink sink' : Option (List ℕ)) (outcome : CommandOutcome)
     → Reads reading.End count source after
     → ((bytes : List ℕ) → CountStands count bytes → EndsWith (not (length (open_line bytes) == 0)) count outcome sink sink')
     → Counted outcome source after sink sink'
 counted_end count source after sink sink' outcome reads writes =
     ended (not (length (open_line reads.0) == 0)) count reads.0 source after sink sink' outcome reads.1.0 reads.1.1 refl (writes reads.0 reads.1.1)
 
-pub counted_stop : (stop : Stop) (count : Count) (source after : Option Stream) (sink sink' : Option (List ℕ)) (outcome : CountOutcome)
+pub counted_stop : (stop : Stop) (count : Count) (source after : Option Stream) (sink sink' : Option (List ℕ)) (outcome : CommandOutcome)
     → Reads (reading.Stopped stop) count source after → StopsWith stop count.good outcome sink sink'
     → Counted outcome source after sink sink'
 counted_stop stop count source after sink sink' outcome reads writes = stopped stop count reads.0 source after sink sink' outcome reads.1.0 reads.1.1 writes
 
 pub counted_full : (count : Count) (source after : Option Stream) (sink : Option (List ℕ)) → Reads reading.Full count source after
     → Counted outcome.Full source after sink sink
-counted_full count source after sink reads = record { bytes = reads.0; ends = (reads.1.0, reads.1.1, none_refused count reads.0 reads.1.2, refl) }
+counted_full count source after sink reads = record { bytes = reads.0; ends = (reads.1.0, reads.1.1, (none_refused count reads.0 reads.1.2, refl)) }
 
 pub counted_failed : (count : Count) (source after : Option Stream) (sink : Option (List ℕ)) → Reads reading.Failed count source after
     → Counted outcome.ReadFault source after sink sink
-counted_failed count source after sink reads = record { bytes = reads.0; ends = (reads.1.0, reads.1.1, none_refused count reads.0 reads.1.2, refl) }
+counted_failed count source after sink reads = record { bytes = reads.0; ends = (reads.1.0, reads.1.1, (none_refused count reads.0 reads.1.2, refl)) }
 
 pub counted_quiet : (count : Count) (source after : Option Stream) (sink : Option (List ℕ)) → Reads reading.TooQuiet count source after
     → Counted outcome.TooQuiet source after sink sink
-counted_quiet count source after sink reads = record { bytes = reads.0; ends = (reads.1.0, reads.1.1, none_refused count reads.0 reads.1.2, refl) }
+counted_quiet count source after sink reads = record { bytes = reads.0; ends = (reads.1.0, reads.1.1, (none_refused count reads.0 reads.1.2, refl)) }

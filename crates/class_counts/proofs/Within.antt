@@ -9,11 +9,13 @@ use Rattle.line_cut.specs.Lines.{has_feed, is_feed, last_lines, lines, open_line
 use Rattle.line_cut.proofs.Splits.{line_lines, line_opens, lines_go_on, lines_none, open_goes_on, open_plain, open_whole}
 use Rattle.line_cut.proofs.Texts.{long_stays}
 use Rattle.gps_client.specs.declared.line.Line.{Line}
-use Rattle.class_counts.specs.declared.outcome.CountOutcome.{CountOutcome}
-use Rattle.class_counts.specs.declared.outcome.CountOutcome.TheVariants as outcome
+use Rattle.command_outcome.specs.declared.outcome.CommandOutcome.{CommandOutcome}
+use Rattle.command_outcome.specs.declared.outcome.CommandOutcome.TheVariants as outcome
 use Rattle.class_counts.specs.Counted.{Counted, IsWithin}
 use Rattle.class_counts.specs.Lines.{AreRead, EndsBadly, IsBad, IsRead, Refuses, known_lines, limit, whole_lines}
-use Rattle.class_counts.specs.Reading.{HasReadAll, HasReadSoFar, most_bytes}
+use Rattle.class_counts.specs.Reading.{most_bytes}
+use Rattle.command_outcome.specs.Ends.{HasReadAll, HasReadSoFar, IsWithin as HoldsFew}
+use Rattle.command_outcome.proofs.Limits.{no_more}
 
 -- a bad line is not among lines that are read
 no_bad : (v : Line) (line : List ℕ) → IsRead v line → IsBad line → ⊥
@@ -117,18 +119,12 @@ not_refused values first more n are e = by_test (is_too_long limit (open_line fi
         let still : is_too_long limit (open_line first ++ next.0) ≡ true = long_stays limit (open_line first) next.0 long in
         (let bad : true ≡ false = sym still ∙ fits in absurd (cc))
 
-no_more : (bytes : List ℕ) (source after : Option Stream) → IsWithin source → length bytes ≡ most_bytes → Goes (PassesMore bytes) source after → ⊥
-no_more bytes None after within full passed = within
-no_more bytes (Some stream) None within full passed = passed
-no_more bytes (Some stream) (Some after) within full passed =
-    let left : length stream.left ≡ length (bytes ++ passed.0) + length after.left = ap length passed.1.1.next ∙ length-append (bytes ++ passed.0) after.left in
-    let both = length-append bytes passed.0 in
-    let some : 0 < length passed.0 = passed.1.0 in
-    let few = within.0 in
-    omega (arith, left, both, some, few, full)
+few : (source : Option Stream) → IsWithin source → HoldsFew most_bytes source
+few None within = within
+few (Some stream) within = within.0
 
-no_bad_so_far : (bytes : List ℕ) (n : ℕ) (source after : Option Stream) → IsWithin source → HasReadSoFar bytes source after → Refuses bytes n → ⊥
-no_bad_so_far bytes n source after within (inr full) refuses = no_more bytes source after within full.0 full.1
+no_bad_so_far : (bytes : List ℕ) (n : ℕ) (source after : Option Stream) → IsWithin source → HasReadSoFar most_bytes bytes source after → Refuses bytes n → ⊥
+no_bad_so_far bytes n source after within (inr full) refuses = no_more most_bytes bytes source after (few source within) full.0 full.1
 no_bad_so_far bytes n None after within (inl read) refuses = within
 no_bad_so_far bytes n (Some stream) None within (inl read) refuses = read.1
 no_bad_so_far bytes n (Some stream) (Some after) within (inl read) refuses =
@@ -136,18 +132,18 @@ no_bad_so_far bytes n (Some stream) (Some after) within (inl read) refuses =
     read.1.next ∙ ap (λ b. b ++ after.left) refuses.begins ∙ append_assoc refuses.first refuses.more after.left in
     not_refused within.1.0 refuses.first (refuses.more ++ after.left) n (subst (λ b. AreRead within.1.0 (whole_lines b)) left within.1.1) refuses.ends
 
-no_bad_at_end : (bytes : List ℕ) (n : ℕ) (source after : Option Stream) → IsWithin source → HasReadAll bytes source after → EndsBadly (whole_lines bytes) n → ⊥
+no_bad_at_end : (bytes : List ℕ) (n : ℕ) (source after : Option Stream) → IsWithin source → HasReadAll most_bytes bytes source after → EndsBadly (whole_lines bytes) n → ⊥
 no_bad_at_end bytes n None after within read e = within
 no_bad_at_end bytes n (Some stream) None within read e = read.1
 no_bad_at_end bytes n (Some stream) (Some after) within read e =
     bad_among within.1.0 e.before e.line []
     (subst (λ ls. AreRead within.1.0 ls) (ap whole_lines read.1.all ∙ e.split) within.1.1) e.bad
 
-pub within : (o : CountOutcome) (source after : Option Stream) (sink sink' : Option (List ℕ)) → Counted o source after sink sink' → IsWithin source
+pub within : (o : CommandOutcome) (source after : Option Stream) (sink sink' : Option (List ℕ)) → Counted o source after sink sink' → IsWithin source
     → (o ≢ outcome.Full) × (o ≢ outcome.BadLine)
 within o source after sink sink' counted inside = (
   λ full. let c : Counted outcome.Full source after sink sink' = subst (λ p. Counted p source after sink sink') full counted in
-      no_more c.bytes source after inside c.ends.0 c.ends.1,
+      no_more most_bytes c.bytes source after (few source inside) c.ends.0 c.ends.1,
   λ bad. let c : Counted outcome.BadLine source after sink sink' = subst (λ p. Counted p source after sink sink') bad counted in
       elim c.ends [
         | inl so_far ↦ no_bad_so_far c.bytes so_far.1.0 source after inside so_far.0 so_far.1.1

@@ -1,6 +1,5 @@
 pub mod Counted
 pub mod Lines
-pub mod Outcomes
 pub mod Reading
 pub mod Standing
 pub mod Tallies

@@ -2,11 +2,9 @@
 #![tactic(auto)]
 
 mod counting;
-mod outcome;
 mod reading;
 mod running;
 mod tally;
 mod writing;
 
-pub use outcome::CountOutcome;
 pub use running::count_lines;

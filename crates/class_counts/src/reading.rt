@@ -1,4 +1,5 @@
 ghost use Rattle.std.specs.Prelude.{◌≡◌, ◌≤◌, []};
+ghost use Rattle.command_outcome.specs.Calls.{source_call};
 ghost use Rattle.class_counts.specs.Reading.{ReadCause, Reads};
 ghost use Rattle.class_counts.specs.Standing.{CountStands};
 
@@ -29,7 +30,7 @@ pub(crate) enum Reading {
 pub(crate) fn read_lines<S: Source>(alloc: Global, count: &mut Count, source: &mut S) -> Reading
     requires { CountStands count.old [] }
     ensures reads { Reads result count.new (S.content source.old) (S.content source.new) }
-    ensures cause { ReadCause result (S.faults source.old) (S.faults source.new) (S.quiets source.old) (S.quiets source.new) }
+    ensures cause { ReadCause result (source_call S.Source source.old source.new) }
     ensures faults_stay { S.faults source.old ≤ S.faults source.new }
     ensures quiets_stay { S.quiets source.old ≤ S.quiets source.new }
 {

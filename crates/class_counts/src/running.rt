@@ -1,20 +1,21 @@
 ghost use Rattle.std.specs.Prelude.{◌≡◌, ◌≢◌, ◌≤◌, ◌==◌, List, ℕ, length, not};
 ghost use Rattle.line_cut.specs.Lines.{open_line};
-ghost use Rattle.class_counts.specs.declared.outcome.CountOutcome.{CountOutcome};
+ghost use Rattle.command_outcome.specs.Calls.{sink_call, source_call};
+ghost use Rattle.command_outcome.specs.Outcomes.{HasCause};
+ghost use Rattle.command_outcome.specs.declared.outcome.CommandOutcome.{CommandOutcome};
 ghost use Rattle.class_counts.specs.Standing.{CountStands};
 ghost use Rattle.class_counts.specs.Counted.{Counted, IsWithin};
-ghost use Rattle.class_counts.specs.Outcomes.{CountHasCause};
 ghost use Rattle.class_counts.specs.Writing.{EndsWith, StopsWith, WriteCause};
 
-use crate::CountOutcome;
 use crate::counting::{Count, Stop};
 use crate::reading::{Reading, read_lines};
 use crate::writing::{refuse, report};
+use command_outcome::CommandOutcome;
 use gps_outside::{Sink, Source};
 use std::alloc::Global;
 
 /// Ends a count at its first bad line, or when out of memory.
-fn stop<K: Sink>(alloc: Global, stop: Stop, good: u64, sink: &mut K) -> CountOutcome
+fn stop<K: Sink>(alloc: Global, stop: Stop, good: u64, sink: &mut K) -> CommandOutcome
     requires takes { K.takes sink.old }
     ensures takes { K.takes sink.new }
     ensures closes { StopsWith stop good result (K.written sink.old) (K.written sink.new) }
@@ -23,12 +24,12 @@ fn stop<K: Sink>(alloc: Global, stop: Stop, good: u64, sink: &mut K) -> CountOut
 {
     match stop {
         Stop::Bad => refuse(alloc, good, sink),
-        Stop::NoMemory => CountOutcome::NoMemory,
+        Stop::NoMemory => CommandOutcome::NoMemory,
     }
 }
 
 /// Ends a count at the end of its input, whose last line may lack its end.
-fn end<K: Sink>(alloc: Global, count: &Count, sink: &mut K) -> CountOutcome
+fn end<K: Sink>(alloc: Global, count: &Count, sink: &mut K) -> CommandOutcome
     requires takes { K.takes sink.old }
     ensures takes { K.takes sink.new }
     ensures closes { (bytes : List ℕ) → CountStands count.now bytes
@@ -45,12 +46,11 @@ fn end<K: Sink>(alloc: Global, count: &Count, sink: &mut K) -> CountOutcome
 
 /// As [`count_lines`].
 #[tactic(auto, using(crate::proofs::Ends::counted_end, crate::proofs::Ends::counted_stop, crate::proofs::Ends::counted_full, crate::proofs::Ends::counted_failed, crate::proofs::Ends::counted_quiet))]
-fn count<S: Source, K: Sink>(alloc: Global, source: &mut S, sink: &mut K) -> CountOutcome
+fn count<S: Source, K: Sink>(alloc: Global, source: &mut S, sink: &mut K) -> CommandOutcome
     requires takes { K.takes sink.old }
     ensures takes { K.takes sink.new }
     ensures counted { Counted result (S.content source.old) (S.content source.new) (K.written sink.old) (K.written sink.new) }
-    ensures cause { CountHasCause result (S.faults source.old) (S.faults source.new) (S.quiets source.old) (S.quiets source.new)
-        (K.faults sink.old) (K.faults sink.new) }
+    ensures cause { HasCause result (source_call S.Source source.old source.new) (sink_call K.Sink sink.old sink.new) }
     ensures faults_stay { S.faults source.old ≤ S.faults source.new }
     ensures quiets_stay { S.quiets source.old ≤ S.quiets source.new }
     ensures sink_faults_stay { K.faults sink.old ≤ K.faults sink.new }
@@ -59,9 +59,9 @@ fn count<S: Source, K: Sink>(alloc: Global, source: &mut S, sink: &mut K) -> Cou
     match read_lines(alloc, &mut count, source) {
         Reading::End => end(alloc, &count, sink),
         Reading::Stopped(why) => stop(alloc, why, count.good, sink),
-        Reading::Full => CountOutcome::Full,
-        Reading::Failed => CountOutcome::ReadFault,
-        Reading::TooQuiet => CountOutcome::TooQuiet,
+        Reading::Full => CommandOutcome::Full,
+        Reading::Failed => CommandOutcome::ReadFault,
+        Reading::TooQuiet => CommandOutcome::TooQuiet,
     }
 }
 
@@ -70,13 +70,16 @@ fn count<S: Source, K: Sink>(alloc: Global, source: &mut S, sink: &mut K) -> Cou
 ///
 /// The sink is open, and stays open. The source's faults rise exactly if the outcome is a read fault, and the sink's exactly if it is a
 /// write fault; a count is too quiet exactly at the thousandth read that brings nothing.
-pub fn count_lines<S: Source, K: Sink>(alloc: Global, source: &mut S, sink: &mut K) -> CountOutcome
+pub fn count_lines<S: Source, K: Sink>(
+    alloc: Global,
+    source: &mut S,
+    sink: &mut K,
+) -> CommandOutcome
     requires takes { K.takes sink.old }
     ensures takes { K.takes sink.new }
     ensures counted { Counted result (S.content source.old) (S.content source.new) (K.written sink.old) (K.written sink.new) }
-    ensures cause { CountHasCause result (S.faults source.old) (S.faults source.new) (S.quiets source.old) (S.quiets source.new)
-        (K.faults sink.old) (K.faults sink.new) }
-    ensures within { IsWithin (S.content source.old) → (result ≢ CountOutcome.Full) × (result ≢ CountOutcome.BadLine) }
+    ensures cause { HasCause result (source_call S.Source source.old source.new) (sink_call K.Sink sink.old sink.new) }
+    ensures within { IsWithin (S.content source.old) → (result ≢ CommandOutcome.Full) × (result ≢ CommandOutcome.BadLine) }
     ensures faults_stay { S.faults source.old ≤ S.faults source.new }
     ensures quiets_stay { S.quiets source.old ≤ S.quiets source.new }
     ensures sink_faults_stay { K.faults sink.old ≤ K.faults sink.new }

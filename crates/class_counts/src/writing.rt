@@ -1,10 +1,10 @@
 ghost use Rattle.std.specs.Prelude.{◌≡◌, ◌≤◌, ◌+◌, IfOk};
-ghost use Rattle.class_counts.specs.declared.outcome.CountOutcome.{CountOutcome};
+ghost use Rattle.command_outcome.specs.declared.outcome.CommandOutcome.{CommandOutcome};
 ghost use Rattle.class_counts.specs.Tallies.{bad_line, kept_number, numbers_text};
 ghost use Rattle.class_counts.specs.Writing.{Closes, WriteCause, bad_behind};
 
-use crate::CountOutcome;
 use crate::tally::Tally;
+use command_outcome::CommandOutcome;
 use gps_fixed::{Bytes, NoMemory, push_decimal};
 use gps_outside::{Sink, write_all};
 use std::alloc::Global;
@@ -31,41 +31,41 @@ fn numbers(alloc: Global, tally: &Tally) -> Result<Bytes, NoMemory>
 }
 
 /// Writes the number of the first bad line.
-pub(crate) fn refuse<K: Sink>(alloc: Global, good: u64, sink: &mut K) -> CountOutcome
+pub(crate) fn refuse<K: Sink>(alloc: Global, good: u64, sink: &mut K) -> CommandOutcome
     requires takes { K.takes sink.old }
     ensures takes { K.takes sink.new }
-    ensures closes { Closes CountOutcome.BadLine (bad_behind good) result (K.written sink.old) (K.written sink.new) }
+    ensures closes { Closes CommandOutcome.BadLine (bad_behind good) result (K.written sink.old) (K.written sink.new) }
     ensures cause { WriteCause result (K.faults sink.old) (K.faults sink.new) }
     ensures faults_stay { K.faults sink.old ≤ K.faults sink.new }
 {
     match bad_line(alloc, good) {
         Ok(text) => {
             if write_all(sink, text.as_slice()) {
-                CountOutcome::BadLine
+                CommandOutcome::BadLine
             } else {
-                CountOutcome::WriteFault
+                CommandOutcome::WriteFault
             }
         }
-        Err(NoMemory) => CountOutcome::NoMemory,
+        Err(NoMemory) => CommandOutcome::NoMemory,
     }
 }
 
 /// Writes the numbers of all classes.
-pub(crate) fn report<K: Sink>(alloc: Global, tally: &Tally, sink: &mut K) -> CountOutcome
+pub(crate) fn report<K: Sink>(alloc: Global, tally: &Tally, sink: &mut K) -> CommandOutcome
     requires takes { K.takes sink.old }
     ensures takes { K.takes sink.new }
-    ensures closes { Closes CountOutcome.Done (numbers_text tally.now.numbers) result (K.written sink.old) (K.written sink.new) }
+    ensures closes { Closes CommandOutcome.Done (numbers_text tally.now.numbers) result (K.written sink.old) (K.written sink.new) }
     ensures cause { WriteCause result (K.faults sink.old) (K.faults sink.new) }
     ensures faults_stay { K.faults sink.old ≤ K.faults sink.new }
 {
     match numbers(alloc, tally) {
         Ok(text) => {
             if write_all(sink, text.as_slice()) {
-                CountOutcome::Done
+                CommandOutcome::Done
             } else {
-                CountOutcome::WriteFault
+                CommandOutcome::WriteFault
             }
         }
-        Err(NoMemory) => CountOutcome::NoMemory,
+        Err(NoMemory) => CommandOutcome::NoMemory,
     }
 }

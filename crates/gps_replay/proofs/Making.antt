@@ -1,13 +1,14 @@
 -- What the play of a made script comes to.
 use Rattle.std.proofs.Common.{◌≡◌, ℕ, ◌+◌, ◌<◌, ◌≤◌, ◌⊎◌, List, [], ◌++◌, length, Option, Some, None, inl, inr, refl, sym, ap, ◌∙◌, subst, arith, append-nil, length-append}
-use Rattle.gps_outside.specs.Counts.{Rose, RoseBy, many_more}
-use Rattle.gps_outside.proofs.ReadSteps.{rose_by_many}
+use Rattle.gps_outside.specs.Counts.{Rose, RoseBy}
 use Rattle.gps_outside.specs.Told.{Stream, Goes, Appends, AppendsPart, Passes}
 use Rattle.gps_outside.proofs.Writing.{appends_none, part_of}
 use Rattle.line_cut.specs.Lines.{lines, open_line}
-use Rattle.line_player.specs.declared.outcome.PlayOutcome.{PlayOutcome}
-use Rattle.line_player.specs.declared.outcome.PlayOutcome.TheVariants.{Done, ReadFault, TooQuiet, WriteFault, Full, BadLine, NoMemory}
-use Rattle.line_player.specs.Outcomes.{NothingFailed, PlayHasCause}
+use Rattle.command_outcome.specs.declared.outcome.CommandOutcome.{CommandOutcome}
+use Rattle.command_outcome.specs.declared.outcome.CommandOutcome.TheVariants.{Done, ReadFault, TooQuiet, WriteFault, Full, BadLine, NoMemory}
+use Rattle.command_outcome.specs.Calls.{SinkCall, SourceCall}
+use Rattle.command_outcome.specs.Outcomes.{HasCause, NothingFailed}
+use Rattle.command_outcome.proofs.Statuses.{quiet_long, quiet_never}
 use Rattle.line_player.specs.Courses.{whole_course}
 use Rattle.line_player.specs.Played.{HasPlayed}
 use Rattle.line_player.proofs.Complete.{completes}
@@ -16,9 +17,18 @@ use Rattle.gps_replay.specs.Closings.{closing_rules, closings}
 use Rattle.gps_replay.specs.Generated.{Generated, GeneratedCause, default_queue, made}
 use Rattle.gps_replay.proofs.Playable.{playable}
 
-none_failed : NothingFailed 0 0 0 0 0 0
-unfolding many_more
-none_failed = (refl, (0, (omega arith, refl)), refl)
+-- a source in memory counts nothing
+abbrev pub silent : Option Stream → Option Stream → SourceCall
+silent before after = record {
+  before = record { content = before; faults = 0; quiets = 0 };
+  after = record { content = after; faults = 0; quiets = 0 };
+}
+
+abbrev unbroken : Option (List ℕ) → Option (List ℕ) → SinkCall
+unbroken sink sink' = record { before = record { written = sink; faults = 0 }; after = record { written = sink'; faults = 0 } }
+
+none_failed : (before after : Option Stream) (sink sink' : Option (List ℕ)) → NothingFailed (silent before after) (unbroken sink sink')
+none_failed before after sink sink' = ((refl, quiet_never 0), refl)
 
 -- if all was done, the whole script was read
 all_read : (script : List ℕ) (after : Option Stream) (most : ℕ) (sink sink' : Option (List ℕ))
@@ -26,9 +36,9 @@ all_read : (script : List ℕ) (after : Option Stream) (most : ℕ) (sink sink' 
     → Goes (Appends (closings default_queue script)) sink sink'
 all_read script None most sink sink' played = absurd played.ends.0.1
 all_read script (Some stream) most sink sink' played =
-    subst (λ b. Goes (Appends (closings default_queue b)) sink sink') (sym played.ends.0.1.all) played.ends.2
+    subst (λ b. Goes (Appends (closings default_queue b)) sink sink') (sym played.ends.0.1.all) played.ends.1.1
 
-pub generated : (outcome : PlayOutcome) (script : List ℕ) (most : ℕ) (after : Option Stream) (sink sink' : Option (List ℕ))
+pub generated : (outcome : CommandOutcome) (script : List ℕ) (most : ℕ) (after : Option Stream) (sink sink' : Option (List ℕ))
     → most ≡ length script
     → HasPlayed outcome (closing_rules default_queue) most (Some (record { taken = []; left = script })) after sink sink'
     → (seed size : ℕ) → script ≡ workload_of seed size → Generated outcome seed size sink sink'
@@ -58,26 +68,27 @@ none_refused script after most sink sink' is played seed size few of =
     let whole : (whole_course (closing_rules default_queue) script).refused ≡ None =
     ap (λ s. (whole_course (closing_rules default_queue) s).refused) of ∙ playable seed size few in
     let ended : (BadLine ≡ Done) ⊎ (BadLine ≡ NoMemory) =
-    completes BadLine (closing_rules default_queue) most (Some (record { taken = []; left = script })) after sink sink' 0 0 0 0 0 0 played none_failed
-    (omega (arith, is), whole) (λ rose. omega (arith, rose)) (λ rose. omega (arith, rose)) (λ rose. omega (arith, rose)) in
+    completes BadLine (closing_rules default_queue) most (silent (Some (record { taken = []; left = script })) after) (unbroken sink sink') played
+    (none_failed (Some (record { taken = []; left = script })) after sink sink')
+    (omega (arith, is), whole) (λ rose. omega (arith, rose), λ rose. omega (arith, rose), λ rose. omega (arith, rose)) in
     elim ended [
       | inl done ↦ cc
       | inr wanted ↦ cc
     ]
 
-pub caused : (outcome : PlayOutcome) (script : List ℕ) (most : ℕ) (after : Option Stream) (sink sink' : Option (List ℕ)) (sunk sunk' : ℕ)
+pub caused : (outcome : CommandOutcome) (script : List ℕ) (most : ℕ) (after : Option Stream) (sink : SinkCall)
     → most ≡ length script
-    → HasPlayed outcome (closing_rules default_queue) most (Some (record { taken = []; left = script })) after sink sink'
-    → PlayHasCause outcome 0 0 0 0 sunk sunk'
-    → (seed size : ℕ) → size ≤ 10_000 → script ≡ workload_of seed size → GeneratedCause outcome sunk sunk'
-caused Done script most after sink sink' sunk sunk' is played cause seed size few of = cause.2
-caused ReadFault script most after sink sink' sunk sunk' is played cause seed size few of = let rose : Rose 0 0 = cause.0 in omega (arith, rose)
-caused TooQuiet script most after sink sink' sunk sunk' is played cause seed size few of =
-    let rose : RoseBy 1000 0 0 = subst (λ n. RoseBy 1000 0 n) (sym cause.1) (rose_by_many 1000 0) in omega (arith, rose)
-caused WriteFault script most after sink sink' sunk sunk' is played cause seed size few of = cause.2
-caused Full script most after sink sink' sunk sunk' is played cause seed size few of = no_more script after most sink sink' is played
-caused BadLine script most after sink sink' sunk sunk' is played cause seed size few of = none_refused script after most sink sink' is played seed size few of
-caused NoMemory script most after sink sink' sunk sunk' is played cause seed size few of = cause.2
+    → HasPlayed outcome (closing_rules default_queue) most (Some (record { taken = []; left = script })) after sink.before.written sink.after.written
+    → HasCause outcome (silent (Some (record { taken = []; left = script })) after) sink
+    → (seed size : ℕ) → size ≤ 10_000 → script ≡ workload_of seed size → GeneratedCause outcome sink
+caused Done script most after sink is played cause seed size few of = cause.1
+caused ReadFault script most after sink is played cause seed size few of = let rose : Rose 0 0 = cause.0.0 in omega (arith, rose)
+caused TooQuiet script most after sink is played cause seed size few of =
+    let rose : RoseBy 1000 0 0 = quiet_long 0 0 cause.0.1 in omega (arith, rose)
+caused WriteFault script most after sink is played cause seed size few of = cause.1
+caused Full script most after sink is played cause seed size few of = no_more script after most sink.before.written sink.after.written is played
+caused BadLine script most after sink is played cause seed size few of = none_refused script after most sink.before.written sink.after.written is played seed size few of
+caused NoMemory script most after sink is played cause seed size few of = cause.1
 
 -- out of memory before the first line
 pub nothing_played : (seed size : ℕ) (sink : Option (List ℕ)) → Generated NoMemory seed size sink sink
@@ -86,7 +97,7 @@ nothing_played seed size sink = record {
   after = Some (made seed size);
   played = record {
     bytes = [];
-    ends = inl (inl (omega arith, record { next = refl; joins = refl }), part_of [] [] sink sink (appends_none sink));
+    ends = inl (inl (omega arith, record { next = refl; joins = refl }), (tt, part_of [] [] sink sink (appends_none sink)));
   };
   whole = λ done. absurd (cc);
 }

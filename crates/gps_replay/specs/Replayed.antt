@@ -1,7 +1,7 @@
 -- What a replay promises of the bytes that it reads and of those that it writes.
 use Rattle.std.specs.Prelude.{ℕ, List, Option}
 use Rattle.gps_outside.specs.Told.{Stream}
-use Rattle.line_player.specs.declared.outcome.PlayOutcome.{PlayOutcome}
+use Rattle.command_outcome.specs.declared.outcome.CommandOutcome.{CommandOutcome}
 use Rattle.line_player.specs.Played.{IsWithin, HasPlayed}
 use Rattle.gps_replay.specs.Run.{rules_of}
 
@@ -10,7 +10,7 @@ abbrev pub most_bytes : ℕ
 most_bytes = 1_073_741_824
 
 -- how the replay of a script ended, and what was read and written, whatever a generation may hold
-abbrev pub Replayed : PlayOutcome → ℕ → Option Stream → Option Stream → Option (List ℕ) → Option (List ℕ) → Type 0
+abbrev pub Replayed : CommandOutcome → ℕ → Option Stream → Option Stream → Option (List ℕ) → Option (List ℕ) → Type 0
 Replayed outcome queue source source' sink sink' = HasPlayed outcome (rules_of queue) most_bytes source source' sink sink'
 
 -- the source tells that no more is left than a script may have, and that no line of it is refused

@@ -8,6 +8,5 @@ mod replaying;
 mod script;
 
 pub use generating::generate;
-pub use line_player::PlayOutcome;
 pub use replay_workload::workload;
 pub use replaying::{replay, replay_core};

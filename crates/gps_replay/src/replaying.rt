@@ -1,13 +1,14 @@
 ghost use Rattle.std.specs.Prelude.{◌≡◌, ◌≤◌, ◌⊎◌};
-ghost use Rattle.gps_outside.specs.Counts.{Rose, RoseBy};
-ghost use Rattle.line_player.specs.declared.outcome.PlayOutcome.{PlayOutcome};
-ghost use Rattle.line_player.specs.Outcomes.{PlayHasCause, status_of};
+ghost use Rattle.command_outcome.specs.declared.outcome.CommandOutcome.{CommandOutcome};
+ghost use Rattle.command_outcome.specs.Calls.{sink_call, source_call};
+ghost use Rattle.command_outcome.specs.Outcomes.{HasCause, NothingFails, status_of};
 ghost use Rattle.gps_replay.specs.Replayed.{IsScript, Replayed};
 
 use crate::script::Script;
+use command_outcome::CommandOutcome;
 use gps_outside::{Sink, Source};
 use line_cut::Limit;
-use line_player::{PlayOutcome, play};
+use line_player::play;
 use std::alloc::Global;
 
 /// The bytes of a line without its line end.
@@ -19,7 +20,7 @@ const MOST_BYTES: u32 = 1_073_741_824;
 /// Reads a script and writes the output of its run. A generation of its book holds at most `limit` entries, which changes
 /// nothing of the output; an outlet keeps `queue` items if no line says another number.
 ///
-/// A line is played as soon as its end was read, or so much of it that it is too long. At [`PlayOutcome::BadLine`] the line N
+/// A line is played as soon as its end was read, or so much of it that it is too long. At [`CommandOutcome::BadLine`] the line N
 /// was refused, and `bad line N` stands behind what those before it write.
 ///
 /// The sink is open, and stays open. The source's faults rise exactly if the outcome is a read fault, and the sink's exactly if it is a
@@ -30,7 +31,7 @@ pub fn replay<S: Source, K: Sink>(
     sink: &mut K,
     limit: u32,
     queue: u32,
-) -> PlayOutcome
+) -> CommandOutcome
     requires takes { K.takes sink.old }
     requires some { 1 ≤ limit }
     requires most { limit ≤ 33554432 }
@@ -38,13 +39,10 @@ pub fn replay<S: Source, K: Sink>(
     requires within { queue ≤ 65536 }
     ensures takes { K.takes sink.new }
     ensures replayed { Replayed result queue (S.content source.old) (S.content source.new) (K.written sink.old) (K.written sink.new) }
-    ensures cause { PlayHasCause result (S.faults source.old) (S.faults source.new) (S.quiets source.old) (S.quiets source.new)
-        (K.faults sink.old) (K.faults sink.new) }
+    ensures cause { HasCause result (source_call S.Source source.old source.new) (sink_call K.Sink sink.old sink.new) }
     ensures complete { IsScript queue (S.content source.old)
-        → (Rose (S.faults source.old) (S.faults source.new) → ⊥)
-        → (RoseBy 1000 (S.quiets source.old) (S.quiets source.new) → ⊥)
-        → (Rose (K.faults sink.old) (K.faults sink.new) → ⊥)
-        → (result ≡ PlayOutcome.Done) ⊎ (result ≡ PlayOutcome.NoMemory) }
+        → NothingFails (source_call S.Source source.old source.new) (sink_call K.Sink sink.old sink.new)
+        → (result ≡ CommandOutcome.Done) ⊎ (result ≡ CommandOutcome.NoMemory) }
     ensures faults_stay { S.faults source.old ≤ S.faults source.new }
     ensures quiets_stay { S.quiets source.old ≤ S.quiets source.new }
     ensures sink_faults_stay { K.faults sink.old ≤ K.faults sink.new }
@@ -77,13 +75,11 @@ pub fn replay_core<S: Source, K: Sink>(
     requires least { 1 ≤ queue }
     requires within { queue ≤ 65536 }
     ensures takes { K.takes sink.new }
-    ensures replayed { (outcome : PlayOutcome) × (result ≡ status_of outcome)
-        × PlayHasCause outcome (S.faults source.old) (S.faults source.new) (S.quiets source.old) (S.quiets source.new) (K.faults sink.old) (K.faults sink.new)
+    ensures replayed { (outcome : CommandOutcome) × (result ≡ status_of outcome)
+        × HasCause outcome (source_call S.Source source.old source.new) (sink_call K.Sink sink.old sink.new)
         × Replayed outcome queue (S.content source.old) (S.content source.new) (K.written sink.old) (K.written sink.new) }
     ensures complete { IsScript queue (S.content source.old)
-        → (Rose (S.faults source.old) (S.faults source.new) → ⊥)
-        → (RoseBy 1000 (S.quiets source.old) (S.quiets source.new) → ⊥)
-        → (Rose (K.faults sink.old) (K.faults sink.new) → ⊥)
+        → NothingFails (source_call S.Source source.old source.new) (sink_call K.Sink sink.old sink.new)
         → (result ≡ 0) ⊎ (result ≡ 7) }
     ensures faults_stay { S.faults source.old ≤ S.faults source.new }
     ensures quiets_stay { S.quiets source.old ≤ S.quiets source.new }

@@ -1,25 +1,23 @@
 -- What the counts of the source and of the sink say when a play breaks off.
-use Rattle.std.proofs.Common.{◌≡◌, ℕ, Err, sym, ◌∙◌, subst}
-use Rattle.gps_outside.specs.Counts.{Rose}
-use Rattle.gps_outside.specs.ReadSteps.{IsQuietSometimes}
-use Rattle.line_player.specs.declared.outcome.Fault.{Fault}
-use Rattle.line_player.specs.declared.outcome.Fault.TheVariants.{BadLine, Sink, NoMemory as NoMemoryFault}
-use Rattle.line_player.specs.declared.outcome.PlayOutcome.{PlayOutcome}
+use Rattle.std.proofs.Common.{◌≡◌, ℕ, Err, sym, subst}
+use Rattle.command_outcome.specs.Calls.{SinkCall, SourceCall}
+use Rattle.command_outcome.specs.declared.outcome.CommandOutcome.{CommandOutcome}
+use Rattle.command_outcome.specs.Outcomes.{HasCause, NoReadFailed}
+use Rattle.line_player.specs.declared.fault.Fault.{Fault}
+use Rattle.line_player.specs.declared.fault.Fault.TheVariants.{BadLine, Sink, NoMemory}
 use Rattle.line_player.specs.LineSteps.{WriteCause}
-use Rattle.line_player.specs.Outcomes.{outcome_of, PlayHasCause}
+use Rattle.line_player.specs.Outcomes.{outcome_of}
 
-has_cause : (fault : Fault) (faults faults' quiets quiets' sunk sunk' : ℕ)
-    → faults' ≡ faults → IsQuietSometimes quiets quiets' → WriteCause {X = Unit {0}} (Err fault) sunk sunk'
-    → PlayHasCause (outcome_of fault) faults faults' quiets quiets' sunk sunk'
-has_cause BadLine faults faults' quiets quiets' sunk sunk' sound lively wrote = (sound, lively, wrote)
-has_cause Sink faults faults' quiets quiets' sunk sunk' sound lively wrote = (sound, lively, wrote)
-has_cause NoMemoryFault faults faults' quiets quiets' sunk sunk' sound lively wrote = (sound, lively, wrote)
+has_cause : (fault : Fault) (source : SourceCall) (sink : SinkCall)
+    → NoReadFailed source → WriteCause {X = Unit {0}} (Err fault) sink.before.faults sink.after.faults → HasCause (outcome_of fault) source sink
+has_cause BadLine source sink sound wrote = (sound, wrote)
+has_cause Sink source sink sound wrote = (sound, wrote)
+has_cause NoMemory source sink sound wrote = (sound, wrote)
 
 -- the sink had no fault up to the call that broke off
-pub broken : (fault : Fault) (outcome : PlayOutcome) (faults faults' quiets quiets' sunk sunk' sunk'' : ℕ)
-    → outcome ≡ outcome_of fault
-    → faults' ≡ faults → IsQuietSometimes quiets quiets' → sunk' ≡ sunk → WriteCause {X = Unit {0}} (Err fault) sunk' sunk''
-    → PlayHasCause outcome faults faults' quiets quiets' sunk sunk''
-broken fault outcome faults faults' quiets quiets' sunk sunk' sunk'' is sound lively same wrote =
-    subst (λ o. PlayHasCause o faults faults' quiets quiets' sunk sunk'') (sym is)
-    (has_cause fault faults faults' quiets quiets' sunk sunk'' sound lively (subst (λ n. WriteCause {X = Unit {0}} (Err fault) n sunk'') same wrote))
+pub broken : (fault : Fault) (outcome : CommandOutcome) (source : SourceCall) (sink : SinkCall) (sunk : ℕ)
+    → outcome ≡ outcome_of fault → NoReadFailed source → sunk ≡ sink.before.faults → WriteCause {X = Unit {0}} (Err fault) sunk sink.after.faults
+    → HasCause outcome source sink
+broken fault outcome source sink sunk is sound same wrote =
+    subst (λ o. HasCause o source sink) (sym is)
+    (has_cause fault source sink sound (subst (λ n. WriteCause {X = Unit {0}} (Err fault) n sink.after.faults) same wrote))

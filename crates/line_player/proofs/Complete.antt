@@ -12,12 +12,16 @@ use Rattle.line_cut.specs.Limits.{is_too_long, most}
 use Rattle.line_cut.specs.Lines.{has_feed, is_feed, last_lines, lines, open_line, with_first}
 use Rattle.line_cut.proofs.Splits.{lines_go_on, lines_none, open_goes_on, open_plain, open_whole}
 use Rattle.line_cut.proofs.Texts.{long_stays, text_bounds}
-use Rattle.line_player.specs.declared.outcome.PlayOutcome.{PlayOutcome}
-use Rattle.line_player.specs.declared.outcome.PlayOutcome.TheVariants.{Done, ReadFault, TooQuiet, WriteFault, Full, BadLine, NoMemory}
+use Rattle.command_outcome.specs.declared.outcome.CommandOutcome.{CommandOutcome}
+use Rattle.command_outcome.specs.declared.outcome.CommandOutcome.TheVariants.{Done, ReadFault, TooQuiet, WriteFault, Full, BadLine, NoMemory}
 use Rattle.line_player.specs.Rules.{Rules, effect_within, text_in}
 use Rattle.line_player.specs.Courses.{Course, course_of, course_so_far, ended_texts, whole_course, with_line}
-use Rattle.line_player.specs.Outcomes.{PlayHasCause}
-use Rattle.line_player.specs.Played.{HasReadAll, HasReadSoFar, IsWithin, HasPlayed, Refuses}
+use Rattle.command_outcome.specs.Calls.{SinkCall, SourceCall}
+use Rattle.command_outcome.specs.Outcomes.{HasCause, NothingFails}
+use Rattle.command_outcome.specs.Ends.{HasReadAll, HasReadSoFar, IsWithin as HoldsFew}
+use Rattle.command_outcome.proofs.Statuses.{quiet_long}
+use Rattle.command_outcome.proofs.Limits.{no_more}
+use Rattle.line_player.specs.Played.{IsWithin, HasPlayed}
 use Rattle.line_player.specs.LineSteps.{ended_course}
 use Rattle.line_player.proofs.Courses.{course_on, long_is, more_than, next_line, so_far_ended, stops}
 use Rattle.line_player.proofs.Dues.{last_some}
@@ -152,15 +156,9 @@ unrefused rules bytes more none = go (is_too_long rules.limit (open_line bytes))
 
 -- a source whose bytes are within the limits
 
-no_more : {X : Type 0} (rules : Rules X) (limit : ℕ) (bytes : List ℕ) (source source' : Option Stream)
-    → IsWithin rules limit source → length bytes ≡ limit → Goes (PassesMore bytes) source source' → ⊥
-no_more rules limit bytes None source' within full passed = within
-no_more rules limit bytes (Some stream) None within full passed = passed
-no_more rules limit bytes (Some stream) (Some after) within full passed =
-    let left : length stream.left ≡ length (bytes ++ passed.0) + length after.left = ap length passed.1.1.next ∙ length-append (bytes ++ passed.0) after.left in
-    let more : length (bytes ++ passed.0) ≡ length bytes + length passed.0 = length-append bytes passed.0 in
-    let some : 0 < length passed.0 = passed.1.0 in
-    omega (arith, within.0, full)
+few : {X : Type 0} (rules : Rules X) (limit : ℕ) (source : Option Stream) → IsWithin rules limit source → HoldsFew limit source
+few rules limit None within = within
+few rules limit (Some stream) within = within.0
 
 -- what was read of it is a beginning of what was left
 reads_on : {X : Type 0} (rules : Rules X) (limit : ℕ) (bytes : List ℕ) (source source' : Option Stream)
@@ -169,7 +167,7 @@ reads_on rules limit bytes None source' within read = absurd within
 reads_on rules limit bytes (Some stream) None within (inl read) = absurd read.1
 reads_on rules limit bytes (Some stream) (Some after) within (inl read) =
     unrefused rules bytes after.left (ap (λ b. (whole_course rules b).refused) (sym read.1.next) ∙ within.1)
-reads_on rules limit bytes (Some stream) source' within (inr read) = absurd (no_more rules limit bytes (Some stream) source' within read.0 read.1)
+reads_on rules limit bytes (Some stream) source' within (inr read) = absurd (no_more limit bytes (Some stream) source' within.0 read.0 read.1)
 
 reads_all : {X : Type 0} (rules : Rules X) (limit : ℕ) (bytes : List ℕ) (source source' : Option Stream)
     → IsWithin rules limit source → HasReadAll limit bytes source source' → (whole_course rules bytes).refused ≡ None
@@ -177,21 +175,19 @@ reads_all rules limit bytes None source' within read = absurd within
 reads_all rules limit bytes (Some stream) None within read = absurd read.1
 reads_all rules limit bytes (Some stream) (Some after) within read = ap (λ b. (whole_course rules b).refused) (sym read.1.all) ∙ within.1
 
-pub completes : {X : Type 0} (outcome : PlayOutcome) (rules : Rules X) (limit : ℕ) (source source' : Option Stream) (sink sink' : Option (List ℕ))
-    (faults faults' quiets quiets' sunk sunk' : ℕ)
-    → HasPlayed outcome rules limit source source' sink sink' → PlayHasCause outcome faults faults' quiets quiets' sunk sunk'
-    → IsWithin rules limit source → (Rose faults faults' → ⊥) → (RoseBy 1000 quiets quiets' → ⊥) → (Rose sunk sunk' → ⊥)
+pub completes : {X : Type 0} (outcome : CommandOutcome) (rules : Rules X) (limit : ℕ) (source : SourceCall) (sink : SinkCall)
+    → HasPlayed outcome rules limit source.before.content source.after.content sink.before.written sink.after.written → HasCause outcome source sink
+    → IsWithin rules limit source.before.content → NothingFails source sink
     → (outcome ≡ Done) ⊎ (outcome ≡ NoMemory)
-completes Done rules limit source source' sink sink' faults faults' quiets quiets' sunk sunk' played cause within sound lively unbroken = inl refl
-completes ReadFault rules limit source source' sink sink' faults faults' quiets quiets' sunk sunk' played cause within sound lively unbroken = absurd (sound cause.0)
-completes TooQuiet rules limit source source' sink sink' faults faults' quiets quiets' sunk sunk' played cause within sound lively unbroken =
-    absurd (lively (subst (λ n. RoseBy 1000 quiets n) (sym cause.1) (rose_by_many 1000 quiets)))
-completes WriteFault rules limit source source' sink sink' faults faults' quiets quiets' sunk sunk' played cause within sound lively unbroken = absurd (unbroken cause.2)
-completes Full rules limit source source' sink sink' faults faults' quiets quiets' sunk sunk' played cause within sound lively unbroken =
-    absurd (no_more rules limit played.bytes source source' within played.ends.0 played.ends.1)
-completes BadLine rules limit source source' sink sink' faults faults' quiets quiets' sunk sunk' played cause within sound lively unbroken = absurd (go played.ends)
-  where
-    go : Refuses rules limit played.bytes source source' sink sink' → ⊥
-    go (inl early) = early.1 (reads_on rules limit played.bytes source source' within early.0)
-    go (inr last) = last.1 (reads_all rules limit played.bytes source source' within last.0)
-completes NoMemory rules limit source source' sink sink' faults faults' quiets quiets' sunk sunk' played cause within sound lively unbroken = inr refl
+completes Done rules limit source sink played cause within sound = inl refl
+completes ReadFault rules limit source sink played cause within sound = absurd (sound.0 cause.0.0)
+completes TooQuiet rules limit source sink played cause within sound = absurd (sound.1 (quiet_long source.before.quiets source.after.quiets cause.0.1))
+completes WriteFault rules limit source sink played cause within sound = absurd (sound.2 cause.1)
+completes Full rules limit source sink played cause within sound =
+    absurd (no_more limit played.bytes source.before.content source.after.content (few rules limit source.before.content within) played.ends.0 played.ends.1)
+completes BadLine rules limit source sink played cause within sound =
+    elim played.ends [
+      | inl early ↦ absurd (early.1.0 (reads_on rules limit played.bytes source.before.content source.after.content within early.0))
+      | inr last ↦ absurd (last.1.0 (reads_all rules limit played.bytes source.before.content source.after.content within last.0))
+    ]
+completes NoMemory rules limit source sink played cause within sound = inr refl

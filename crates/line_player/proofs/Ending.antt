@@ -8,8 +8,8 @@ use Rattle.gps_outside.proofs.Writing.{appends_none, appends_on, part_longer, pa
 use Rattle.line_player.specs.declared.plays_lines.EndStep.{EndStep}
 use Rattle.line_player.specs.declared.plays_lines.EndStep.TheVariants.{More, Last}
 use Rattle.line_player.specs.declared.plays_lines.LineStep.TheVariants.{Made, Refused}
-use Rattle.line_player.specs.declared.outcome.Fault.{Fault}
-use Rattle.line_player.specs.declared.outcome.Fault.TheVariants.{BadLine, Sink, NoMemory as NoMemoryFault}
+use Rattle.line_player.specs.declared.fault.Fault.{Fault}
+use Rattle.line_player.specs.declared.fault.Fault.TheVariants.{BadLine, Sink, NoMemory as NoMemoryFault}
 use Rattle.line_player.specs.LineSteps.{EndBreaks, EndPart, IsDueAtEnd, WritesAtEnd, WritesEnd, WritesPart, Written}
 
 -- parts stand behind one another in the buffer

@@ -10,14 +10,15 @@ use Rattle.gps_outside.proofs.ReadSteps.{taken_none, taken_piece, taken_quiet, e
 use Rattle.line_cut.specs.Limits.{is_too_long}
 use Rattle.line_cut.specs.Lines.{last_lines, lines, open_line}
 use Rattle.line_cut.specs.Standing.{LineCutterView, StandsFor}
-use Rattle.line_player.specs.declared.outcome.PlayOutcome.{PlayOutcome}
-use Rattle.line_player.specs.declared.outcome.PlayOutcome.TheVariants.{Done, ReadFault, TooQuiet as QuietOutcome, Full}
-use Rattle.line_player.specs.declared.outcome.Fault.{Fault}
-use Rattle.line_player.specs.declared.outcome.Fault.TheVariants.{BadLine, Sink, NoMemory as NoMemoryFault}
+use Rattle.command_outcome.specs.declared.outcome.CommandOutcome.{CommandOutcome}
+use Rattle.command_outcome.specs.declared.outcome.CommandOutcome.TheVariants.{Done, ReadFault, TooQuiet as QuietOutcome, Full}
+use Rattle.line_player.specs.declared.fault.Fault.{Fault}
+use Rattle.line_player.specs.declared.fault.Fault.TheVariants.{BadLine, Sink, NoMemory as NoMemoryFault}
 use Rattle.line_player.specs.Rules.{Effect, Rules, effect_within}
 use Rattle.line_player.specs.Courses.{Course, bad_line, course_so_far, due_at_end, due_so_far, ended_texts, gone_on, long_texts, new_course, output_of, unless, whole_course, with_line, written_so_far}
 use Rattle.line_player.specs.Outcomes.{outcome_of}
-use Rattle.line_player.specs.Played.{Ends, HasReadAll, HasReadSoFar, HasPlayed}
+use Rattle.command_outcome.specs.Ends.{HasReadAll, HasReadSoFar}
+use Rattle.line_player.specs.Played.{EndsPlay, HasPlayed}
 use Rattle.line_player.specs.LineSteps.{IsAt, Writes, WritesAtEnd, Written, ended_course}
 use Rattle.line_player.proofs.Courses.{course_on, so_far_on}
 use Rattle.line_player.proofs.Running.{none_long}
@@ -162,27 +163,27 @@ none_due before all sink sink' sink'' wrote grown same =
 broken_off : {X : Type 0} (fault : Fault) (rules : Rules X) (most : ℕ) (bytes before : List ℕ) (source after : Option Stream) (sink sink' sink'' : Option (List ℕ))
     → HasReadSoFar most bytes source after → Goes (Appends before) sink sink' → IsPrefix before (written_so_far rules bytes)
     → Writes {X = Unit {0}} (Err fault) (course_so_far rules bytes).refused before (written_so_far rules bytes) sink' sink''
-    → Ends (outcome_of fault) rules most bytes source after sink sink''
+    → EndsPlay (outcome_of fault) rules most bytes source after sink sink''
 broken_off BadLine rules most bytes before source after sink sink' sink'' read wrote grown w =
-    inl (read, w.0, all_due before (written_so_far rules bytes) sink sink' sink'' wrote w.1)
+    inl (read, (w.0, all_due before (written_so_far rules bytes) sink sink' sink'' wrote w.1))
 broken_off Sink rules most bytes before source after sink sink' sink'' read wrote grown w =
-    inl (read, part_due before (written_so_far rules bytes) sink sink' sink'' wrote w)
+    inl (read, (tt, part_due before (written_so_far rules bytes) sink sink' sink'' wrote w))
 broken_off NoMemoryFault rules most bytes before source after sink sink' sink'' read wrote grown w =
-    inl (read, none_due before (written_so_far rules bytes) sink sink' sink'' wrote grown w)
+    inl (read, (tt, none_due before (written_so_far rules bytes) sink sink' sink'' wrote grown w))
 
 -- a fault at the source's end
 end_broken : {X : Type 0} (fault : Fault) (rules : Rules X) (most : ℕ) (bytes before : List ℕ) (source after : Option Stream) (sink sink' sink'' : Option (List ℕ))
     → HasReadAll most bytes source after → Goes (Appends before) sink sink' → IsPrefix before (output_of rules bytes)
     → WritesAtEnd {X = Unit {0}} (Err fault) (whole_course rules bytes).refused before (output_of rules bytes) sink' sink''
-    → Ends (outcome_of fault) rules most bytes source after sink sink''
+    → EndsPlay (outcome_of fault) rules most bytes source after sink sink''
 end_broken BadLine rules most bytes before source after sink sink' sink'' read wrote grown w =
-    inr (read, w.0, all_due before (output_of rules bytes) sink sink' sink'' wrote w.1)
+    inr (read, (w.0, all_due before (output_of rules bytes) sink sink' sink'' wrote w.1))
 end_broken Sink rules most bytes before source after sink sink' sink'' read wrote grown w =
-    inr (read, part_due before (output_of rules bytes) sink sink' sink'' wrote w)
+    inr (read, (tt, part_due before (output_of rules bytes) sink sink' sink'' wrote w))
 end_broken NoMemoryFault rules most bytes before source after sink sink' sink'' read wrote grown (inl same) =
-    inr (read, none_due before (output_of rules bytes) sink sink' sink'' wrote grown same)
+    inr (read, (tt, none_due before (output_of rules bytes) sink sink' sink'' wrote grown same))
 end_broken NoMemoryFault rules most bytes before source after sink sink' sink'' read wrote grown (inr w) =
-    inr (read, part_due before (output_of rules bytes) sink sink' sink'' wrote w)
+    inr (read, (tt, part_due before (output_of rules bytes) sink sink' sink'' wrote w))
 
 pub broken_in_piece : {X : Type 0} (n : ℕ) (rules : Rules X) (most : ℕ) (buf : List ℕ) (budget budget' : Budget) (cutter : LineCutterView) (count : ℕ) (stands : X → Type 0) (fault : Fault)
     (source now after : Option Stream) (faults faults' faults'' quiets quiets' quiets'' : ℕ) (sink sink' sink'' : Option (List ℕ))
@@ -190,7 +191,7 @@ pub broken_in_piece : {X : Type 0} (n : ℕ) (rules : Rules X) (most : ℕ) (buf
     → FitsRoom (Piece n) (length buf) → Spends (Piece n) budget budget' → Hands (Piece n) buf now after → faults'' ≡ faults' → quiets'' ≡ quiets'
     → ((bytes : List ℕ) → IsAt rules bytes cutter count stands
     → Writes {X = Unit {0}} (Err fault) (course_so_far rules (bytes ++ take n buf)).refused (written_so_far rules bytes) (written_so_far rules (bytes ++ take n buf)) sink' sink'')
-    → (outcome : PlayOutcome) → outcome ≡ outcome_of fault
+    → (outcome : CommandOutcome) → outcome ≡ outcome_of fault
     → HasPlayed outcome rules most source after sink sink''
 broken_in_piece n rules most buf budget budget' cutter count stands fault source now after faults faults' faults'' quiets quiets' quiets'' sink sink' sink'' u fits spent handed same still writes outcome is =
     let all : HasTaken most (u.bytes ++ take n buf) budget' source after faults faults'' quiets quiets'' =
@@ -207,7 +208,7 @@ pub broken_in_last : {X : Type 0} (n : ℕ) (rules : Rules X) (most : ℕ) (buf 
     → FitsRoom (Last n) (length buf) → Spends (Last n) budget budget' → Hands (Last n) buf now after
     → ((bytes : List ℕ) → IsAt rules bytes cutter count stands
     → Writes {X = Unit {0}} (Err fault) (course_so_far rules (bytes ++ take n buf)).refused (written_so_far rules bytes) (written_so_far rules (bytes ++ take n buf)) sink' sink'')
-    → (outcome : PlayOutcome) → outcome ≡ outcome_of fault
+    → (outcome : CommandOutcome) → outcome ≡ outcome_of fault
     → HasPlayed outcome rules most source after sink sink''
 broken_in_last n rules most buf budget budget' cutter count stands fault source now after faults faults' quiets quiets' sink sink' sink'' u fits spent handed writes outcome is =
     subst (λ o. HasPlayed o rules most source after sink sink'') (sym is) (record {
@@ -231,7 +232,7 @@ filled n rules most buf budget budget' cutter count stands source now after faul
     writes u.bytes u.at in
     record {
       bytes = u.bytes ++ take n buf;
-      ends = (read.0, read.1, w.0, all_due (written_so_far rules u.bytes) (written_so_far rules (u.bytes ++ take n buf)) sink sink' sink'' u.wrote w.1);
+      ends = (read.0, read.1, (w.0, all_due (written_so_far rules u.bytes) (written_so_far rules (u.bytes ++ take n buf)) sink sink' sink'' u.wrote w.1));
     }
 
 pub ended : {X : Type 0} (rules : Rules X) (most : ℕ) (buf : List ℕ) (budget : Budget) (cutter : LineCutterView) (count : ℕ) (stands : X → Type 0)
@@ -247,7 +248,7 @@ ended rules most buf budget cutter count stands source now after faults faults' 
     let w : WritesAtEnd {X = Unit {0}} (Ok tt) (whole_course rules u.bytes).refused (written_so_far rules u.bytes) (output_of rules u.bytes) sink' sink'' = writes u.bytes u.at in
     record {
       bytes = u.bytes;
-      ends = (read, w.0, all_due (written_so_far rules u.bytes) (output_of rules u.bytes) sink sink' sink'' u.wrote w.1);
+      ends = (read, (w.0, all_due (written_so_far rules u.bytes) (output_of rules u.bytes) sink sink' sink'' u.wrote w.1));
     }
 
 pub broken_at_end : {X : Type 0} (rules : Rules X) (most : ℕ) (buf : List ℕ) (budget : Budget) (cutter : LineCutterView) (count : ℕ) (stands : X → Type 0) (fault : Fault)
@@ -256,7 +257,7 @@ pub broken_at_end : {X : Type 0} (rules : Rules X) (most : ℕ) (buf : List ℕ)
     → Hands End buf now after
     → ((bytes : List ℕ) → IsAt rules bytes cutter count stands
     → WritesAtEnd {X = Unit {0}} (Err fault) (whole_course rules bytes).refused (written_so_far rules bytes) (output_of rules bytes) sink' sink'')
-    → (outcome : PlayOutcome) → outcome ≡ outcome_of fault
+    → (outcome : CommandOutcome) → outcome ≡ outcome_of fault
     → HasPlayed outcome rules most source after sink sink''
 broken_at_end rules most buf budget cutter count stands fault source now after faults faults' quiets quiets' sink sink' sink'' u handed writes outcome is =
     subst (λ o. HasPlayed o rules most source after sink sink'') (sym is) (record {
@@ -274,7 +275,7 @@ pub failed : {X : Type 0} (rules : Rules X) (most : ℕ) (buf : List ℕ) (budge
 failed rules most buf budget cutter count stands source now after faults faults' quiets quiets' sink sink' u handed =
     let read : (length u.bytes ≤ most) × Goes (TakesSome u.bytes) source after =
     ends_failed most u.bytes buf budget source now after faults faults' quiets quiets' u.taken handed in
-    record { bytes = u.bytes; ends = (read.0, read.1, none_so_far rules u.bytes cutter count stands u.at, u.wrote) }
+    record { bytes = u.bytes; ends = (read.0, read.1, (none_so_far rules u.bytes cutter count stands u.at, u.wrote)) }
 
 pub too_quiet : {X : Type 0} (rules : Rules X) (most : ℕ) (buf : List ℕ) (budget : Budget) (cutter : LineCutterView) (count : ℕ) (stands : X → Type 0)
     (source now after : Option Stream) (faults faults' quiets quiets' : ℕ) (sink sink' : Option (List ℕ))
@@ -283,7 +284,7 @@ pub too_quiet : {X : Type 0} (rules : Rules X) (most : ℕ) (buf : List ℕ) (bu
     → HasPlayed QuietOutcome rules most source after sink sink'
 too_quiet rules most buf budget cutter count stands source now after faults faults' quiets quiets' sink sink' u handed =
     let all : (length u.bytes ≤ most) × Goes (Passes u.bytes) source after = ends_too_quiet most u.bytes buf budget source now after faults faults' quiets quiets' u.taken handed in
-    record { bytes = u.bytes; ends = (all.0, all.1, none_so_far rules u.bytes cutter count stands u.at, u.wrote) }
+    record { bytes = u.bytes; ends = (all.0, all.1, (none_so_far rules u.bytes cutter count stands u.at, u.wrote)) }
 
 -- the rules stay what they were
 
@@ -295,6 +296,6 @@ pub on_rules : {X : Type 0} (rules other : Rules X) (most : ℕ) (budget : Budge
 on_rules rules other most budget cutter count stands source source' faults faults' quiets quiets' sink sink' same u =
     subst (λ r. UnderWay r most budget cutter count stands source source' faults faults' quiets quiets' sink sink') (sym same) u
 
-pub by_rules : {X : Type 0} (outcome : PlayOutcome) (rules other : Rules X) (most : ℕ) (source source' : Option Stream) (sink sink' : Option (List ℕ))
+pub by_rules : {X : Type 0} (outcome : CommandOutcome) (rules other : Rules X) (most : ℕ) (source source' : Option Stream) (sink sink' : Option (List ℕ))
     → rules ≡ other → HasPlayed outcome rules most source source' sink sink' → HasPlayed outcome other most source source' sink sink'
 by_rules outcome rules other most source source' sink sink' same played = subst (λ r. HasPlayed outcome r most source source' sink sink') same played

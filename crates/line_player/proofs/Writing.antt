@@ -2,7 +2,7 @@
 use Rattle.std.proofs.Common.{◌≡◌, ℕ, true, false, List, ◌++◌, Option, Ok, Err}
 use Rattle.gps_outside.specs.Writes.{WritesAll}
 use Rattle.line_player.specs.declared.plays_lines.LineStep.TheVariants.{Made, Refused}
-use Rattle.line_player.specs.declared.outcome.Fault.TheVariants.{BadLine, Sink}
+use Rattle.line_player.specs.declared.fault.Fault.TheVariants.{BadLine, Sink}
 use Rattle.line_player.specs.LineSteps.{IsDue, Writes}
 
 pub made : (refused : Option ℕ) (before all due : List ℕ) (sink sink' : Option (List ℕ)) → IsDue (Ok Made) refused before all due

@@ -10,8 +10,8 @@ use Rattle.line_player.specs.declared.plays_lines.EndStep.{EndStep}
 use Rattle.line_player.specs.declared.plays_lines.EndStep.TheVariants.{More, Last}
 use Rattle.line_player.specs.declared.plays_lines.LineStep.{LineStep}
 use Rattle.line_player.specs.declared.plays_lines.LineStep.TheVariants.{Made, Refused}
-use Rattle.line_player.specs.declared.outcome.Fault.{Fault}
-use Rattle.line_player.specs.declared.outcome.Fault.TheVariants.{BadLine, Sink, NoMemory as NoMemoryFault}
+use Rattle.line_player.specs.declared.fault.Fault.{Fault}
+use Rattle.line_player.specs.declared.fault.Fault.TheVariants.{BadLine, Sink, NoMemory as NoMemoryFault}
 use Rattle.line_player.specs.Rules.{Effect, Rules}
 use Rattle.line_player.specs.Courses.{Course, course_of, course_so_far, ended_texts, whole_course}
 

@@ -1,16 +1,17 @@
 ghost use Rattle.std.specs.Prelude.{◌≡◌, ◌≤◌, ◌<◌, ◌+◌, ◌-◌, ◌^◌, ◌++◌, ◌⊎◌, List, ℕ, Option, Ok, IfOk, length};
 ghost use Rattle.line_player.specs.Courses.{course_so_far, output_of, whole_course, written_so_far};
-ghost use Rattle.line_player.specs.Outcomes.{PlayHasCause};
+ghost use Rattle.command_outcome.specs.Calls.{sink_call, source_call};
+ghost use Rattle.command_outcome.specs.Outcomes.{HasCause, NothingFails};
 ghost use Rattle.line_player.specs.Played.{IsWithin, HasPlayed};
 ghost use Rattle.line_player.specs.LineSteps.{IsAt, IsDue, WriteCause, Writes, WritesAtEnd, WritesEnd, WritesPart};
 ghost use Rattle.line_player.specs.declared.plays_lines.EndStep.{EndStep};
 ghost use Rattle.line_player.specs.declared.plays_lines.LineStep.{LineStep};
-ghost use Rattle.line_player.specs.declared.outcome.PlayOutcome.{PlayOutcome};
-ghost use Rattle.gps_outside.specs.Counts.{Rose, RoseBy};
+ghost use Rattle.command_outcome.specs.declared.outcome.CommandOutcome.{CommandOutcome};
 
+use crate::fault::Fault;
 use crate::lines::Lines;
-use crate::outcome::{Fault, PlayOutcome};
 use crate::plays_lines::{EndStep, LineStep, PlaysLines};
+use command_outcome::CommandOutcome;
 use gps_fixed::NoMemory;
 use gps_outside::{Intake, IntakeStep, Sink, Source, write_all};
 use line_cut::Limit;
@@ -167,15 +168,14 @@ fn read_through<S: Source, K: Sink, P: PlaysLines>(
     player: &mut P,
     source: &mut S,
     sink: &mut K,
-) -> PlayOutcome
+) -> CommandOutcome
     requires takes { K.takes sink.old }
     requires limit { limit ≡ (P.rules player.old).limit }
     requires starts { P.stands player.old (P.rules player.old).start }
     ensures takes { K.takes sink.new }
     ensures played { HasPlayed result (P.rules player.old) most (S.content source.old) (S.content source.new)
         (K.written sink.old) (K.written sink.new) }
-    ensures cause { PlayHasCause result (S.faults source.old) (S.faults source.new) (S.quiets source.old) (S.quiets source.new)
-        (K.faults sink.old) (K.faults sink.new) }
+    ensures cause { HasCause result (source_call S.Source source.old source.new) (sink_call K.Sink sink.old sink.new) }
     ensures faults_stay { S.faults source.old ≤ S.faults source.new }
     ensures quiets_stay { S.quiets source.old ≤ S.quiets source.new }
     ensures sink_faults_stay { K.faults sink.old ≤ K.faults sink.new }
@@ -191,15 +191,15 @@ fn read_through<S: Source, K: Sink, P: PlaysLines>(
             },
             IntakeStep::Quiet => {}
             IntakeStep::Last(n) => match hand_on(&mut lines, player, &buf[..n], sink) {
-                Ok(()) => return PlayOutcome::Full,
+                Ok(()) => return CommandOutcome::Full,
                 Err(fault) => return fault.outcome(),
             },
             IntakeStep::End => match close(&mut lines, player, sink) {
-                Ok(()) => return PlayOutcome::Done,
+                Ok(()) => return CommandOutcome::Done,
                 Err(fault) => return fault.outcome(),
             },
-            IntakeStep::Failed => return PlayOutcome::ReadFault,
-            IntakeStep::TooQuiet => return PlayOutcome::TooQuiet,
+            IntakeStep::Failed => return CommandOutcome::ReadFault,
+            IntakeStep::TooQuiet => return CommandOutcome::TooQuiet,
         }
     }
 }
@@ -224,23 +224,20 @@ pub fn play<S: Source, K: Sink, P: PlaysLines>(
     player: &mut P,
     source: &mut S,
     sink: &mut K,
-) -> PlayOutcome
+) -> CommandOutcome
     requires takes { K.takes sink.old }
     requires limit { limit ≡ (P.rules player.old).limit }
     requires starts { P.stands player.old (P.rules player.old).start }
     ensures takes { K.takes sink.new }
     ensures played { HasPlayed result (P.rules player.old) most (S.content source.old) (S.content source.new)
         (K.written sink.old) (K.written sink.new) }
-    ensures cause { PlayHasCause result (S.faults source.old) (S.faults source.new) (S.quiets source.old) (S.quiets source.new)
-        (K.faults sink.old) (K.faults sink.new) }
+    ensures cause { HasCause result (source_call S.Source source.old source.new) (sink_call K.Sink sink.old sink.new) }
     ensures faults_stay { S.faults source.old ≤ S.faults source.new }
     ensures quiets_stay { S.quiets source.old ≤ S.quiets source.new }
     ensures sink_faults_stay { K.faults sink.old ≤ K.faults sink.new }
     ensures complete { IsWithin (P.rules player.old) most (S.content source.old)
-        → (Rose (S.faults source.old) (S.faults source.new) → ⊥)
-        → (RoseBy 1000 (S.quiets source.old) (S.quiets source.new) → ⊥)
-        → (Rose (K.faults sink.old) (K.faults sink.new) → ⊥)
-        → (result ≡ PlayOutcome.Done) ⊎ (result ≡ PlayOutcome.NoMemory) }
+        → NothingFails (source_call S.Source source.old source.new) (sink_call K.Sink sink.old sink.new)
+        → (result ≡ CommandOutcome.Done) ⊎ (result ≡ CommandOutcome.NoMemory) }
 {
     read_through(alloc, limit, most, player, source, sink)
 }

@@ -1,4 +1,5 @@
-use Rattle.std.proofs.Common.{◌≡◌, ◌+◌, ◌∙◌, ap, arith, refl}
+use Rattle.std.proofs.Common.{◌≡◌, ◌+◌, ◌∙◌, ap, subst, arith, refl}
+use Rattle.gps_outside.specs.Counts.{Rose}
 use Rattle.gps_outside.proofs.ReadSteps.{quiet_at_last}
 use Rattle.class_counts.proofs.CountingSteps.{after_piece, after_quiet, begun, filled, stopped_in_last, stopped_in_piece}
 use Rattle.class_counts.proofs.reading.read_lines.Goals as goal
@@ -77,7 +78,7 @@ pub returns-in-Failed-clause-cause : goal.returns-in-Failed-clause-cause
 returns-in-Failed-clause-cause g c =
     let at = c.turns.invariant in
     let turn = c.in-Failed.ensures in (
-      rw (← at.under_way.taken.no_fault) (turn.failed refl),
+      subst (λ n. Rose n (g.S.Source.faults c.step.new.source)) at.under_way.taken.no_fault (turn.failed refl),
       (c.turns.intake.quiets, (at.few, turn.counts_quiet ∙ at.under_way.taken.quiet)),
     )
 

@@ -1,9 +1,10 @@
 use Rattle.std.proofs.Common.{◌≡◌, [], length, Some, rules}
-use Rattle.line_player.specs.Outcomes.{PlayHasCause}
+use Rattle.command_outcome.specs.Calls.{sink_call}
+use Rattle.command_outcome.specs.Outcomes.{HasCause}
 use Rattle.line_player.specs.Played.{HasPlayed}
 use Rattle.gps_replay.specs.Closings.{closing_rules}
 use Rattle.gps_replay.specs.Generated.{default_queue}
-use Rattle.gps_replay.proofs.Making.{caused, generated}
+use Rattle.gps_replay.proofs.Making.{caused, generated, silent}
 use Rattle.gps_replay.proofs.generating.play_made.Goals as goal
 
 pub returns-clause-cause : goal.returns-clause-cause
@@ -11,8 +12,9 @@ returns-clause-cause g c = λ seed size few of.
     let is : c.in-Ok.most ≡ length c.args.script = search rules in
     let played : HasPlayed c.play.result (closing_rules default_queue) c.in-Ok.most (Some (record { taken = []; left = c.args.script })) (Some c.play.new.source)
     (g.K.Sink.written c.args.sink.now) (g.K.Sink.written c.play.new.sink) = search rules in
-    let cause : PlayHasCause c.play.result 0 0 0 0 (g.K.Sink.faults c.args.sink.now) (g.K.Sink.faults c.play.new.sink) = search rules in
-    caused c.play.result c.args.script c.in-Ok.most _ _ _ _ _ is played cause seed size few of
+    let cause : HasCause c.play.result (silent (Some (record { taken = []; left = c.args.script })) (Some c.play.new.source))
+    (sink_call g.K.Sink c.args.sink.now c.play.new.sink) = search rules in
+    caused c.play.result c.args.script c.in-Ok.most _ (sink_call g.K.Sink c.args.sink.now c.play.new.sink) is played cause seed size few of
 
 pub returns-clause-generated : goal.returns-clause-generated
 returns-clause-generated g c = λ seed size of.

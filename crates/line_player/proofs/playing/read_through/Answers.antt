@@ -1,4 +1,5 @@
-use Rattle.std.proofs.Common.{◌≡◌, ◌+◌, refl, sym, ◌∙◌, ap, arith}
+use Rattle.std.proofs.Common.{◌≡◌, ◌+◌, refl, sym, ◌∙◌, ap, subst, arith}
+use Rattle.gps_outside.specs.Counts.{Rose}
 use Rattle.gps_outside.proofs.ReadSteps.{quiet_at_last}
 use Rattle.line_player.proofs.Causes.{broken}
 use Rattle.line_player.proofs.Reading.{after_piece, after_quiet, begun, broken_at_end, broken_in_last, broken_in_piece, by_rules, ended, filled, on_rules}
@@ -88,15 +89,15 @@ pub returns-in-Err-clause-cause : goal.returns-in-Err-clause-cause
 returns-in-Err-clause-cause g c =
     let before = c.turns.invariant in
     let turn = c.in-Piece.ensures in
-    broken _ _ _ _ _ _ _ _ _ c.outcome.ensures (turn.fails_only ∙ before.under_way.taken.no_fault)
-    (c.turns.intake.quiets, (before.few, turn.counts_quiet ∙ before.under_way.taken.quiet)) before.sunk c.in-Err.ensures.cause
+    broken _ _ _ _ _ c.outcome.ensures
+    (turn.fails_only ∙ before.under_way.taken.no_fault, (c.turns.intake.quiets, (before.few, turn.counts_quiet ∙ before.under_way.taken.quiet)))
+    before.sunk c.in-Err.ensures.cause
 
 pub returns-in-Ok-hand_on-clause-cause : goal.returns-in-Ok-hand_on-clause-cause
 returns-in-Ok-hand_on-clause-cause g c =
     let before = c.turns.invariant in
     let turn = c.in-Last.ensures in (
-      turn.fails_only ∙ before.under_way.taken.no_fault,
-      (c.turns.intake.quiets, (before.few, turn.counts_quiet ∙ before.under_way.taken.quiet)),
+      (turn.fails_only ∙ before.under_way.taken.no_fault, (c.turns.intake.quiets, (before.few, turn.counts_quiet ∙ before.under_way.taken.quiet))),
       c.in-Ok-hand_on.ensures.cause ∙ before.sunk,
     )
 
@@ -104,15 +105,15 @@ pub returns-in-Err-hand_on-clause-cause : goal.returns-in-Err-hand_on-clause-cau
 returns-in-Err-hand_on-clause-cause g c =
     let before = c.turns.invariant in
     let turn = c.in-Last.ensures in
-    broken _ _ _ _ _ _ _ _ _ c.outcome-in-Err-hand_on.ensures (turn.fails_only ∙ before.under_way.taken.no_fault)
-    (c.turns.intake.quiets, (before.few, turn.counts_quiet ∙ before.under_way.taken.quiet)) before.sunk c.in-Err-hand_on.ensures.cause
+    broken _ _ _ _ _ c.outcome-in-Err-hand_on.ensures
+    (turn.fails_only ∙ before.under_way.taken.no_fault, (c.turns.intake.quiets, (before.few, turn.counts_quiet ∙ before.under_way.taken.quiet)))
+    before.sunk c.in-Err-hand_on.ensures.cause
 
 pub returns-in-Ok-close-clause-cause : goal.returns-in-Ok-close-clause-cause
 returns-in-Ok-close-clause-cause g c =
     let before = c.turns.invariant in
     let turn = c.in-End.ensures in (
-      turn.fails_only ∙ before.under_way.taken.no_fault,
-      (c.turns.intake.quiets, (before.few, turn.counts_quiet ∙ before.under_way.taken.quiet)),
+      (turn.fails_only ∙ before.under_way.taken.no_fault, (c.turns.intake.quiets, (before.few, turn.counts_quiet ∙ before.under_way.taken.quiet))),
       c.in-Ok-close.ensures.cause ∙ before.sunk,
     )
 
@@ -120,15 +121,18 @@ pub returns-in-Err-close-clause-cause : goal.returns-in-Err-close-clause-cause
 returns-in-Err-close-clause-cause g c =
     let before = c.turns.invariant in
     let turn = c.in-End.ensures in
-    broken _ _ _ _ _ _ _ _ _ c.outcome-in-Err-close.ensures (turn.fails_only ∙ before.under_way.taken.no_fault)
-    (c.turns.intake.quiets, (before.few, turn.counts_quiet ∙ before.under_way.taken.quiet)) before.sunk c.in-Err-close.ensures.cause
+    broken _ _ _ _ _ c.outcome-in-Err-close.ensures
+    (turn.fails_only ∙ before.under_way.taken.no_fault, (c.turns.intake.quiets, (before.few, turn.counts_quiet ∙ before.under_way.taken.quiet)))
+    before.sunk c.in-Err-close.ensures.cause
 
 pub returns-in-Failed-clause-cause : goal.returns-in-Failed-clause-cause
 returns-in-Failed-clause-cause g c =
     let before = c.turns.invariant in
     let turn = c.in-Failed.ensures in (
-      rw (← before.under_way.taken.no_fault) (turn.failed refl),
-      (c.turns.intake.quiets, (before.few, turn.counts_quiet ∙ before.under_way.taken.quiet)),
+      (
+        subst (λ n. Rose n (g.S.Source.faults c.step.new.source)) before.under_way.taken.no_fault (turn.failed refl),
+        (c.turns.intake.quiets, (before.few, turn.counts_quiet ∙ before.under_way.taken.quiet)),
+      ),
       before.sunk,
     )
 
@@ -136,7 +140,9 @@ pub returns-in-TooQuiet-clause-cause : goal.returns-in-TooQuiet-clause-cause
 returns-in-TooQuiet-clause-cause g c =
     let before = c.turns.invariant in
     let turn = c.in-TooQuiet.ensures in (
-      turn.fails_only ∙ before.under_way.taken.no_fault,
-      quiet_at_last _ before.under_way.bytes c.turns.intake c.step.new.self _ _ _ _ _ _ _ before.under_way.taken turn.budget turn.counts_quiet,
+      (
+        turn.fails_only ∙ before.under_way.taken.no_fault,
+        quiet_at_last _ before.under_way.bytes c.turns.intake c.step.new.self _ _ _ _ _ _ _ before.under_way.taken turn.budget turn.counts_quiet,
+      ),
       before.sunk,
     )

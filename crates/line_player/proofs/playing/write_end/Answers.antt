@@ -1,7 +1,7 @@
 use Rattle.std.proofs.Common.{◌≡◌, ◌++◌, ◌∙◌, Ok, Err, Result, refl, subst}
 use Rattle.line_player.specs.declared.plays_lines.EndStep.{EndStep}
 use Rattle.line_player.specs.declared.plays_lines.EndStep.TheVariants.{More}
-use Rattle.line_player.specs.declared.outcome.Fault.{Fault}
+use Rattle.line_player.specs.declared.fault.Fault.{Fault}
 use Rattle.line_player.specs.LineSteps.{WritesPart}
 use Rattle.line_player.proofs.Ending.{none_written, writes_more}
 use Rattle.line_player.proofs.playing.write_end.Goals as goal

@@ -1,0 +1,27 @@
+ghost use Rattle.std.specs.Prelude.{◌≡◌};
+ghost use Rattle.line_player.specs.Outcomes.{outcome_of};
+
+use command_outcome::CommandOutcome;
+
+/// Why a play goes no further.
+#[derive(Clone, Copy, Debug, PartialEq, Eq)]
+pub(crate) enum Fault {
+    /// A line was refused.
+    BadLine,
+    /// The sink failed.
+    Sink,
+    NoMemory,
+}
+
+impl Fault {
+    /// How a play ends by it.
+    pub(crate) fn outcome(self) -> CommandOutcome
+        ensures { result ≡ outcome_of self }
+    {
+        match self {
+            Fault::BadLine => CommandOutcome::BadLine,
+            Fault::Sink => CommandOutcome::WriteFault,
+            Fault::NoMemory => CommandOutcome::NoMemory,
+        }
+    }
+}

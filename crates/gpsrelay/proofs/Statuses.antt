@@ -1,84 +1,102 @@
--- What the status of a command says of its outcome.
-use Rattle.std.proofs.Common.{◌≡◌, ℕ, ◌+◌, ◌<◌, List, ◌++◌, length, Option, Some, None, ◌⊎◌, inl, inr, refl, ◌∙◌, ap, length-append, arith}
-use Rattle.gpsrelay.specs.Calls.{ClockCall, CountsSatisfy, SinkCall, SourceCall, WriteFailed}
-use Rattle.gps_outside.specs.Told.{Stream, Goes}
-use Rattle.gps_outside.specs.ReadSteps.{PassesMore}
-use Rattle.gpsrelay.specs.declared.outcome.CommandOutcome.{CommandOutcome}
-use Rattle.gpsrelay.specs.declared.outcome.CommandOutcome.TheVariants.{Done, ReadFault, TooQuiet, WriteFault, Full, NoMemory}
-use Rattle.gpsrelay.specs.Commands.{NothingFails}
-use Rattle.gpsrelay.specs.Outcomes.{status_of, CommandHasCause, HasReadCause, StatusHasCause}
-use Rattle.gpsrelay.specs.Decode.{Decoded, IsWithin}
-use Rattle.gpsrelay.specs.Readings.{bytes_of}
-use Rattle.gpsrelay.specs.Texts.{Texts}
-use Rattle.gpsrelay.proofs.Causes.{quiet_long}
+-- How a command ends if nothing outside fails.
+use Rattle.std.proofs.Common.{◌≡◌, ◌≢◌, ℕ, ◌⊎◌, inl, inr, refl, sym, ap}
+use Rattle.command_outcome.specs.Calls.{ClockCall, ContentsSatisfy, SinkCall, SourceCall}
+use Rattle.command_outcome.specs.declared.outcome.CommandOutcome.{CommandOutcome}
+use Rattle.command_outcome.specs.declared.outcome.CommandOutcome.TheVariants.{Done, ReadFault, TooQuiet, WriteFault, Full, BadLine, NoMemory}
+use Rattle.command_outcome.specs.Ends.{IsWithin}
+use Rattle.command_outcome.specs.Outcomes.{status_of, HasCause, HasLateCause, NothingFails}
+use Rattle.command_outcome.proofs.Limits.{no_more}
+use Rattle.command_outcome.proofs.Statuses.{has_cause, has_late_cause, neither, none_read, others}
+use Rattle.class_counts.specs.Counted.{Counted, IsWithin as AreLinesWithin}
+use Rattle.class_counts.proofs.Within.{within}
+use Rattle.gps_decode.specs.Decode.{AreReads, Decoded}
+use Rattle.gps_decode.specs.Readings.{bytes_of}
+use Rattle.gps_decode.specs.Texts.{Texts}
+use Rattle.gps_replay.specs.Generated.{GeneratedCause}
 
-pub read_cause : (outcome : CommandOutcome) (source : SourceCall) (sink : SinkCall)
-    → CountsSatisfy (CommandHasCause outcome) source sink → status_of outcome ≡ 3 → HasReadCause source
-read_cause Done source sink cause e = absurd (omega (arith, e))
-read_cause ReadFault source sink cause e = inl cause.0
-read_cause TooQuiet source sink cause e = inr (quiet_long source.before.quiets source.after.quiets cause.1)
-read_cause WriteFault source sink cause e = absurd (omega (arith, e))
-read_cause Full source sink cause e = absurd (omega (arith, e))
-read_cause NoMemory source sink cause e = absurd (omega (arith, e))
+-- a command that ends so and does not break off is done, or out of memory
+pub is_done : (outcome : CommandOutcome) → (outcome ≡ Done) ⊎ (outcome ≡ NoMemory) → (status_of outcome ≡ 0) ⊎ (status_of outcome ≡ 7)
+is_done outcome (inl done) = inl (ap status_of done)
+is_done outcome (inr short) = inr (ap status_of short)
 
-pub write_cause : (outcome : CommandOutcome) (source : SourceCall) (sink : SinkCall)
-    → CountsSatisfy (CommandHasCause outcome) source sink → status_of outcome ≡ 4 → WriteFailed sink
-write_cause Done source sink cause e = absurd (omega (arith, e))
-write_cause ReadFault source sink cause e = absurd (omega (arith, e))
-write_cause TooQuiet source sink cause e = absurd (omega (arith, e))
-write_cause WriteFault source sink cause e = cause.1
-write_cause Full source sink cause e = absurd (omega (arith, e))
-write_cause NoMemory source sink cause e = absurd (omega (arith, e))
+module _ (source : SourceCall) (sink : SinkCall) where
+  -- any command that ends at its first fault
+  pub ends_by_itself : (outcome : CommandOutcome) → HasCause outcome source sink → NothingFails source sink
+      → (status_of outcome ≡ 0) ⊎ ((status_of outcome ≡ 5) ⊎ ((status_of outcome ≡ 6) ⊎ (status_of outcome ≡ 7)))
+  ends_by_itself outcome cause sound = others outcome (neither source sink (status_of outcome) (has_cause source sink outcome cause) sound)
 
-pub has_cause : (outcome : CommandOutcome) (source : SourceCall) (sink : SinkCall)
-    → CountsSatisfy (CommandHasCause outcome) source sink → StatusHasCause (status_of outcome) source sink
-has_cause Done source sink cause = inr (inr (λ e. omega (arith, e), λ e. omega (arith, e), cause))
-has_cause ReadFault source sink cause = inl (refl, (inl (cause.0, cause.1), cause.2))
-has_cause TooQuiet source sink cause = inl (refl, (inr (cause.0, cause.1), cause.2))
-has_cause WriteFault source sink cause = inr (inl (refl, cause))
-has_cause Full source sink cause = inr (inr (λ e. omega (arith, e), λ e. omega (arith, e), cause))
-has_cause NoMemory source sink cause = inr (inr (λ e. omega (arith, e), λ e. omega (arith, e), cause))
+  -- `decode` and `pseudo`, which refuse no line
 
-pub not_refused : (outcome : CommandOutcome) → status_of outcome ≡ 2 → ⊥
-not_refused Done e = omega (arith, e)
-not_refused ReadFault e = omega (arith, e)
-not_refused TooQuiet e = omega (arith, e)
-not_refused WriteFault e = omega (arith, e)
-not_refused Full e = omega (arith, e)
-not_refused NoMemory e = omega (arith, e)
+  pub decode_ends : (says : Texts) (outcome : CommandOutcome) (history : ℕ) (clock : ClockCall)
+      → Decoded says outcome history source.before.content source.after.content clock.before clock.after sink.before.written sink.after.written
+      → HasLateCause outcome source sink → NothingFails source sink
+      → (status_of outcome ≡ 0) ⊎ ((status_of outcome ≡ 5) ⊎ (status_of outcome ≡ 7))
+  decode_ends says outcome history clock done cause sound =
+      go outcome done.reads (neither source sink (status_of outcome) (has_late_cause source sink outcome cause) sound)
+    where
+      go : (o : CommandOutcome) → AreReads o done.readings → (status_of o ≢ 3) × (status_of o ≢ 4)
+          → (status_of o ≡ 0) ⊎ ((status_of o ≡ 5) ⊎ (status_of o ≡ 7))
+      go Done reads sound = inl refl
+      go ReadFault reads sound = absurd (sound.0 refl)
+      go TooQuiet reads sound = absurd (sound.0 refl)
+      go WriteFault reads sound = absurd (sound.1 refl)
+      go Full reads sound = inr (inl refl)
+      go BadLine reads sound = absurd reads
+      go NoMemory reads sound = inr (inr refl)
 
--- a source that is within the history does not fill it
-no_more : (history : ℕ) (bytes : List ℕ) (source source' : Option Stream)
-    → IsWithin history source → length bytes ≡ history → Goes (PassesMore bytes) source source' → ⊥
-no_more history bytes None source' within full passed = within
-no_more history bytes (Some stream) None within full passed = passed
-no_more history bytes (Some stream) (Some after) within full passed =
-    let left : length stream.left ≡ length (bytes ++ passed.0) + length after.left =
-    ap length passed.1.1.next ∙ length-append (bytes ++ passed.0) after.left in
-    let both : length (bytes ++ passed.0) ≡ length bytes + length passed.0 = length-append bytes passed.0 in
-    let some : 0 < length passed.0 = passed.1.0 in
-    omega (arith, within, full)
+  -- a source that is within the history does not fill it
+  not_full : (says : Texts) (history : ℕ) (clock : ClockCall)
+      → Decoded says Full history source.before.content source.after.content clock.before clock.after sink.before.written sink.after.written
+      → IsWithin history source.before.content → ⊥
+  not_full says history clock done within =
+      no_more history (bytes_of done.readings) source.before.content source.after.content within done.ends.0 done.ends.1
 
--- if nothing outside failed
-pub ends_by_itself : (outcome : CommandOutcome) (source : SourceCall) (sink : SinkCall)
-    → CountsSatisfy (CommandHasCause outcome) source sink
-    → NothingFails source sink
-    → (status_of outcome ≡ 0) ⊎ ((status_of outcome ≡ 5) ⊎ (status_of outcome ≡ 7))
-ends_by_itself Done source sink cause sound = inl refl
-ends_by_itself ReadFault source sink cause sound = absurd (sound.0 cause.0)
-ends_by_itself TooQuiet source sink cause sound = absurd (sound.1 (quiet_long source.before.quiets source.after.quiets cause.1))
-ends_by_itself WriteFault source sink cause sound = absurd (sound.2 cause.1)
-ends_by_itself Full source sink cause sound = inr (inl refl)
-ends_by_itself NoMemory source sink cause sound = inr (inr refl)
+  pub decode_completes : (says : Texts) (outcome : CommandOutcome) (history : ℕ) (clock : ClockCall)
+      → Decoded says outcome history source.before.content source.after.content clock.before clock.after sink.before.written sink.after.written
+      → HasLateCause outcome source sink → IsWithin history source.before.content → NothingFails source sink
+      → (status_of outcome ≡ 0) ⊎ (status_of outcome ≡ 7)
+  decode_completes says Done history clock done cause within sound = inl refl
+  decode_completes says ReadFault history clock done cause within sound =
+      absurd ((neither source sink 3 (has_late_cause source sink ReadFault cause) sound).0 refl)
+  decode_completes says TooQuiet history clock done cause within sound =
+      absurd ((neither source sink 3 (has_late_cause source sink TooQuiet cause) sound).0 refl)
+  decode_completes says WriteFault history clock done cause within sound =
+      absurd ((neither source sink 4 (has_late_cause source sink WriteFault cause) sound).1 refl)
+  decode_completes says Full history clock done cause within sound = absurd (not_full says history clock done within)
+  decode_completes says BadLine history clock done cause within sound = absurd done.reads
+  decode_completes says NoMemory history clock done cause within sound = inr refl
 
-pub completes : (says : Texts) (outcome : CommandOutcome) (history : ℕ) (source : SourceCall) (sink : SinkCall) (clock : ClockCall)
-    → Decoded says outcome history source.before.content source.after.content clock.before clock.after sink.before.written sink.after.written → CountsSatisfy (CommandHasCause outcome) source sink
-    → IsWithin history source.before.content → NothingFails source sink
-    → (status_of outcome ≡ 0) ⊎ (status_of outcome ≡ 7)
-completes says Done history source sink clock done cause within sound = inl refl
-completes says ReadFault history source sink clock done cause within sound = absurd (sound.0 cause.0)
-completes says TooQuiet history source sink clock done cause within sound = absurd (sound.1 (quiet_long source.before.quiets source.after.quiets cause.1))
-completes says WriteFault history source sink clock done cause within sound = absurd (sound.2 cause.1)
-completes says Full history source sink clock done cause within sound =
-    absurd (no_more history (bytes_of done.readings) source.before.content source.after.content within done.ends.0 done.ends.1)
-completes says NoMemory history source sink clock done cause within sound = inr refl
+  -- `lines`
+  pub lines_complete : (outcome : CommandOutcome) → ContentsSatisfy (Counted outcome) source sink → HasCause outcome source sink
+      → AreLinesWithin source.before.content → NothingFails source sink → (status_of outcome ≡ 0) ⊎ (status_of outcome ≡ 7)
+  lines_complete outcome done cause inside sound =
+      go outcome (within outcome source.before.content source.after.content sink.before.written sink.after.written done inside)
+      (neither source sink (status_of outcome) (has_cause source sink outcome cause) sound)
+    where
+      go : (o : CommandOutcome) → (o ≢ Full) × (o ≢ BadLine) → (status_of o ≢ 3) × (status_of o ≢ 4) → (status_of o ≡ 0) ⊎ (status_of o ≡ 7)
+      go Done inside sound = inl refl
+      go ReadFault inside sound = absurd (sound.0 refl)
+      go TooQuiet inside sound = absurd (sound.0 refl)
+      go WriteFault inside sound = absurd (sound.1 refl)
+      go Full inside sound = absurd (inside.0 refl)
+      go BadLine inside sound = absurd (inside.1 refl)
+      go NoMemory inside sound = inr refl
+
+  -- `generate`, which reads no source
+  pub made_has_cause : (outcome : CommandOutcome) → source.before ≡ source.after → GeneratedCause outcome sink → HasCause outcome source sink
+  made_has_cause Done same wrote = (none_read source (sym same), wrote)
+  made_has_cause ReadFault same wrote = absurd wrote
+  made_has_cause TooQuiet same wrote = absurd wrote
+  made_has_cause WriteFault same wrote = (none_read source (sym same), wrote)
+  made_has_cause Full same wrote = absurd wrote
+  made_has_cause BadLine same wrote = absurd wrote
+  made_has_cause NoMemory same wrote = (none_read source (sym same), wrote)
+
+  pub made_ends : (outcome : CommandOutcome) → GeneratedCause outcome sink → NothingFails source sink → (status_of outcome ≡ 0) ⊎ (status_of outcome ≡ 7)
+  made_ends Done cause sound = inl refl
+  made_ends ReadFault cause sound = absurd cause
+  made_ends TooQuiet cause sound = absurd cause
+  made_ends WriteFault cause sound = absurd (sound.2 cause)
+  made_ends Full cause sound = absurd cause
+  made_ends BadLine cause sound = absurd cause
+  made_ends NoMemory cause sound = inr refl

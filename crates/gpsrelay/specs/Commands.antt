@@ -1,43 +1,40 @@
 -- What each command does, by what it did outside: how it ends, its status, what must have happened there, and what was read and written.
 use Rattle.std.specs.Prelude.{◌≡◌, ℕ, ◌⊎◌, Option}
-use Rattle.gpsrelay.specs.Calls.{ClockCall, ContentsSatisfy, CountsSatisfy, ReadFailed, SinkCall, SourceCall, WasQuiet, WriteFailed}
 use Rattle.gps_outside.specs.Told.{Stream}
+use Rattle.command_outcome.specs.Calls.{ClockCall, ContentsSatisfy, SinkCall, SourceCall}
+use Rattle.command_outcome.specs.declared.outcome.CommandOutcome.{CommandOutcome}
+use Rattle.command_outcome.specs.Ends.{IsWithin}
+use Rattle.command_outcome.specs.Outcomes.{status_of, HasCause, HasLateCause}
 use Rattle.gps_words.specs.declared.command.CommandLine.{CommandLine}
 use Rattle.gps_words.specs.declared.command.CommandLine.TheVariants.{Decode, Pseudo, Replay, Generate, Lines}
-use Rattle.class_counts.specs.declared.outcome.CountOutcome.{CountOutcome}
-use Rattle.class_counts.specs.Outcomes.{status_of as lines_status, CountHasCause}
 use Rattle.class_counts.specs.Counted.{Counted, IsWithin as AreLinesWithin}
-use Rattle.line_player.specs.declared.outcome.PlayOutcome.{PlayOutcome}
-use Rattle.line_player.specs.Outcomes.{status_of as play_status, PlayHasCause}
 use Rattle.gps_replay.specs.Replayed.{IsScript, Replayed}
 use Rattle.gps_replay.specs.Generated.{Generated, GeneratedCause}
-use Rattle.gpsrelay.specs.declared.outcome.CommandOutcome.{CommandOutcome}
-use Rattle.gpsrelay.specs.Outcomes.{status_of, CommandHasCause}
-use Rattle.gpsrelay.specs.Decode.{Decoded, IsWithin}
-use Rattle.gpsrelay.specs.Texts.{Texts, line_of, sentences_of}
+use Rattle.gps_decode.specs.Decode.{Decoded}
+use Rattle.gps_decode.specs.Texts.{Texts, line_of, sentences_of}
 
 -- `decode` and `pseudo`
 abbrev pub DoesDecode : Texts → ℕ → ℕ → SourceCall → SinkCall → ClockCall → Type 0
 DoesDecode says history status source sink clock =
-    (outcome : CommandOutcome) × (status ≡ status_of outcome) × CountsSatisfy (CommandHasCause outcome) source sink
+    (outcome : CommandOutcome) × (status ≡ status_of outcome) × HasLateCause outcome source sink
     × ContentsSatisfy (λ left left' written written'. Decoded says outcome history left left' clock.before clock.after written written') source sink
 
 -- `lines`, which asks no clock
 abbrev pub DoesLines : ℕ → SourceCall → SinkCall → ClockCall → Type 0
 DoesLines status source sink clock =
-    (outcome : CountOutcome) × (status ≡ lines_status outcome) × CountsSatisfy (CountHasCause outcome) source sink
+    (outcome : CommandOutcome) × (status ≡ status_of outcome) × HasCause outcome source sink
     × ContentsSatisfy (Counted outcome) source sink × (clock.before ≡ clock.after)
 
 -- `replay`, which asks no clock
 abbrev pub DoesReplay : ℕ → ℕ → SourceCall → SinkCall → ClockCall → Type 0
 DoesReplay queue status source sink clock =
-    (outcome : PlayOutcome) × (status ≡ play_status outcome) × CountsSatisfy (PlayHasCause outcome) source sink
+    (outcome : CommandOutcome) × (status ≡ status_of outcome) × HasCause outcome source sink
     × ContentsSatisfy (Replayed outcome queue) source sink × (clock.before ≡ clock.after)
 
 -- `generate`, which reads no source and asks no clock
 abbrev pub DoesGenerate : ℕ → ℕ → ℕ → SourceCall → SinkCall → ClockCall → Type 0
 DoesGenerate seed size status source sink clock =
-    (outcome : PlayOutcome) × (status ≡ play_status outcome) × GeneratedCause outcome sink.before.faults sink.after.faults
+    (outcome : CommandOutcome) × (status ≡ status_of outcome) × GeneratedCause outcome sink
     × Generated outcome seed size sink.before.written sink.after.written
     × (source.before ≡ source.after) × (clock.before ≡ clock.after)
 
@@ -47,10 +44,6 @@ Does (Pseudo history) status source sink clock = DoesDecode sentences_of history
 Does (Replay history queue) status source sink clock = DoesReplay queue status source sink clock
 Does (Generate seed size) status source sink clock = DoesGenerate seed size status source sink clock
 Does Lines status source sink clock = DoesLines status source sink clock
-
--- no read and no write failed, and fewer than a thousand reads brought nothing
-abbrev pub NothingFails : SourceCall → SinkCall → Type 0
-NothingFails source sink = (ReadFailed source → ⊥) × (WasQuiet 1000 source → ⊥) × (WriteFailed sink → ⊥)
 
 -- the statuses of a command if nothing fails
 abbrev pub EndsAt : CommandLine → ℕ → Type 0

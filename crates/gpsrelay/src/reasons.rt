@@ -1,10 +1,10 @@
 //! The answers to `help` and `--version`, and what is said on standard error if a command ends with another status than 0. What is said there
 //! changes no status: a standard error that is closed or full is passed over.
 
-use crate::outcome::CommandOutcome;
 use crate::same_place::same_place;
 use crate::streams::{CountedInput, CountedOutput};
 use crate::system::is_pipe;
+use command_outcome::CommandOutcome;
 use gps_help::{COMMANDS, EXAMPLES, OTHERS, Question, Refusal, SERVE, USAGE, refused};
 use gps_outside::{Sink, Source, write_all};
 use gps_words::{CommandLine, ServeOptions};

@@ -2,13 +2,13 @@ ghost use Rattle.std.specs.Prelude.{◌≡◌, ◌≤◌, ◌⊎◌, Some, None,
 ghost use Rattle.gps_words.specs.Asked.{asked_of};
 ghost use Rattle.gps_words.specs.Within.{IsInRange};
 ghost use Rattle.gps_words.specs.declared.command.CommandLine.{CommandLine};
-ghost use Rattle.gpsrelay.specs.Calls.{WriteFailed, clock_call, sink_call, source_call};
-ghost use Rattle.gpsrelay.specs.Commands.{Does, EndsAt, IsWithinLimits, NothingFails};
-ghost use Rattle.gpsrelay.specs.Outcomes.{HasReadCause, StatusHasCause};
+ghost use Rattle.command_outcome.specs.Calls.{WriteFailed, clock_call, sink_call, source_call};
+ghost use Rattle.command_outcome.specs.Outcomes.{HasReadCause, NothingFails, StatusHasCause};
+ghost use Rattle.gpsrelay.specs.Commands.{Does, EndsAt, IsWithinLimits};
 
-use crate::decode::{decode, pseudo};
-use crate::outcome::CommandOutcome;
 use class_counts::count_lines;
+use command_outcome::CommandOutcome;
+use gps_decode::{decode, pseudo};
 use gps_outside::{Clock, Sink, Source};
 use gps_replay::{generate, replay};
 use gps_words::{CommandLine, WordsFault, asked};

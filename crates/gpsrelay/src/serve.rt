@@ -15,8 +15,8 @@ ghost use Rattle.gps_serve.specs.Statuses.{AllEnded, TellsNoFault, WasLostByFaul
 ghost use Rattle.gps_serve.specs.Whole.{IsWhole};
 ghost use Rattle.gpsrelay.specs.Served.{AsksFor, AsksWhole, HaveEdges, HeldBehind, edge_place_of, place_of, places_of, told_by};
 
-use crate::outcome::CommandOutcome;
 use crate::run::REFUSED;
+use command_outcome::CommandOutcome;
 use gps_fixed::{Bytes, NoMemory};
 use gps_serve::{Plan, Served, serve};
 use gps_words::{Input, ServeNumbers, ServeOptions, WordsFault, serve_asked};

@@ -1,8 +1,8 @@
 use Rattle.std.proofs.Common.{◌≡◌, ◌<◌, ◌≤◌}
 use Rattle.gps_outside.specs.ReadSteps.{work_left}
-use Rattle.gpsrelay.specs.Texts.{texts_by}
-use Rattle.gpsrelay.proofs.Decoding.{UnderWay}
-use Rattle.gpsrelay.proofs.decode.write_reports.Given as goal
+use Rattle.gps_decode.specs.Texts.{texts_by}
+use Rattle.gps_decode.proofs.UnderWay.{UnderWay}
+use Rattle.gps_decode.proofs.decoding.write_reports.Given as goal
 
 abbrev pub invariant-turns : goal.invariant-turns
 invariant-turns g l = record {

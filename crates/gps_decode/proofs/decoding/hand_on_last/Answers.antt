@@ -1,5 +1,5 @@
-use Rattle.gpsrelay.proofs.Decoding.{flushed, flushed_part}
-use Rattle.gpsrelay.proofs.decode.hand_on_last.Goals as goal
+use Rattle.gps_decode.proofs.HandingOn.{flushed, flushed_part}
+use Rattle.gps_decode.proofs.decoding.hand_on_last.Goals as goal
 
 pub returns-then-flush-clause-lines : goal.returns-then-flush-clause-lines
 returns-then-flush-clause-lines g c stream stands = flushed _ stream _ _ _ _ _ _ _ (c.in-Ok.ensures.lines stream stands) c.if-flush.ensures.bytes

@@ -1,172 +1,48 @@
--- The reading of `decode`, step by step, and how it ends.
-use Rattle.std.proofs.Common.{◌≡◌, ℕ, ◌≤◌, ◌⊎◌, inl, inr, false, true, List, [], ◌∷◌, ◌++◌, length, take, Option, Some, None, Result, Ok, Err, refl, sym, ◌∙◌, ap, subst, arith}
-use Rattle.std.proofs.lemmas.Bool.{false≢true}
-use Rattle.std.proofs.lemmas.List.{append-nil, map-append}
-use Rattle.std.proofs.lemmas.List.Concat.{flat_map-append}
-use Rattle.std.proofs.lemmas.Grind.{common_steps}
+-- How `decode` ends, at each way out of its loop.
+use Rattle.std.proofs.Common.{◌≡◌, ℕ, ◌≤◌, ◌⊎◌, inl, inr, List, [], ◌++◌, length, take, Option, Ok, Err, refl, sym, subst, arith}
+use Rattle.std.proofs.lemmas.List.{append-nil}
 use Rattle.gps_fixed.specs.Moment.{Moment}
 use Rattle.gps_report.specs.declared.edge.Symbol.{Symbol}
-use Rattle.gps_report.specs.declared.report.Body.{Body}
 use Rattle.gps_outside.specs.Told.{Stream, Goes, Stays, Passes, Appends, AppendsPart}
 use Rattle.gps_outside.specs.Waiting.{Waits}
 use Rattle.gps_outside.specs.Ticks.{Dial, Gives, GivesAll}
-use Rattle.gps_outside.specs.Counts.{one_more}
 use Rattle.gps_outside.specs.ReadSteps.{Budget, FitsRoom, Spends, Hands, HasTaken, TakesAll, TakesSome, PassesMore}
-use Rattle.gps_outside.specs.declared.intake.IntakeStep.TheVariants.{Piece, Quiet, Last, End, Failed, TooQuiet}
-use Rattle.gps_outside.proofs.Going.{goes_on}
-use Rattle.gps_outside.proofs.Dials.{gives_more}
-use Rattle.gps_outside.proofs.Writing.{begun as nothing_waits, part_of, part_longer, waits_more, waits_on, waits_part, waits_all, waits_none, none_waits, appends_none}
-use Rattle.gps_outside.proofs.ReadSteps.{taken_none, taken_piece, taken_quiet, ends_at_end, ends_full, ends_failed, ends_too_quiet}
+use Rattle.gps_outside.specs.declared.intake.IntakeStep.TheVariants.{Piece, Last, End, Failed, TooQuiet}
+use Rattle.gps_outside.proofs.Writing.{part_of, waits_more, waits_on, waits_part, waits_all, none_waits, appends_none}
+use Rattle.gps_outside.proofs.ReadSteps.{taken_piece, ends_at_end, ends_full, ends_failed, ends_too_quiet}
 use Rattle.device_core.specs.Stream.{piece}
-use Rattle.device_core.specs.Reports.{reports_from, device_reports, device_close, Gains}
+use Rattle.device_core.specs.Reports.{reports_from, device_close}
 use Rattle.device_core.specs.Standing.{DeviceKept, StandsFor}
 use Rattle.device_core.proofs.Streams.{reports-append}
-use Rattle.gpsrelay.specs.declared.outcome.CommandOutcome.{CommandOutcome}
-use Rattle.gpsrelay.specs.declared.outcome.CommandOutcome.TheVariants.{Done, ReadFault, TooQuiet as QuietOutcome, WriteFault, Full, NoMemory}
-use Rattle.gpsrelay.specs.declared.outcome.Fault.{Fault}
-use Rattle.gpsrelay.specs.declared.outcome.Fault.TheVariants.{Sink, NoMemory as NoMemoryFault}
-use Rattle.gpsrelay.specs.Outcomes.{outcome_of}
-use Rattle.gpsrelay.specs.Readings.{ArePieces, IsPiece, PassHistory, Reading, bytes_of, stamps_of, stream_of}
-use Rattle.gpsrelay.specs.Texts.{Texts, texts_of, texts_so_far}
-use Rattle.gpsrelay.specs.Decode.{BrokeOff, Decoded, GaveUp, HandsOn, HasReadSoFar, Written}
+use Rattle.command_outcome.specs.declared.outcome.CommandOutcome.{CommandOutcome}
+use Rattle.command_outcome.specs.declared.outcome.CommandOutcome.TheVariants.{Done, ReadFault, TooQuiet as QuietOutcome, WriteFault, Full, NoMemory}
+use Rattle.gps_decode.specs.declared.fault.Fault.{Fault}
+use Rattle.gps_decode.specs.declared.fault.Fault.TheVariants.{Sink, NoMemory as NoMemoryFault}
+use Rattle.gps_decode.specs.Outcomes.{outcome_of}
+use Rattle.gps_decode.specs.Readings.{ArePieces, PassHistory, Reading, bytes_of, stamps_of, stream_of}
+use Rattle.gps_decode.specs.Texts.{Texts, texts_of, texts_so_far, texts_to_end}
+use Rattle.command_outcome.specs.Ends.{BreaksOff, HasReadSoFar}
+use Rattle.gps_decode.specs.Decode.{Decoded, HandsOn, Written}
+use Rattle.command_outcome.proofs.Limits.{passes_none}
+use Rattle.gps_decode.proofs.UnderWay.{UnderWay, with_next, bytes_next, stream_next, pieces_next, is_piece, passes_history, no_stamps, stamps_on, texts_next, no_texts}
 
--- one reading more
-abbrev pub with_next : List Reading → Moment → List ℕ → List Reading
-with_next readings at bytes = readings ++ record { at = at; bytes = bytes } ∷ []
-
-bytes_next : (readings : List Reading) (at : Moment) (bytes : List ℕ) → bytes_of (with_next readings at bytes) ≡ bytes_of readings ++ bytes
-bytes_next readings at bytes =
-    flat_map-append (λ reading. reading.bytes) readings (record { at = at; bytes = bytes } ∷ []) ∙ ap (λ l. bytes_of readings ++ l) (append-nil bytes)
-
-stamps_next : (readings : List Reading) (at : Moment) (bytes : List ℕ) → stamps_of (with_next readings at bytes) ≡ stamps_of readings ++ at ∷ []
-stamps_next readings at bytes = map-append (λ reading. reading.at) readings (record { at = at; bytes = bytes } ∷ [])
-
-stream_next : (readings : List Reading) (at : Moment) (bytes : List ℕ) → stream_of (with_next readings at bytes) ≡ stream_of readings ++ piece at bytes
-stream_next readings at bytes =
-    flat_map-append (λ reading. piece reading.at reading.bytes) readings (record { at = at; bytes = bytes } ∷ [])
-    ∙ ap (λ l. stream_of readings ++ l) (append-nil (piece at bytes))
-
-pieces_next : (readings : List Reading) (reading : Reading) → ArePieces readings → IsPiece reading → ArePieces (readings ++ reading ∷ [])
-pieces_next [] reading all last = (last, tt)
-pieces_next (first ∷ readings) reading all last = (all.0, pieces_next readings reading all.1 last)
-
--- the bytes of one read into a buffer of 512
-is_piece : (n : ℕ) (buf : List ℕ) (at : Moment) → FitsRoom (Piece n) (length buf) → length buf ≡ 512 → IsPiece (record { at = at; bytes = take n buf })
-is_piece n buf at fits long = grind (arith, common_steps)
-
--- and those of them that lie within the history
-passes_history : (n : ℕ) (readings : List Reading) (at : Moment) (buf : List ℕ) → ArePieces readings
-    → FitsRoom (Last n) (length buf) → length buf ≡ 512 → PassHistory (with_next readings at (take n buf))
-passes_history n readings at buf pieces fits long = record {
-  front = readings;
-  last = record { at = at; bytes = take n buf };
-  all = refl;
-  pieces = pieces;
-  part = grind (arith, common_steps);
-}
-
-no_stamps : (clock : Option Dial) → Goes (GivesAll []) clock clock
-no_stamps None = tt
-no_stamps (Some dial) = refl
-
--- the stamps of one reading more
-stamps_on : (readings : List Reading) (at : Moment) (bytes : List ℕ) (clock clock' clock'' : Option Dial)
-    → Goes (GivesAll (stamps_of readings)) clock clock' → Goes (Gives at) clock' clock''
-    → Goes (GivesAll (stamps_of (with_next readings at bytes))) clock clock''
-stamps_on readings at bytes clock clock' clock'' all given =
-    subst (λ s. Goes (GivesAll s) clock clock'') (sym (stamps_next readings at bytes))
-    (goes_on (GivesAll (stamps_of readings)) (Gives at) (GivesAll (stamps_of readings ++ at ∷ [])) clock clock' clock''
-    (gives_more (stamps_of readings) at) all given)
-
-pub passes_none : (source : Option Stream) → Goes (Passes []) source source
-passes_none None = tt
-passes_none (Some stream) = record { next = refl; joins = sym (append-nil stream.taken) }
-
--- a write of what waits that failed had something to write
-pub had_some : {A B C : Type 0} → A ⊎ B → (A → false ≡ true) → (B → C) → C
-had_some (inl a) none kept = absurd (false≢true (none a))
-had_some (inr b) none kept = kept b
-
--- over what is written of a report
 module _ (says : Texts) where
-  texts_join : (a b : List Body) → texts_of says (a ++ b) ≡ texts_of says a ++ texts_of says b
-  texts_join a b = flat_map-append says a b
-
-  texts_next : (stream more : List Symbol) (out : List Body) → Gains stream more out → texts_so_far says (stream ++ more) ≡ texts_so_far says stream ++ texts_of says out
-  texts_next stream more out gains = ap (texts_of says) gains ∙ texts_join (device_reports stream) out
-
-  -- So far these readings were handed on, the device stands for their stream, and its lines were written but for those that wait.
-  pub record UnderWay (history : ℕ) (budget : Budget) (kept : DeviceKept) (source source' : Option Stream) (faults faults' quiets quiets' : ℕ) (clock clock' : Option Dial) (waits : List ℕ) (sink sink' : Option (List ℕ)) : Type 0 where
-    pub readings : List Reading
-    pub pieces : ArePieces readings
-    pub taken : HasTaken history (bytes_of readings) budget source source' faults faults' quiets quiets'
-    pub stamps : Goes (GivesAll (stamps_of readings)) clock clock'
-    pub stands : StandsFor kept (stream_of readings)
-    pub wrote : Waits (texts_so_far says (stream_of readings)) waits sink sink'
-
-  no_texts : texts_so_far says [] ≡ []
-  unfolding reports_from
-  no_texts = refl
-
-  pub begun : (history : ℕ) (budget : Budget) (kept : DeviceKept) (source : Option Stream) (faults quiets : ℕ) (clock : Option Dial) (waits : List ℕ) (sink : Option (List ℕ))
-      → budget ≡ record { room = history; quiets = 0 } → StandsFor kept [] → waits ≡ []
-      → UnderWay history budget kept source source faults faults quiets quiets clock clock waits sink sink
-  begun history budget kept source faults quiets clock waits sink new stands none = record {
-    readings = [];
-    pieces = tt;
-    taken = taken_none history budget source faults quiets new;
-    stamps = no_stamps clock;
-    stands = stands;
-    wrote = subst (λ w. Waits (texts_so_far says []) w sink sink) (sym none) (subst (λ l. Waits l [] sink sink) (sym no_texts) (nothing_waits [] sink));
-  }
-
-  pub after_piece : (n history : ℕ) (buf : List ℕ) (budget budget' : Budget) (kept kept' : DeviceKept) (at : Moment)
-      (source now after : Option Stream) (faults faults' faults'' quiets quiets' quiets'' : ℕ) (clock clock' clock'' : Option Dial) (waits waits' : List ℕ) (sink sink' sink'' : Option (List ℕ))
-      → UnderWay history budget kept source now faults faults' quiets quiets' clock clock' waits sink sink'
-      → length buf ≡ 512 → FitsRoom (Piece n) (length buf) → Spends (Piece n) budget budget' → Hands (Piece n) buf now after → faults'' ≡ faults' → quiets'' ≡ quiets'
-      → Goes (Gives at) clock' clock''
-      → ((stream : List Symbol) → StandsFor kept stream → HandsOn {X = Unit {0}} says (Ok tt) stream (piece at (take n buf)) kept' waits waits' sink' sink'')
-      → UnderWay history budget' kept' source after faults faults'' quiets quiets'' clock clock'' waits' sink sink''
-  after_piece n history buf budget budget' kept kept' at source now after faults faults' faults'' quiets quiets' quiets'' clock clock' clock'' waits waits' sink sink' sink'' u long fits spent handed same still given lines =
-      let s : List Symbol = stream_of u.readings in
-      let h : HandsOn {X = Unit {0}} says (Ok tt) s (piece at (take n buf)) kept' waits waits' sink' sink'' = lines s u.stands in
-      record {
-        readings = with_next u.readings at (take n buf);
-        pieces = pieces_next u.readings (record { at = at; bytes = take n buf }) u.pieces (is_piece n buf at fits long);
-        taken = subst (λ b. HasTaken history b budget' source after faults faults'' quiets quiets'') (sym (bytes_next u.readings at (take n buf)))
-            (taken_piece n history (bytes_of u.readings) buf budget budget' source now after faults faults' faults'' quiets quiets' quiets'' u.taken fits spent handed same still);
-        stamps = stamps_on u.readings at (take n buf) clock clock' clock'' u.stamps given;
-        stands = subst (λ t. StandsFor kept' t) (sym (stream_next u.readings at (take n buf))) h.0;
-        wrote = subst (λ t. Waits (texts_so_far says t) waits' sink sink'') (sym (stream_next u.readings at (take n buf)))
-            (subst (λ l. Waits l waits' sink sink'') (sym (texts_next s (piece at (take n buf)) h.1.0 h.1.1.0))
-            (waits_on (texts_so_far says s ++ texts_of says h.1.0) (waits ++ texts_of says h.1.0) waits' sink sink' sink''
-            (waits_more (texts_so_far says s) waits (texts_of says h.1.0) sink sink' u.wrote) h.1.1.1));
-      }
-
-  pub after_quiet : (history : ℕ) (buf : List ℕ) (budget budget' : Budget) (kept : DeviceKept)
-      (source now after : Option Stream) (faults faults' faults'' quiets quiets' quiets'' : ℕ) (clock clock' : Option Dial) (waits : List ℕ) (sink sink' : Option (List ℕ))
-      → UnderWay history budget kept source now faults faults' quiets quiets' clock clock' waits sink sink'
-      → Spends Quiet budget budget' → Hands Quiet buf now after → faults'' ≡ faults' → quiets'' ≡ one_more quiets'
-      → UnderWay history budget' kept source after faults faults'' quiets quiets'' clock clock' waits sink sink'
-  after_quiet history buf budget budget' kept source now after faults faults' faults'' quiets quiets' quiets'' clock clock' waits sink sink' u spent handed same next = record {
-    readings = u.readings;
-    pieces = u.pieces;
-    taken = taken_quiet history (bytes_of u.readings) buf budget budget' source now after faults faults' faults'' quiets quiets' quiets'' u.taken spent handed same next;
-    stamps = u.stamps;
-    stands = u.stands;
-    wrote = u.wrote;
-  }
+  -- a prefix was written of the lines so far, or of all lines at the source's end
+  abbrev BrokeOff : ℕ → List Reading → Option Stream → Option Stream → Option (List ℕ) → Option (List ℕ) → Type 0
+  BrokeOff history readings source source' sink sink' =
+      BreaksOff history (bytes_of readings) source source'
+      (Goes (AppendsPart (texts_so_far says (stream_of readings))) sink sink') (Goes (AppendsPart (texts_to_end says (stream_of readings))) sink sink')
 
   -- if a fault ends the writing: the lines that were due have the written part at their beginning
   broken_texts : (fault : Fault) (s more : List Symbol) (kept : DeviceKept) (waits waits' : List ℕ) (sink sink' sink'' : Option (List ℕ))
       → Waits (texts_so_far says s) waits sink sink' → HandsOn {X = Unit {0}} says (Err fault) s more kept waits waits' sink' sink''
       → Goes (AppendsPart (texts_so_far says (s ++ more))) sink sink''
   broken_texts Sink s more kept waits waits' sink sink' sink'' wrote h =
-      subst (λ l. Goes (AppendsPart l) sink sink'') (sym (texts_next s more h.0 h.1.0))
+      subst (λ l. Goes (AppendsPart l) sink sink'') (sym (texts_next says s more h.0 h.1.0))
       (waits_part (texts_so_far says s ++ texts_of says h.0) (waits ++ texts_of says h.0) sink sink' sink''
       (waits_more (texts_so_far says s) waits (texts_of says h.0) sink sink' wrote) h.1.1)
   broken_texts NoMemoryFault s more kept waits waits' sink sink' sink'' wrote h =
-      subst (λ l. Goes (AppendsPart l) sink sink'') (sym (texts_next s more (reports_from s more) (reports-append [] s more)))
+      subst (λ l. Goes (AppendsPart l) sink sink'') (sym (texts_next says s more (reports_from s more) (reports-append [] s more)))
       (part_of (texts_so_far says s) (texts_of says (reports_from s more)) sink sink'' (waits_all (texts_so_far says s) waits sink sink' sink'' wrote h))
 
   broken_so_far : (fault : Fault) (history : ℕ) (readings : List Reading) (at : Moment) (bytes : List ℕ) (kept : DeviceKept)
@@ -174,7 +50,7 @@ module _ (says : Texts) where
       → HasReadSoFar history (bytes_of readings ++ bytes) source after
       → Waits (texts_so_far says (stream_of readings)) waits sink sink'
       → HandsOn {X = Unit {0}} says (Err fault) (stream_of readings) (piece at bytes) kept waits waits' sink' sink''
-      → BrokeOff says history (with_next readings at bytes) source after sink sink''
+      → BrokeOff history (with_next readings at bytes) source after sink sink''
   broken_so_far fault history readings at bytes kept source after waits waits' sink sink' sink'' read wrote h =
       inl (
         subst (λ b. HasReadSoFar history b source after) (sym (bytes_next readings at bytes)) read,
@@ -206,7 +82,7 @@ module _ (says : Texts) where
 
   pub broken_in_piece : (n history : ℕ) (buf : List ℕ) (budget budget' : Budget) (kept kept' : DeviceKept) (at : Moment) (fault : Fault)
       (source now after : Option Stream) (faults faults' faults'' quiets quiets' quiets'' : ℕ) (clock clock' clock'' : Option Dial) (waits waits' : List ℕ) (sink sink' sink'' : Option (List ℕ))
-      → UnderWay history budget kept source now faults faults' quiets quiets' clock clock' waits sink sink'
+      → UnderWay says history budget kept source now faults faults' quiets quiets' clock clock' waits sink sink'
       → length buf ≡ 512 → FitsRoom (Piece n) (length buf) → Spends (Piece n) budget budget' → Hands (Piece n) buf now after → faults'' ≡ faults' → quiets'' ≡ quiets'
       → Goes (Gives at) clock' clock''
       → ((stream : List Symbol) → StandsFor kept stream → HandsOn {X = Unit {0}} says (Err fault) stream (piece at (take n buf)) kept' waits waits' sink' sink'')
@@ -222,7 +98,7 @@ module _ (says : Texts) where
 
   pub broken_in_last : (n history : ℕ) (buf : List ℕ) (budget budget' : Budget) (kept kept' : DeviceKept) (at : Moment) (fault : Fault)
       (source now after : Option Stream) (faults faults' quiets quiets' : ℕ) (clock clock' clock'' : Option Dial) (waits waits' : List ℕ) (sink sink' sink'' : Option (List ℕ))
-      → UnderWay history budget kept source now faults faults' quiets quiets' clock clock' waits sink sink'
+      → UnderWay says history budget kept source now faults faults' quiets quiets' clock clock' waits sink sink'
       → length buf ≡ 512 → FitsRoom (Last n) (length buf) → Spends (Last n) budget budget' → Hands (Last n) buf now after
       → Goes (Gives at) clock' clock''
       → ((stream : List Symbol) → StandsFor kept stream → HandsOn {X = Unit {0}} says (Err fault) stream (piece at (take n buf)) kept' waits waits' sink' sink'')
@@ -238,7 +114,7 @@ module _ (says : Texts) where
 
   pub filled : (n history : ℕ) (buf : List ℕ) (budget budget' : Budget) (kept kept' : DeviceKept) (at : Moment)
       (source now after : Option Stream) (faults faults' quiets quiets' : ℕ) (clock clock' clock'' : Option Dial) (waits : List ℕ) (sink sink' sink'' : Option (List ℕ))
-      → UnderWay history budget kept source now faults faults' quiets quiets' clock clock' waits sink sink'
+      → UnderWay says history budget kept source now faults faults' quiets quiets' clock clock' waits sink sink'
       → length buf ≡ 512 → FitsRoom (Last n) (length buf) → Spends (Last n) budget budget' → Hands (Last n) buf now after
       → Goes (Gives at) clock' clock''
       → ((stream : List Symbol) → StandsFor kept stream → HandsOn {X = Unit {0}} says (Ok tt) stream (piece at (take n buf)) kept' waits [] sink' sink'')
@@ -258,7 +134,7 @@ module _ (says : Texts) where
           read.0,
           read.1,
           subst (λ t. Goes (Appends (texts_so_far says t)) sink sink'') (sym (stream_next u.readings at (take n buf)))
-              (subst (λ l. Goes (Appends l) sink sink'') (sym (texts_next s (piece at (take n buf)) h.1.0 h.1.1.0))
+              (subst (λ l. Goes (Appends l) sink sink'') (sym (texts_next says s (piece at (take n buf)) h.1.0 h.1.1.0))
               (none_waits (texts_so_far says s ++ texts_of says h.1.0) [] sink sink'' refl
               (waits_on (texts_so_far says s ++ texts_of says h.1.0) (waits ++ texts_of says h.1.0) [] sink sink' sink''
               (waits_more (texts_so_far says s) waits (texts_of says h.1.0) sink sink' u.wrote) h.1.1.1))),
@@ -267,7 +143,7 @@ module _ (says : Texts) where
 
   pub ended : (history : ℕ) (buf : List ℕ) (budget : Budget) (kept : DeviceKept)
       (source now after : Option Stream) (faults faults' quiets quiets' : ℕ) (clock clock' : Option Dial) (waits : List ℕ) (sink sink' sink'' : Option (List ℕ))
-      → UnderWay history budget kept source now faults faults' quiets quiets' clock clock' waits sink sink'
+      → UnderWay says history budget kept source now faults faults' quiets quiets' clock clock' waits sink sink'
       → Hands End buf now after
       → ((stream : List Symbol) → StandsFor kept stream → Written {X = Unit {0}} (Ok tt) (texts_of says (device_close stream)) waits [] sink' sink'')
       → Decoded says Done history source after clock clock' sink sink''
@@ -279,8 +155,7 @@ module _ (says : Texts) where
         reads = u.pieces;
         stamps = u.stamps;
         ends = (
-          read.0,
-          read.1,
+          read,
           none_waits (texts_so_far says (stream_of u.readings) ++ texts_of says (device_close (stream_of u.readings))) [] sink sink'' refl
               (waits_on (texts_so_far says (stream_of u.readings) ++ texts_of says (device_close (stream_of u.readings))) (waits ++ texts_of says (device_close (stream_of u.readings))) [] sink sink' sink''
               (waits_more (texts_so_far says (stream_of u.readings)) waits (texts_of says (device_close (stream_of u.readings))) sink sink' u.wrote) (lines (stream_of u.readings) u.stands)),
@@ -289,7 +164,7 @@ module _ (says : Texts) where
 
   at_end_broken : (history : ℕ) (buf : List ℕ) (budget : Budget) (kept : DeviceKept) (fault : Fault)
       (source now after : Option Stream) (faults faults' quiets quiets' : ℕ) (clock clock' : Option Dial) (waits : List ℕ) (sink sink' sink'' : Option (List ℕ))
-      → UnderWay history budget kept source now faults faults' quiets quiets' clock clock' waits sink sink'
+      → UnderWay says history budget kept source now faults faults' quiets quiets' clock clock' waits sink sink'
       → Hands End buf now after
       → ((stream : List Symbol) → StandsFor kept stream → Written {X = Unit {0}} (Err fault) (texts_of says (device_close stream)) waits [] sink' sink'')
       → Decoded says (outcome_of fault) history source after clock clock' sink sink''
@@ -301,8 +176,7 @@ module _ (says : Texts) where
         reads = inl u.pieces;
         stamps = u.stamps;
         ends = inr (
-          read.0,
-          read.1,
+          read,
           waits_part (texts_so_far says (stream_of u.readings) ++ texts_of says (device_close (stream_of u.readings))) (waits ++ texts_of says (device_close (stream_of u.readings))) sink sink' sink''
               (waits_more (texts_so_far says (stream_of u.readings)) waits (texts_of says (device_close (stream_of u.readings))) sink sink' u.wrote) (lines (stream_of u.readings) u.stands),
         );
@@ -315,8 +189,7 @@ module _ (says : Texts) where
         reads = inl u.pieces;
         stamps = u.stamps;
         ends = inr (
-          read.0,
-          read.1,
+          read,
           part_of (texts_so_far says (stream_of u.readings)) (texts_of says (device_close (stream_of u.readings))) sink sink''
               (waits_all (texts_so_far says (stream_of u.readings)) waits sink sink' sink'' u.wrote (lines (stream_of u.readings) u.stands)),
         );
@@ -324,7 +197,7 @@ module _ (says : Texts) where
 
   pub broken_at_end : (history : ℕ) (buf : List ℕ) (budget : Budget) (kept : DeviceKept) (fault : Fault)
       (source now after : Option Stream) (faults faults' quiets quiets' : ℕ) (clock clock' : Option Dial) (waits : List ℕ) (sink sink' sink'' : Option (List ℕ))
-      → UnderWay history budget kept source now faults faults' quiets quiets' clock clock' waits sink sink'
+      → UnderWay says history budget kept source now faults faults' quiets quiets' clock clock' waits sink sink'
       → Hands End buf now after
       → ((stream : List Symbol) → StandsFor kept stream → Written {X = Unit {0}} (Err fault) (texts_of says (device_close stream)) waits [] sink' sink'')
       → (outcome : CommandOutcome) → outcome ≡ outcome_of fault
@@ -335,7 +208,7 @@ module _ (says : Texts) where
 
   pub failed : (history : ℕ) (buf : List ℕ) (budget : Budget) (kept : DeviceKept)
       (source now after : Option Stream) (faults faults' quiets quiets' : ℕ) (clock clock' : Option Dial) (waits : List ℕ) (sink sink' sink'' : Option (List ℕ))
-      → UnderWay history budget kept source now faults faults' quiets quiets' clock clock' waits sink sink'
+      → UnderWay says history budget kept source now faults faults' quiets quiets' clock clock' waits sink sink'
       → Hands Failed buf now after
       → Goes (Appends waits) sink' sink''
       → Decoded says ReadFault history source after clock clock' sink sink''
@@ -346,7 +219,7 @@ module _ (says : Texts) where
 
   pub too_quiet : (history : ℕ) (buf : List ℕ) (budget : Budget) (kept : DeviceKept)
       (source now after : Option Stream) (faults faults' quiets quiets' : ℕ) (clock clock' : Option Dial) (waits : List ℕ) (sink sink' sink'' : Option (List ℕ))
-      → UnderWay history budget kept source now faults faults' quiets quiets' clock clock' waits sink sink'
+      → UnderWay says history budget kept source now faults faults' quiets quiets' clock clock' waits sink sink'
       → Hands TooQuiet buf now after
       → Goes (Appends waits) sink' sink''
       → Decoded says QuietOutcome history source after clock clock' sink sink''
@@ -358,7 +231,7 @@ module _ (says : Texts) where
   -- the sink failed before the next read
   pub not_flushed : (history : ℕ) (budget : Budget) (kept : DeviceKept)
       (source now : Option Stream) (faults faults' quiets quiets' : ℕ) (clock clock' : Option Dial) (waits : List ℕ) (sink sink' sink'' : Option (List ℕ))
-      → UnderWay history budget kept source now faults faults' quiets quiets' clock clock' waits sink sink'
+      → UnderWay says history budget kept source now faults faults' quiets quiets' clock clock' waits sink sink'
       → Goes (AppendsPart waits) sink' sink''
       → Decoded says WriteFault history source now clock clock' sink sink''
   not_flushed history budget kept source now faults faults' quiets quiets' clock clock' waits sink sink' sink'' u part = record {
@@ -371,25 +244,10 @@ module _ (says : Texts) where
     );
   }
 
-  -- what waited was written before the next read, or goes on waiting
-  pub ready_or_flushed : (history : ℕ) (budget : Budget) (kept : DeviceKept)
-      (source now : Option Stream) (faults faults' quiets quiets' : ℕ) (clock clock' : Option Dial) (waits waits' : List ℕ) (sink sink' sink'' : Option (List ℕ))
-      → UnderWay history budget kept source now faults faults' quiets quiets' clock clock' waits sink sink'
-      → Waits waits waits' sink' sink''
-      → UnderWay history budget kept source now faults faults' quiets quiets' clock clock' waits' sink sink''
-  ready_or_flushed history budget kept source now faults faults' quiets quiets' clock clock' waits waits' sink sink' sink'' u wrote = record {
-    readings = u.readings;
-    pieces = u.pieces;
-    taken = u.taken;
-    stamps = u.stamps;
-    stands = u.stands;
-    wrote = waits_on (texts_so_far says (stream_of u.readings)) waits waits' sink sink' sink'' u.wrote wrote;
-  }
-
   -- the sink failed after a read that brought nothing and lost nothing
   pub unwritten : (history : ℕ) (buf : List ℕ) (budget : Budget) (kept : DeviceKept)
       (source now after : Option Stream) (faults faults' quiets quiets' : ℕ) (clock clock' : Option Dial) (waits : List ℕ) (sink sink' sink'' : Option (List ℕ))
-      → UnderWay history budget kept source now faults faults' quiets quiets' clock clock' waits sink sink'
+      → UnderWay says history budget kept source now faults faults' quiets quiets' clock clock' waits sink sink'
       → Goes Stays now after
       → Goes (AppendsPart waits) sink' sink''
       → Decoded says WriteFault history source after clock clock' sink sink''
@@ -413,49 +271,6 @@ module _ (says : Texts) where
     ends = inl (
       inl (omega arith, passes_none source),
       subst (λ l. Goes (AppendsPart l) sink sink) (append-nil (texts_so_far says []))
-          (part_of (texts_so_far says []) [] sink sink (subst (λ l. Goes (Appends l) sink sink) (sym no_texts) (appends_none sink))),
+          (part_of (texts_so_far says []) [] sink sink (subst (λ l. Goes (Appends l) sink sink) (sym (no_texts says)) (appends_none sink))),
     );
   }
-
-  -- what the device gained was written or waits
-  pub handed_on : (result : Result (Unit {0}) Fault) (gained : List Body) (stream more : List Symbol) (kept : DeviceKept) (waited waits : List ℕ) (before after : Option (List ℕ))
-      → StandsFor kept (stream ++ more) → Gains stream more gained → Written result (texts_of says gained) waited waits before after
-      → HandsOn says result stream more kept waited waits before after
-  handed_on (Ok _) gained stream more kept waited waits before after stands gains wrote = (stands, (gained, (gains, wrote)))
-  handed_on (Err Sink) gained stream more kept waited waits before after stands gains wrote = (gained, (gains, wrote))
-  handed_on (Err NoMemoryFault) gained stream more kept waited waits before after stands gains wrote = wrote
-
-  -- there was no memory for what the device gained
-  pub fed_none : (fault : Fault) (stream more : List Symbol) (kept : DeviceKept) (waited waits : List ℕ) (before after : Option (List ℕ))
-      → GaveUp fault waited before after → HandsOn {X = Unit {0}} says (Err fault) stream more kept waited waits before after
-  fed_none Sink stream more kept waited waits before after gave =
-      (reports_from stream more, (reports-append [] stream more, part_longer waited (texts_of says (reports_from stream more)) before after gave))
-  fed_none NoMemoryFault stream more kept waited waits before after gave = gave
-
-  -- and at the last nothing waits
-  pub flushed : (stream more : List Symbol) (kept : DeviceKept) (waited waits : List ℕ) (before now after : Option (List ℕ))
-      → HandsOn {X = Unit {0}} says (Ok tt) stream more kept waited waits before now → Goes (Appends waits) now after
-      → HandsOn {X = Unit {0}} says (Ok tt) stream more kept waited [] before after
-  flushed stream more kept waited waits before now after h wrote =
-      (h.0, (h.1.0, (h.1.1.0, waits_none (waited ++ texts_of says h.1.0) before after (waits_all (waited ++ texts_of says h.1.0) waits before now after h.1.1.1 wrote))))
-
-  pub flushed_part : (stream more : List Symbol) (kept : DeviceKept) (waited waits : List ℕ) (before now after : Option (List ℕ))
-      → HandsOn {X = Unit {0}} says (Ok tt) stream more kept waited waits before now → Goes (AppendsPart waits) now after
-      → HandsOn {X = Unit {0}} says (Err Sink) stream more kept waited [] before after
-  flushed_part stream more kept waited waits before now after h part =
-      (h.1.0, (h.1.1.0, waits_part (waited ++ texts_of says h.1.0) waits before now after h.1.1.1 part))
-
--- the lines of the last epoch, behind what waited, and nothing waits
-pub closed : (lines waited waits : List ℕ) (before now after : Option (List ℕ))
-    → Waits (waited ++ lines) waits before now → Goes (Appends waits) now after → Waits (waited ++ lines) [] before after
-closed lines waited waits before now after first wrote =
-    waits_none (waited ++ lines) before after (waits_all (waited ++ lines) waits before now after first wrote)
-
-pub closed_part : (lines waited waits : List ℕ) (before now after : Option (List ℕ))
-    → Waits (waited ++ lines) waits before now → Goes (AppendsPart waits) now after → Goes (AppendsPart (waited ++ lines)) before after
-closed_part lines waited waits before now after first part = waits_part (waited ++ lines) waits before now after first part
-
-pub closed_none : (fault : Fault) (lines waited waits : List ℕ) (before after : Option (List ℕ))
-    → GaveUp fault waited before after → Written {X = Unit {0}} (Err fault) lines waited waits before after
-closed_none Sink lines waited waits before after gave = part_longer waited lines before after gave
-closed_none NoMemoryFault lines waited waits before after gave = gave

@@ -9,8 +9,8 @@ use Rattle.gps_report.specs.declared.report.Body.TheVariants.{Tpv, Sky}
 use Rattle.json_line.specs.Lines.{text}
 use Rattle.pseudo_nmea.specs.Sentences.{pseudo}
 use Rattle.device_core.specs.Reports.{device_reports, device_close}
-use Rattle.gpsrelay.specs.declared.texts.Output.{Output}
-use Rattle.gpsrelay.specs.declared.texts.Output.TheVariants.{Lines, Sentences}
+use Rattle.gps_decode.specs.declared.texts.Output.{Output}
+use Rattle.gps_decode.specs.declared.texts.Output.TheVariants.{Lines, Sentences}
 
 -- what is written of a report
 abbrev pub Texts : Type 0

@@ -1,9 +1,10 @@
-use Rattle.std.proofs.Common.{◌≡◌, ◌+◌, ◌∙◌, ap, arith, refl}
+use Rattle.std.proofs.Common.{◌≡◌, ◌+◌, ◌∙◌, inl, inr, ap, subst, arith, refl}
+use Rattle.gps_outside.specs.Counts.{Rose}
 use Rattle.gps_outside.proofs.ReadSteps.{quiet_at_last}
-use Rattle.gps_outside.specs.declared.whole.ReadEnd.TheVariants.{AtEnd as at_end, Failed as read_failed, TooQuiet as too_quiet}
-use Rattle.gpsrelay.proofs.Causes.{broken, not_written}
-use Rattle.gpsrelay.proofs.Decoding.{begun, had_some, after_piece, after_quiet, broken_in_piece, broken_in_last, filled, broken_at_end, ready_or_flushed, not_flushed, unwritten}
-use Rattle.gpsrelay.proofs.decode.write_reports.Goals as goal
+use Rattle.gps_decode.proofs.Causes.{broken, not_written}
+use Rattle.gps_decode.proofs.UnderWay.{begun, had_some, after_piece, after_quiet, ready_or_flushed}
+use Rattle.gps_decode.proofs.Ends.{broken_in_piece, broken_in_last, filled, broken_at_end, not_flushed, unwritten}
+use Rattle.gps_decode.proofs.decoding.write_reports.Goals as goal
 
 pub turns-init : goal.turns-init
 turns-init g c = record {
@@ -85,22 +86,25 @@ returns-in-TooQuiet-clause-decoded g c =
 pub returns-then-not-flush_unless_ready-clause-cause : goal.returns-then-not-flush_unless_ready-clause-cause
 returns-then-not-flush_unless_ready-clause-cause g c =
     let at = c.turns.invariant in
-    not_written at_end _ _ _ _ _ _ _ at.sunk (c.if-not-flush_unless_ready.ensures.failed refl)
-    (at.under_way.taken.no_fault, (c.turns.intake.quiets, (at.few, at.under_way.taken.quiet)))
+    inl (
+      (at.under_way.taken.no_fault, (c.turns.intake.quiets, (at.few, at.under_way.taken.quiet))),
+      not_written _ _ _ at.sunk (c.if-not-flush_unless_ready.ensures.failed refl),
+    )
 
 pub returns-in-Err-clause-cause : goal.returns-in-Err-clause-cause
 returns-in-Err-clause-cause g c =
     let at = c.turns.invariant in
     let turn = c.in-Piece.ensures in
-    broken _ _ _ _ _ _ _ _ _ c.outcome.ensures (turn.fails_only ∙ at.under_way.taken.no_fault) (c.turns.intake.quiets, (at.few, turn.counts_quiet ∙ at.under_way.taken.quiet))
+    broken _ _ _ _ _ c.outcome.ensures
+    (turn.fails_only ∙ at.under_way.taken.no_fault, (c.turns.intake.quiets, (at.few, turn.counts_quiet ∙ at.under_way.taken.quiet)))
     (c.if-not-flush_unless_ready.ensures.fails_only refl ∙ at.sunk) c.in-Err.ensures.cause
 
 pub returns-in-Ok-hand_on_last-clause-cause : goal.returns-in-Ok-hand_on_last-clause-cause
 returns-in-Ok-hand_on_last-clause-cause g c =
     let at = c.turns.invariant in
-    let turn = c.in-Last.ensures in (
-      turn.fails_only ∙ at.under_way.taken.no_fault,
-      (c.turns.intake.quiets, (at.few, turn.counts_quiet ∙ at.under_way.taken.quiet)),
+    let turn = c.in-Last.ensures in
+    inl (
+      (turn.fails_only ∙ at.under_way.taken.no_fault, (c.turns.intake.quiets, (at.few, turn.counts_quiet ∙ at.under_way.taken.quiet))),
       c.in-Ok-hand_on_last.ensures.cause ∙ (c.if-not-flush_unless_ready.ensures.fails_only refl ∙ at.sunk),
     )
 
@@ -108,15 +112,16 @@ pub returns-in-Err-hand_on_last-clause-cause : goal.returns-in-Err-hand_on_last-
 returns-in-Err-hand_on_last-clause-cause g c =
     let at = c.turns.invariant in
     let turn = c.in-Last.ensures in
-    broken _ _ _ _ _ _ _ _ _ c.outcome-in-Err-hand_on_last.ensures (turn.fails_only ∙ at.under_way.taken.no_fault) (c.turns.intake.quiets, (at.few, turn.counts_quiet ∙ at.under_way.taken.quiet))
+    broken _ _ _ _ _ c.outcome-in-Err-hand_on_last.ensures
+    (turn.fails_only ∙ at.under_way.taken.no_fault, (c.turns.intake.quiets, (at.few, turn.counts_quiet ∙ at.under_way.taken.quiet)))
     (c.if-not-flush_unless_ready.ensures.fails_only refl ∙ at.sunk) c.in-Err-hand_on_last.ensures.cause
 
 pub returns-in-Ok-close-clause-cause : goal.returns-in-Ok-close-clause-cause
 returns-in-Ok-close-clause-cause g c =
     let at = c.turns.invariant in
-    let turn = c.in-End.ensures in (
-      turn.fails_only ∙ at.under_way.taken.no_fault,
-      (c.turns.intake.quiets, (at.few, turn.counts_quiet ∙ at.under_way.taken.quiet)),
+    let turn = c.in-End.ensures in
+    inl (
+      (turn.fails_only ∙ at.under_way.taken.no_fault, (c.turns.intake.quiets, (at.few, turn.counts_quiet ∙ at.under_way.taken.quiet))),
       c.in-Ok-close.ensures.cause ∙ (c.if-not-flush_unless_ready.ensures.fails_only refl ∙ at.sunk),
     )
 
@@ -124,15 +129,19 @@ pub returns-in-Err-close-clause-cause : goal.returns-in-Err-close-clause-cause
 returns-in-Err-close-clause-cause g c =
     let at = c.turns.invariant in
     let turn = c.in-End.ensures in
-    broken _ _ _ _ _ _ _ _ _ c.outcome-in-Err-close.ensures (turn.fails_only ∙ at.under_way.taken.no_fault) (c.turns.intake.quiets, (at.few, turn.counts_quiet ∙ at.under_way.taken.quiet))
+    broken _ _ _ _ _ c.outcome-in-Err-close.ensures
+    (turn.fails_only ∙ at.under_way.taken.no_fault, (c.turns.intake.quiets, (at.few, turn.counts_quiet ∙ at.under_way.taken.quiet)))
     (c.if-not-flush_unless_ready.ensures.fails_only refl ∙ at.sunk) c.in-Err-close.ensures.cause
 
 pub returns-then-flush-clause-cause : goal.returns-then-flush-clause-cause
 returns-then-flush-clause-cause g c =
     let at = c.turns.invariant in
-    let turn = c.in-Failed.ensures in (
-      rw (← at.under_way.taken.no_fault) (turn.failed refl),
-      (c.turns.intake.quiets, (at.few, turn.counts_quiet ∙ at.under_way.taken.quiet)),
+    let turn = c.in-Failed.ensures in
+    inl (
+      (
+        subst (λ n. Rose n (g.S.Source.faults c.step.new.source)) at.under_way.taken.no_fault (turn.failed refl),
+        (c.turns.intake.quiets, (at.few, turn.counts_quiet ∙ at.under_way.taken.quiet)),
+      ),
       c.if-flush.ensures.fails_only refl ∙ (c.if-not-flush_unless_ready.ensures.fails_only refl ∙ at.sunk),
     )
 
@@ -140,15 +149,24 @@ pub returns-in-Failed-clause-cause : goal.returns-in-Failed-clause-cause
 returns-in-Failed-clause-cause g c =
     let at = c.turns.invariant in
     let turn = c.in-Failed.ensures in
-    not_written read_failed _ _ _ _ _ _ _ (c.if-not-flush_unless_ready.ensures.fails_only refl ∙ at.sunk) (c.if-flush.ensures.failed refl)
-    (rw (← at.under_way.taken.no_fault) (turn.failed refl), (c.turns.intake.quiets, (at.few, turn.counts_quiet ∙ at.under_way.taken.quiet)))
+    inr (
+      refl,
+      inl (
+        subst (λ n. Rose n (g.S.Source.faults c.step.new.source)) at.under_way.taken.no_fault (turn.failed refl),
+        (c.turns.intake.quiets, (at.few, turn.counts_quiet ∙ at.under_way.taken.quiet)),
+      ),
+      not_written _ _ _ (c.if-not-flush_unless_ready.ensures.fails_only refl ∙ at.sunk) (c.if-flush.ensures.failed refl),
+    )
 
 pub returns-then-flush-2-clause-cause : goal.returns-then-flush-2-clause-cause
 returns-then-flush-2-clause-cause g c =
     let at = c.turns.invariant in
-    let turn = c.in-TooQuiet.ensures in (
-      turn.fails_only ∙ at.under_way.taken.no_fault,
-      quiet_at_last _ _ c.turns.intake c.step.new.self _ _ _ _ _ _ _ at.under_way.taken turn.budget turn.counts_quiet,
+    let turn = c.in-TooQuiet.ensures in
+    inl (
+      (
+        turn.fails_only ∙ at.under_way.taken.no_fault,
+        quiet_at_last _ _ c.turns.intake c.step.new.self _ _ _ _ _ _ _ at.under_way.taken turn.budget turn.counts_quiet,
+      ),
       c.if-flush-2.ensures.fails_only refl ∙ (c.if-not-flush_unless_ready.ensures.fails_only refl ∙ at.sunk),
     )
 
@@ -156,5 +174,11 @@ pub returns-in-TooQuiet-clause-cause : goal.returns-in-TooQuiet-clause-cause
 returns-in-TooQuiet-clause-cause g c =
     let at = c.turns.invariant in
     let turn = c.in-TooQuiet.ensures in
-    not_written too_quiet _ _ _ _ _ _ _ (c.if-not-flush_unless_ready.ensures.fails_only refl ∙ at.sunk) (c.if-flush-2.ensures.failed refl)
-    (turn.fails_only ∙ at.under_way.taken.no_fault, quiet_at_last _ _ c.turns.intake c.step.new.self _ _ _ _ _ _ _ at.under_way.taken turn.budget turn.counts_quiet)
+    inr (
+      refl,
+      inr (
+        turn.fails_only ∙ at.under_way.taken.no_fault,
+        quiet_at_last _ _ c.turns.intake c.step.new.self _ _ _ _ _ _ _ at.under_way.taken turn.budget turn.counts_quiet,
+      ),
+      not_written _ _ _ (c.if-not-flush_unless_ready.ensures.fails_only refl ∙ at.sunk) (c.if-flush-2.ensures.failed refl),
+    )

@@ -3,19 +3,21 @@ ghost use Rattle.gps_report.specs.declared.edge.Symbol.{Symbol};
 ghost use Rattle.device_core.specs.Stream.{piece};
 ghost use Rattle.device_core.specs.Standing.{StandsFor};
 ghost use Rattle.device_core.specs.Reports.{device_close};
-ghost use Rattle.gpsrelay.specs.Texts.{line_of, sentences_of, texts_by, texts_of};
-ghost use Rattle.gpsrelay.specs.Decode.{Decoded, HandsOn, WriteCause, Written};
-ghost use Rattle.gpsrelay.specs.Outcomes.{CommandHasCause};
+ghost use Rattle.gps_decode.specs.Texts.{line_of, sentences_of, texts_by, texts_of};
+ghost use Rattle.gps_decode.specs.Decode.{Decoded, HandsOn, WriteCause, Written};
+ghost use Rattle.command_outcome.specs.Calls.{sink_call, source_call};
+ghost use Rattle.command_outcome.specs.Outcomes.{HasLateCause};
 
-use crate::outcome::{CommandOutcome, Fault};
+use crate::fault::Fault;
 use crate::texts::{Draft, Output};
+use command_outcome::CommandOutcome;
 use device_core::Device;
 use gps_fixed::Stamp;
 use gps_outside::{Clock, Intake, IntakeStep, Sink, Source};
 use std::alloc::Global;
 
 /// Feeds the device with the bytes of one read, and adds what is written of its gains.
-#[tactic(auto, using(crate::proofs::QuietTexts::handed_on, crate::proofs::Decoding::fed_none))]
+#[tactic(auto, using(crate::proofs::HandingOn::handed_on, crate::proofs::HandingOn::fed_none))]
 fn hand_on<K: Sink>(
     device: &mut Device,
     output: &Output,
@@ -38,7 +40,7 @@ fn hand_on<K: Sink>(
 }
 
 /// As [`hand_on`], for the last bytes: nothing waits any more.
-#[tactic(auto, using(crate::proofs::Decoding::flushed, crate::proofs::Decoding::flushed_part))]
+#[tactic(auto, using(crate::proofs::HandingOn::flushed, crate::proofs::HandingOn::flushed_part))]
 fn hand_on_last<K: Sink>(
     device: &mut Device,
     output: &Output,
@@ -67,7 +69,7 @@ fn hand_on_last<K: Sink>(
 }
 
 /// Closes the device's running epoch, and writes what waits and what is written of the epoch.
-#[tactic(auto, using(crate::proofs::Decoding::closed, crate::proofs::Decoding::closed_part, crate::proofs::Decoding::closed_none))]
+#[tactic(auto, using(crate::proofs::HandingOn::closed, crate::proofs::HandingOn::closed_part, crate::proofs::HandingOn::closed_none))]
 fn close<K: Sink>(
     device: &mut Device,
     output: &Output,
@@ -113,8 +115,7 @@ fn write_reports<S: Source, K: Sink, C: Clock>(
     ensures takes { K.takes sink.new }
     ensures decoded { Decoded (texts_by output.now) result history (S.content source.old) (S.content source.new)
         (C.stamps clock.old) (C.stamps clock.new) (K.written sink.old) (K.written sink.new) }
-    ensures cause { CommandHasCause result (S.faults source.old) (S.faults source.new) (S.quiets source.old) (S.quiets source.new)
-        (K.faults sink.old) (K.faults sink.new) }
+    ensures cause { HasLateCause result (source_call S.Source source.old source.new) (sink_call K.Sink sink.old sink.new) }
     ensures faults_stay { S.faults source.old ≤ S.faults source.new }
     ensures quiets_stay { S.quiets source.old ≤ S.quiets source.new }
     ensures sink_faults_stay { K.faults sink.old ≤ K.faults sink.new }
@@ -160,8 +161,21 @@ fn write_reports<S: Source, K: Sink, C: Clock>(
     }
 }
 
-/// Reads device bytes to the source's end, or to the limit of the history, and writes the lines of the fixes and skies
-/// that they bring, as epochs close.
+/// Reads what one device sends to the source's end, or to a limit, and writes the JSON lines of its fixes and skies for the
+/// name `stdin`, in order, as epochs close.
+///
+/// At most `history` bytes are taken, 1 to 512 in a read. After each read that gave bytes the clock is asked once, and its stamp
+/// is that of all of them. Lines wait for further ones while more input stands ready, and never while the source may wait.
+///
+/// The outcome says what was read and written:
+/// - `Done`: all that the source had, and all lines, with those of the epoch that was open at its end;
+/// - `ReadFault`: a read failed; `TooQuiet`: it was the thousandth that brought nothing; `Full`: `history` bytes were taken, and
+///   more came. The lines so far were written, without those of the open epoch;
+/// - `WriteFault`: a write failed; `NoMemory`: out of memory. A prefix of the lines was written.
+///
+/// The sink is open, and stays open. The source's faults rise only if a read failed, and the sink's exactly if the outcome is a
+/// write fault. A read may have failed before it, since what waits is written then. What is said of bytes and stamps is said of a
+/// source, a sink and a clock whose contents are modelled.
 pub fn decode<S: Source, K: Sink, C: Clock>(
     alloc: Global,
     history: u64,
@@ -173,8 +187,7 @@ pub fn decode<S: Source, K: Sink, C: Clock>(
     ensures takes { K.takes sink.new }
     ensures decoded { Decoded line_of result history (S.content source.old) (S.content source.new)
         (C.stamps clock.old) (C.stamps clock.new) (K.written sink.old) (K.written sink.new) }
-    ensures cause { CommandHasCause result (S.faults source.old) (S.faults source.new) (S.quiets source.old) (S.quiets source.new)
-        (K.faults sink.old) (K.faults sink.new) }
+    ensures cause { HasLateCause result (source_call S.Source source.old source.new) (sink_call K.Sink sink.old sink.new) }
     ensures faults_stay { S.faults source.old ≤ S.faults source.new }
     ensures quiets_stay { S.quiets source.old ≤ S.quiets source.new }
     ensures sink_faults_stay { K.faults sink.old ≤ K.faults sink.new }
@@ -191,7 +204,8 @@ pub fn decode<S: Source, K: Sink, C: Clock>(
     )
 }
 
-/// Reads device bytes as [`decode`] does, and writes the two sentences of each fix.
+/// Reads what one device sends as [`decode`] does, and writes two sentences of NMEA 0183 for each fix, an RMC and a GGA, in place
+/// of its line, and nothing for a sky. The outcomes are those of [`decode`].
 pub fn pseudo<S: Source, K: Sink, C: Clock>(
     alloc: Global,
     history: u64,
@@ -203,8 +217,7 @@ pub fn pseudo<S: Source, K: Sink, C: Clock>(
     ensures takes { K.takes sink.new }
     ensures decoded { Decoded sentences_of result history (S.content source.old) (S.content source.new)
         (C.stamps clock.old) (C.stamps clock.new) (K.written sink.old) (K.written sink.new) }
-    ensures cause { CommandHasCause result (S.faults source.old) (S.faults source.new) (S.quiets source.old) (S.quiets source.new)
-        (K.faults sink.old) (K.faults sink.new) }
+    ensures cause { HasLateCause result (source_call S.Source source.old source.new) (sink_call K.Sink sink.old sink.new) }
     ensures faults_stay { S.faults source.old ≤ S.faults source.new }
     ensures quiets_stay { S.quiets source.old ≤ S.quiets source.new }
     ensures sink_faults_stay { K.faults sink.old ≤ K.faults sink.new }

@@ -2,10 +2,10 @@ ghost use Rattle.std.specs.Prelude.{◌≡◌, ◌≤◌, ◌⊎◌, ◌++◌, [
 ghost use Rattle.gps_outside.specs.Counts.{Rose};
 ghost use Rattle.gps_outside.specs.Waiting.{Sends};
 ghost use Rattle.gps_outside.specs.Writes.{WritesAll};
-ghost use Rattle.gpsrelay.specs.Texts.{line_of, sentences_of, texts_by, texts_of};
-ghost use Rattle.gpsrelay.specs.Decode.{FaultCause, GaveUp, Written, WriteCause};
+ghost use Rattle.gps_decode.specs.Texts.{line_of, sentences_of, texts_by, texts_of};
+ghost use Rattle.gps_decode.specs.Decode.{FaultCause, GaveUp, Written, WriteCause};
 
-use crate::outcome::Fault;
+use crate::fault::Fault;
 use gps_fixed::{Bytes, NoMemory};
 use gps_outside::{Outbox, Sink, Source};
 use gps_report::{Body, Form};
@@ -16,7 +16,7 @@ use std::marker::Model;
 
 /// What is written of a device's reports.
 #[derive(Clone, Copy, Debug, PartialEq, Eq)]
-pub enum Output {
+pub(crate) enum Output {
     /// The JSON lines of its fixes and skies, for the one device, named `stdin`.
     Lines,
     /// The two sentences of each fix, for programs that read sentences alone.
@@ -67,7 +67,7 @@ impl Output {
 
 /// Lines on their way to the sink: room to make those of one read in, and those that wait for further ones.
 #[derive(Drop)]
-pub struct Draft {
+pub(crate) struct Draft {
     text: Bytes,
     outbox: Outbox,
 }
@@ -81,7 +81,7 @@ impl Model for Draft {
 }
 
 impl Draft {
-    pub fn new(alloc: Global) -> Draft
+    pub(crate) fn new(alloc: Global) -> Draft
         ensures { result ≡ [] }
     {
         Draft {
@@ -91,7 +91,7 @@ impl Draft {
     }
 
     /// Adds what is written of reports, once it is made whole.
-    pub fn write<K: Sink>(
+    pub(crate) fn write<K: Sink>(
         &mut self,
         output: &Output,
         bodies: &[Body],
@@ -117,7 +117,7 @@ impl Draft {
     }
 
     /// Writes what waits when there is no memory for more.
-    pub fn give_up<K: Sink>(&mut self, sink: &mut K) -> Fault
+    pub(crate) fn give_up<K: Sink>(&mut self, sink: &mut K) -> Fault
         requires takes { K.takes sink.old }
         ensures takes { K.takes sink.new }
         ensures wrote { GaveUp result self.old (K.written sink.old) (K.written sink.new) }
@@ -134,7 +134,7 @@ impl Draft {
     /// Writes what waits.
     ///
     /// False: the sink failed.
-    pub fn flush<K: Sink>(&mut self, sink: &mut K) -> bool
+    pub(crate) fn flush<K: Sink>(&mut self, sink: &mut K) -> bool
         requires takes { K.takes sink.old }
         ensures takes { K.takes sink.new }
         ensures bytes { WritesAll result self.old (K.written sink.old) (K.written sink.new) }
@@ -150,7 +150,11 @@ impl Draft {
     /// Writes what waits, unless more bytes stand ready in the source.
     ///
     /// False: the sink failed.
-    pub fn flush_unless_ready<S: Source, K: Sink>(&mut self, source: &S, sink: &mut K) -> bool
+    pub(crate) fn flush_unless_ready<S: Source, K: Sink>(
+        &mut self,
+        source: &S,
+        sink: &mut K,
+    ) -> bool
         requires takes { K.takes sink.old }
         ensures takes { K.takes sink.new }
         ensures bytes { Sends result self.old self.new (K.written sink.old) (K.written sink.new) }

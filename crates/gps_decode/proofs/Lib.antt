@@ -1,0 +1,4 @@
+pub mod UnderWay
+pub mod Ends
+pub mod HandingOn
+pub mod Causes

@@ -51,6 +51,15 @@ REFUSED = [
     ("decode --histroy 5", "--histroy: no such option of decode; did you mean --history?"),
     ("decode --queue 5", "--queue: no such option of decode"),
     ("decode -x", "-x: no such option of decode"),
+    ("decode -history 5", "-history: no such option of decode; did you mean --history?"),
+    ("decode --history -1", "-1: --history takes a whole number from 1 to 33554432, or all"),
+    ("decode --history=-1", "--history=-1: --history takes a whole number from 1 to 33554432, or all"),
+    ("decode --history -x", "--history: the value is missing: a whole number from 1 to 33554432, or all"),
+    ("decode --history --", "--history: the value is missing: a whole number from 1 to 33554432, or all"),
+    ("decode -1", "-1: no such option of decode"),
+    ("decode -- --", "--: decode reads standard input: decode < --"),
+    ("decode -- --history", "--history: decode reads standard input: decode < --history"),
+    ("generate --seed -1 --size 1", "-1: --seed takes a whole number from 0 to 4294967295"),
     ("lines --history 5", "--history: no such option of lines"),
     ("replay --queue 0", "0: --queue takes a whole number from 1 to 65536"),
     ("replay --queue 65537", "65537: --queue takes a whole number from 1 to 65536"),
@@ -70,6 +79,11 @@ REFUSED = [
     ("serve --listen :2947 g=file:a", "the host is missing"),
     ("serve --listen 2947 g=file:a", "say 127.0.0.1:2947"),
     ("serve --listen tcp://127.0.0.1:2947 g=file:a", "--listen takes HOST:PORT"),
+    ("serve --listen -1 g=file:a", "-1: --listen takes HOST:PORT"),
+    ("serve -listen 127.0.0.1:0 g=file:a", "-listen: no such option of serve; did you mean --listen?"),
+    ("serve --queue -5 g=file:a", "-5: --queue takes a whole number from 1 to 65536"),
+    ("serve -- g=file:a --history", "--history: say NAME=file:--history"),
+    ("serve -- --history 5 g=file:a", "--history: say NAME=file:--history"),
     ("serve --stop", "--stop: the value is missing: a path"),
     ("serve --stop= g=file:a", "--stop takes a path"),
     ("serve --stop a --stop b g=file:a", "--stop: the option is given twice"),
@@ -176,6 +190,10 @@ def words_that_are_refused():
         check(f"{words!r}: one line with the reason, and how the command is called", wanted, [row[:len(wanted[0])] if wanted else row for row in usage])
         says(f"{words!r}: the reason comes first", text, reason)
     refused(["serve", "a b=file:x"], "a name has 1 to 64 printable ASCII characters")
+    refused([""], '"": no such command; gpsrelay help lists all')
+    refused(["serve", ""], '"": say NAME=file:PATH, NAME=tcp:HOST:PORT, NAME=gpsd:HOST:PORT or NAME=edges:PATH')
+    refused(["decode", ""], '"": leave it out: decode reads standard input')
+    refused(["decode", "--history", ""], '"": --history takes a whole number from 1 to 33554432, or all')
     refused([b"\xff"], "not UTF-8")
     refused([b"decode", b"--history", b"\xff"], "not UTF-8")
 

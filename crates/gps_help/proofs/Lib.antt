@@ -1,1 +1,5 @@
 pub mod AnyMap
+pub mod Causes
+pub mod Halves
+pub mod Options
+pub mod Places

@@ -1,4 +1,6 @@
-ghost use Rattle.std.specs.Prelude.{◌≡◌};
+ghost use Rattle.std.specs.Prelude.{◌≡◌, find};
+ghost use Rattle.std.specs.Str.{bytes_eq};
+ghost use Rattle.gps_help.specs.Options.{flag_of, is_served, option_named, options_of};
 ghost use Rattle.gps_help.specs.Refusals.{command_named};
 
 use crate::OptionName;
@@ -24,6 +26,22 @@ const COMMANDS: [CommandName; 6] = [
     CommandName::Lines,
     CommandName::Serve,
 ];
+
+/// The option of these that is written so.
+fn option_among(options: &[OptionName], flag: &str) -> Option<OptionName>
+    ensures { result ≡ find (λ option. bytes_eq flag.now (flag_of option)) options.now }
+{
+    match options {
+        [] => None,
+        [option, rest @ ..] => {
+            if flag == option.flag() {
+                Some(*option)
+            } else {
+                option_among(rest, flag)
+            }
+        }
+    }
+}
 
 impl CommandName {
     /// The command of this name.
@@ -59,8 +77,24 @@ impl CommandName {
         }
     }
 
+    /// Whether the command takes device words.
+    pub(crate) fn is_served(self) -> bool
+        ensures { result ≡ is_served self }
+    {
+        match self {
+            CommandName::Serve => true,
+            CommandName::Decode
+            | CommandName::Replay
+            | CommandName::Generate
+            | CommandName::Pseudo
+            | CommandName::Lines => false,
+        }
+    }
+
     /// The options that the command has.
-    pub fn options(self) -> &'static [OptionName] {
+    pub fn options(self) -> &'static [OptionName]
+        ensures { result.now ≡ options_of self }
+    {
         match self {
             CommandName::Decode | CommandName::Pseudo => &[OptionName::Bytes],
             CommandName::Replay => &[OptionName::History, OptionName::Queue],
@@ -78,14 +112,12 @@ impl CommandName {
         }
     }
 
-    /// The command's option of this name.
-    pub(crate) fn option(self, name: &str) -> Option<OptionName> {
-        for option in self.options() {
-            if option.text() == name {
-                return Some(*option);
-            }
-        }
-        None
+    /// The command's option that is written so, with its dashes.
+    #[tactic(auto, unfolding(crate::specs::Options::option_named))]
+    pub(crate) fn option(self, flag: &str) -> Option<OptionName>
+        ensures { result ≡ option_named self flag.now }
+    {
+        option_among(self.options(), flag)
     }
 
     /// The command's option whose name is fewest edits away, at most two.

@@ -1,5 +1,6 @@
 //! Why the words of the command line are refused, in words for a person, and the help. [`question_in`] reads words that ask for help or for the
-//! version, and [`refused`] gives a reason exactly if no command and no daemon is asked for. This project's own.
+//! version, and [`refused`] gives a reason exactly if no command and no daemon is asked for. The reason is true: the cause that it gives is one of
+//! the word that it names. This project's own.
 #![tactic(auto)]
 
 mod cause;
@@ -8,6 +9,7 @@ mod device;
 mod help;
 mod near;
 mod option_name;
+mod place;
 mod question;
 mod refusal;
 mod told;

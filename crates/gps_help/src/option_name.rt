@@ -1,3 +1,6 @@
+ghost use Rattle.std.specs.Prelude.{◌≡◌};
+ghost use Rattle.gps_help.specs.Options.{flag_of, range_of, takes};
+
 use gps_words::{bytes_within, is_address, number_within};
 
 /// An option of a command.
@@ -33,8 +36,28 @@ impl OptionName {
         }
     }
 
+    /// The name with its two dashes, as it is written.
+    #[tactic(auto, unfolding(crate::specs::Options::flag_of))]
+    pub(crate) fn flag(self) -> &'static str
+        ensures { result.now ≡ flag_of self }
+    {
+        match self {
+            OptionName::Listen => "--listen",
+            OptionName::Queue => "--queue",
+            OptionName::History | OptionName::Bytes => "--history",
+            OptionName::Wait => "--wait",
+            OptionName::Monitor => "--monitor",
+            OptionName::Reopen => "--reopen",
+            OptionName::Stop => "--stop",
+            OptionName::Seed => "--seed",
+            OptionName::Size => "--size",
+        }
+    }
+
     /// The least and the greatest number that the option takes, if it takes one.
-    pub fn range(self) -> Option<(u32, u32)> {
+    pub fn range(self) -> Option<(u32, u32)>
+        ensures { result ≡ range_of self }
+    {
         match self {
             OptionName::Listen | OptionName::Stop => None,
             OptionName::Queue => Some((1, 65_536)),
@@ -48,7 +71,10 @@ impl OptionName {
     }
 
     /// Whether the option takes this text.
-    pub(crate) fn takes(self, text: &str) -> bool {
+    #[tactic(auto, unfolding(crate::specs::Options::takes))]
+    pub(crate) fn takes(self, text: &str) -> bool
+        ensures { result ≡ takes self text.now }
+    {
         match self {
             OptionName::Listen => is_address(text.as_bytes()),
             OptionName::Stop => !text.is_empty(),

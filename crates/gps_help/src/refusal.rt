@@ -1,10 +1,17 @@
-ghost use Rattle.std.specs.Prelude.{◌≡◌, ◌<◌, IfOk, IfSome, is_some, length, map, not, string_bytes};
+ghost use Rattle.std.specs.Prelude.{◌≡◌, ◌<◌, true, false, None, Some, IfOk, IfSome, is_some, length, map, not, slice_get, string_bytes};
+ghost use Rattle.gps_help.specs.Causes.{HasCause, HasCauseAt, IsCauseWithin, Names};
+ghost use Rattle.gps_help.specs.Places.{is_alone, is_dashed, is_stopped, option_before, passes, stop_of};
+ghost use Rattle.gps_help.specs.Questions.{asks_help};
 ghost use Rattle.gps_help.specs.Refusals.{IsThere, command_in, is_asked};
 
 use crate::device::device_cause;
-use crate::question::{asks_for_version, asks_help};
-use crate::word::{Form, form_of, is_plain, option_before, option_in};
-use crate::{Cause, CommandName, DeviceCause, OptionName};
+use crate::place::{
+    end_of, has_word_before, is_alone, is_named_before, is_stopped, is_value_at, option_before,
+    stop_of, word_at,
+};
+use crate::question::{asks_help, question_in};
+use crate::word::{can_be_value, head_of, is_dashed, name_of, value_of};
+use crate::{Cause, CommandName, OptionName, Question};
 use gps_fixed::NoMemory;
 use gps_words::{WordsFault, asked, serve_asked};
 use std::alloc::Global;
@@ -33,141 +40,259 @@ fn is_asked(alloc: Global, words: &[String]) -> Result<bool, NoMemory>
     }
 }
 
-/// The place of the first word that asks for help.
-fn help_in(words: &[String]) -> Option<usize> {
-    for (at, word) in words.iter().enumerate() {
-        if word.as_str() == "--help" || word.as_str() == "-h" {
-            return Some(at);
+/// What is wrong with an option of the command at this place.
+#[tactic(auto, unfolding(crate::specs::Causes::IsCauseWithin), using(crate::proofs::Causes::bad_within))]
+fn option_cause(
+    command: CommandName,
+    words: &[String],
+    stop: Option<usize>,
+    at: usize,
+    word: &str,
+    option: OptionName,
+) -> Option<Cause>
+    requires names { Names command stop at word.now option }
+    requires within { at < length words.now }
+    ensures { IfSome result (λ cause. IsCauseWithin command (map string_bytes words.now) stop at word.now cause) }
+{
+    if is_named_before(words, stop, option, at) {
+        return Some(Cause::Twice(option));
+    }
+    match value_of(word) {
+        Some(value) => {
+            if option.takes(value) {
+                return None;
+            }
+            Some(Cause::BadValue(option))
         }
+        None => {
+            if is_value_at(words, at + 1) {
+                return None;
+            }
+            Some(Cause::NoValue(option))
+        }
+    }
+}
+
+/// What is wrong with the word at this place, which begins with `-`.
+#[tactic(auto, unfolding(crate::specs::Causes::IsCauseWithin))]
+fn dashed_cause(
+    command: CommandName,
+    words: &[String],
+    stop: Option<usize>,
+    at: usize,
+    word: &str,
+) -> Option<Cause>
+    requires dashed { is_dashed word.now ≡ true }
+    requires free { is_stopped stop at ≡ false }
+    requires within { at < length words.now }
+    ensures { IfSome result (λ cause. IsCauseWithin command (map string_bytes words.now) stop at word.now cause) }
+{
+    if word == "--" {
+        return None;
+    }
+    let head = head_of(word);
+    match command.option(head) {
+        Some(option) => option_cause(command, words, stop, at, word, option),
+        None => Some(Cause::NoSuchOption(command.option_near(name_of(head)))),
+    }
+}
+
+/// What is wrong with the word at this place as the value of the option before it, if there is one.
+#[tactic(auto, unfolding(crate::specs::Causes::IsCauseWithin), using(crate::proofs::Causes::bad_after))]
+fn value_cause(
+    command: CommandName,
+    words: &[String],
+    stop: Option<usize>,
+    at: usize,
+    word: &str,
+) -> Option<Cause>
+    ensures { IfSome result (λ cause. IsCauseWithin command (map string_bytes words.now) stop at word.now cause) }
+{
+    match option_before(command, words, stop, at) {
+        Some(option) => {
+            if option.takes(word) {
+                return None;
+            }
+            Some(Cause::BadValue(option))
+        }
+        None => None,
+    }
+}
+
+/// What is wrong with the word at this place, which is no option and no option's value.
+#[tactic(auto, unfolding(crate::specs::Causes::IsCauseWithin))]
+fn alone_cause(
+    command: CommandName,
+    words: &[String],
+    stop: Option<usize>,
+    at: usize,
+    word: &str,
+) -> Option<Cause>
+    requires { is_alone command (map string_bytes words.now) stop at word.now ≡ true }
+    ensures { IfSome result (λ cause. IsCauseWithin command (map string_bytes words.now) stop at word.now cause) }
+{
+    if !command.is_served() {
+        return Some(Cause::Stray);
+    }
+    match device_cause(words, stop, at, word) {
+        Some(cause) => Some(Cause::Device(cause)),
+        None => None,
+    }
+}
+
+/// What is wrong with the word of a command at this place.
+fn cause_of(
+    command: CommandName,
+    words: &[String],
+    stop: Option<usize>,
+    at: usize,
+    word: &str,
+) -> Option<Cause>
+    requires { at < length words.now }
+    ensures { IfSome result (λ cause. IsCauseWithin command (map string_bytes words.now) stop at word.now cause) }
+{
+    if is_alone(command, words, stop, at, word) {
+        return alone_cause(command, words, stop, at, word);
+    }
+    if can_be_value(word) {
+        if let Some(cause) = value_cause(command, words, stop, at, word) {
+            return Some(cause);
+        }
+    }
+    if is_dashed(word) && !is_stopped(stop, at) {
+        return dashed_cause(command, words, stop, at, word);
     }
     None
 }
 
-/// Whether a plain word stands at this place.
-fn is_plain_at(words: &[String], at: usize) -> bool {
-    match words.get(at) {
-        Some(word) => is_plain(word.as_str()),
-        None => false,
-    }
-}
-
-/// What is wrong with the option at this place.
-fn option_cause(
+/// What is wrong with the word of a command at this place.
+#[tactic(auto, using(crate::proofs::Causes::of_words))]
+fn word_cause(
     command: CommandName,
     words: &[String],
+    stop: Option<usize>,
     at: usize,
-    name: &str,
-    value: Option<&str>,
-) -> Option<Cause> {
-    let Some(option) = command.option(name) else {
-        return Some(Cause::NoSuchOption(command.option_near(name)));
-    };
-    let is_used = (1..at).any(|before| match words.get(before) {
-        Some(word) => option_in(command, word.as_str()) == Some(option),
-        None => false,
-    });
-    if is_used {
-        return Some(Cause::Twice(option));
+) -> Option<Cause>
+    requires stop { stop ≡ stop_of (map string_bytes words.now) }
+    requires within { at < length words.now }
+    ensures { IfSome result (λ cause. HasCauseAt (map string_bytes words.now) (Some command) (Some at) cause) }
+{
+    match word_at(words, at) {
+        Some(word) => cause_of(command, words, stop, at, word),
+        None => None,
     }
-    match value {
-        Some(value) => (!option.takes(value)).then_some(Cause::BadValue(option)),
-        None => {
-            let has_value = match at.checked_add(1) {
-                Some(behind) => is_plain_at(words, behind),
-                None => false,
-            };
-            (!has_value).then_some(Cause::NoValue(option))
-        }
-    }
-}
-
-/// What is wrong with the plain word at this place.
-fn plain_cause(command: CommandName, words: &[String], at: usize, word: &str) -> Option<Cause> {
-    if let Some(option) = option_before(command, words, at) {
-        return (!option.takes(word)).then_some(Cause::BadValue(option));
-    }
-    match command {
-        CommandName::Serve => device_cause(words, at).map(Cause::Device),
-        _ => Some(Cause::Stray),
-    }
-}
-
-/// What is wrong with the word at this place.
-fn word_cause(command: CommandName, words: &[String], at: usize) -> Option<Cause> {
-    let word = words.get(at)?.as_str();
-    match form_of(word) {
-        Form::Long { name, value } => option_cause(command, words, at, name, value),
-        Form::Short => Some(Cause::NoSuchOption(None)),
-        Form::Stop => None,
-        Form::Plain => plain_cause(command, words, at, word),
-    }
-}
-
-fn has_option(command: CommandName, words: &[String], option: OptionName) -> bool {
-    words
-        .iter()
-        .any(|word| option_in(command, word.as_str()) == Some(option))
-}
-
-/// Whether a word stands for itself.
-fn has_plain(command: CommandName, words: &[String]) -> bool {
-    (1..words.len()).any(|at| is_plain_at(words, at) && option_before(command, words, at).is_none())
 }
 
 /// What the words of a command lack as a whole.
-fn lack(command: CommandName, words: &[String]) -> Cause {
+#[tactic(auto, unfolding(crate::specs::Causes::HasCauseAt, crate::specs::Causes::IsCauseOfLine))]
+fn lack(command: CommandName, words: &[String], stop: Option<usize>) -> Cause
+    requires { stop ≡ stop_of (map string_bytes words.now) }
+    ensures { HasCauseAt (map string_bytes words.now) (Some command) None result }
+{
     match command {
         CommandName::Generate => {
-            if !has_option(command, words, OptionName::Seed) {
-                Cause::Lacking(OptionName::Seed)
-            } else if !has_option(command, words, OptionName::Size) {
-                Cause::Lacking(OptionName::Size)
-            } else {
-                Cause::Other
+            if !is_named_before(words, stop, OptionName::Seed, end_of(words)) {
+                return Cause::Lacking(OptionName::Seed);
             }
+            if !is_named_before(words, stop, OptionName::Size, end_of(words)) {
+                return Cause::Lacking(OptionName::Size);
+            }
+            Cause::Other
         }
-        CommandName::Serve if !has_plain(command, words) => Cause::NoDevice,
+        CommandName::Serve => {
+            if !has_word_before(CommandName::Serve, words, stop, end_of(words)) {
+                return Cause::NoDevice;
+            }
+            Cause::Other
+        }
         _ => Cause::Other,
     }
 }
 
 /// The first word of a command at fault, and why.
 fn fault_in(command: CommandName, words: &[String]) -> (Option<usize>, Cause)
-    ensures { IfSome result.0 (λ at. at < length words.now) }
+    ensures there { IfSome result.0 (λ at. at < length words.now) }
+    ensures cause { HasCauseAt (map string_bytes words.now) (Some command) result.0 result.1 }
 {
-    for at in 1..words.len() {
-        if let Some(cause) = word_cause(command, words, at) {
+    let stop = stop_of(words);
+    'places: for at in 1..words.len() {
+        if let Some(cause) = word_cause(command, words, stop, at) {
             return (Some(at), cause);
         }
     }
-    (None, lack(command, words))
+    (None, lack(command, words, stop))
 }
 
-/// The word at fault behind `help`, and why; the program answers the others.
-fn help_fault(words: &[String]) -> (usize, Cause)
-    requires { 0 < length words.now }
-    ensures { result.0 < length words.now }
+/// The word at fault after `help`, and why.
+#[tactic(auto, unfolding(crate::specs::Causes::IsCauseBefore), using(crate::proofs::Causes::of_word, crate::proofs::Causes::of_other))]
+fn help_fault(words: &[String]) -> (Option<usize>, Cause)
+    requires { passes asks_help (slice_get (map string_bytes words.now) 0) ≡ true }
+    ensures there { IfSome result.0 (λ at. at < length words.now) }
+    ensures cause { HasCauseAt (map string_bytes words.now) None result.0 result.1 }
 {
-    match words {
-        [_, word] if CommandName::of(word.as_str()).is_none() => {
-            (1, Cause::NoSuchCommand(CommandName::near(word.as_str())))
-        }
-        [_, _, _, ..] => (2, Cause::Stray),
-        _ => (0, Cause::Help),
+    if let Some(_) = word_at(words, 2) {
+        return (Some(2), Cause::Stray);
+    }
+    match word_at(words, 1) {
+        Some(word) => match CommandName::of(word) {
+            None => (Some(1), Cause::NoSuchCommand(CommandName::near(word))),
+            Some(_) => (None, Cause::Other),
+        },
+        None => (None, Cause::Other),
     }
 }
 
 /// The word at fault of words that begin with no command, and why.
-fn fault_without_command(words: &[String], word: &str) -> (usize, Cause)
-    requires { 0 < length words.now }
-    ensures { result.0 < length words.now }
+#[tactic(auto, unfolding(crate::specs::Causes::IsCauseBefore), using(crate::proofs::Causes::of_word, crate::proofs::Causes::of_none, crate::proofs::Causes::first_named))]
+fn fault_without_command(words: &[String]) -> (Option<usize>, Cause)
+    requires { command_in (map string_bytes words.now) ≡ None }
+    ensures there { IfSome result.0 (λ at. at < length words.now) }
+    ensures cause { HasCauseAt (map string_bytes words.now) None result.0 result.1 }
 {
-    if asks_help(word) {
-        help_fault(words)
-    } else if asks_for_version(word) {
-        (0, Cause::Version)
-    } else {
-        (0, Cause::NoSuchCommand(CommandName::near(word)))
+    match word_at(words, 0) {
+        Some(word) => {
+            if asks_help(word) {
+                return help_fault(words);
+            }
+            (Some(0), Cause::NoSuchCommand(CommandName::near(word)))
+        }
+        None => (None, Cause::NoCommand),
+    }
+}
+
+/// The word at fault of words that ask nothing of the program itself, and why.
+fn fault_of(words: &[String], command: Option<CommandName>) -> (Option<usize>, Cause)
+    requires { command ≡ command_in (map string_bytes words.now) }
+    ensures there { IfSome result.0 (λ at. at < length words.now) }
+    ensures cause { HasCauseAt (map string_bytes words.now) command result.0 result.1 }
+{
+    match command {
+        Some(command) => fault_in(command, words),
+        None => fault_without_command(words),
+    }
+}
+
+/// The word at fault, and why; or what the words ask of the program itself.
+#[tactic(auto, unfolding(crate::specs::Causes::HasCauseAt, crate::specs::Causes::IsCauseOfLine))]
+fn fault_or_question(words: &[String], command: Option<CommandName>) -> (Option<usize>, Cause)
+    requires { command ≡ command_in (map string_bytes words.now) }
+    ensures there { IfSome result.0 (λ at. at < length words.now) }
+    ensures cause { HasCauseAt (map string_bytes words.now) command result.0 result.1 }
+{
+    match question_in(words) {
+        Some(Question::Version) => (None, Cause::Version),
+        Some(Question::Help | Question::HelpOf(_)) => (None, Cause::Help),
+        None => fault_of(words, command),
+    }
+}
+
+/// The command that the words begin with.
+fn command_in(words: &[String]) -> Option<CommandName>
+    ensures { result ≡ command_in (map string_bytes words.now) }
+{
+    match words {
+        [] => None,
+        [word, ..] => CommandName::of(word.as_str()),
     }
 }
 
@@ -175,40 +300,21 @@ fn fault_without_command(words: &[String], word: &str) -> (usize, Cause)
 fn reason(words: &[String]) -> Refusal
     ensures there { IsThere result (length words.now) }
     ensures command { result.command ≡ command_in (map string_bytes words.now) }
+    ensures cause { HasCause (map string_bytes words.now) result }
 {
-    let [word, ..] = words else {
-        return Refusal {
-            command: None,
-            at: None,
-            cause: Cause::NoCommand,
-        };
-    };
-    let Some(command) = CommandName::of(word.as_str()) else {
-        let (at, cause) = fault_without_command(words, word.as_str());
-        return Refusal {
-            command: None,
-            at: Some(at),
-            cause,
-        };
-    };
-    let (at, cause) = match help_in(words) {
-        Some(_) => (None, Cause::Help),
-        None => fault_in(command, words),
-    };
-    Refusal {
-        command: Some(command),
-        at,
-        cause,
-    }
+    let command = command_in(words);
+    let (at, cause) = fault_or_question(words, command);
+    Refusal { command, at, cause }
 }
 
 /// Why the words, which stand without the program's name, are refused: a reason comes exactly if they ask for no command and not
-/// for the daemon. The reason names the command that the words begin with, and a word only by its place among them; which of several
-/// causes it names is free.
+/// for the daemon. The reason names the command that the words begin with, and a word only by its place among them. It is true: the
+/// cause is one of that word, or of the whole line if no word is named. Which of several causes it names is free.
 pub fn refused(alloc: Global, words: &[String]) -> Result<Option<Refusal>, NoMemory>
     ensures exact { IfOk result (λ reason. is_some reason ≡ not (is_asked (map string_bytes words.now))) }
     ensures there { IfOk result (λ reason. IfSome reason (λ r. IsThere r (length words.now))) }
     ensures command { IfOk result (λ reason. IfSome reason (λ r. r.command ≡ command_in (map string_bytes words.now))) }
+    ensures cause { IfOk result (λ reason. IfSome reason (λ r. HasCause (map string_bytes words.now) r)) }
 {
     let asks = is_asked(alloc, words)?;
     if asks {

@@ -130,6 +130,15 @@ fn write_place<W: fmt::Write>(place: &str, f: &mut fmt::Formatter<W>) -> fmt::Re
 }
 
 impl Told<'_> {
+    /// The word as it is shown: an empty one in quotes.
+    fn shown(&self) -> &str {
+        if self.word.is_empty() {
+            "\"\""
+        } else {
+            self.word
+        }
+    }
+
     fn command(&self) -> &'static str {
         match self.refusal.command {
             Some(command) => command.text(),
@@ -156,7 +165,7 @@ impl Told<'_> {
         if word.contains('=') {
             return write!(f, "{}: no such command; say serve {}", word, word);
         }
-        write!(f, "{}: no such command", word)?;
+        write!(f, "{}: no such command", self.shown())?;
         match near {
             Some(command) => write!(f, "; did you mean {}?", command.text()),
             None => f.write_str("; gpsrelay help lists all"),
@@ -187,14 +196,14 @@ impl Told<'_> {
                 write!(
                     f,
                     "{}: generate takes options alone: generate --seed N --size N",
-                    word
+                    self.shown()
                 )
             }
-            Some(command) if word == "-" => {
+            Some(command) if word.is_empty() || word == "-" => {
                 write!(
                     f,
                     "{}: leave it out: {} reads standard input",
-                    word,
+                    self.shown(),
                     command.text()
                 )
             }
@@ -206,7 +215,7 @@ impl Told<'_> {
                 command.text(),
                 word
             ),
-            None => write!(f, "{}: help takes one command", word),
+            None => write!(f, "{}: help takes one command", self.shown()),
         }
     }
 
@@ -215,7 +224,7 @@ impl Told<'_> {
         option: OptionName,
         f: &mut fmt::Formatter<W>,
     ) -> fmt::Result {
-        write!(f, "{}: --{} takes ", self.word, option.text())?;
+        write!(f, "{}: --{} takes ", self.shown(), option.text())?;
         write_value(option, f)?;
         let value = match self.word.split_once('=') {
             Some((_, value)) if self.word.starts_with("--") => value,
@@ -244,7 +253,12 @@ impl Told<'_> {
 
     fn write_no_name<W: fmt::Write>(&self, f: &mut fmt::Formatter<W>) -> fmt::Result {
         let word = self.word;
-        write!(f, "{}: say ", word)?;
+        write!(f, "{}: say ", self.shown())?;
+        if word.is_empty() {
+            return f.write_str(
+                "NAME=file:PATH, NAME=tcp:HOST:PORT, NAME=gpsd:HOST:PORT or NAME=edges:PATH",
+            );
+        }
         if !has_kind(word) && !word.starts_with('/') {
             if let Some((name, place)) = word.split_once(':') {
                 if place.starts_with('/') && !place.starts_with("//") || has_kind(place) {

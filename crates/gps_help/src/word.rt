@@ -1,78 +1,69 @@
-use crate::{CommandName, OptionName};
+ghost use Rattle.std.specs.Prelude.{◌≡◌, ◌<◌, option_map};
+ghost use Rattle.gps_words.specs.Devices.{halves};
+ghost use Rattle.gps_words.specs.Numbers.{is_digit};
+ghost use Rattle.gps_help.specs.Places.{can_be_value, head_of, is_dashed, value_of};
 
-/// What a word behind the command is by its form.
-#[derive(Clone, Copy)]
-pub(crate) enum Form<'a> {
-    /// `--NAME`, with what stands behind its `=`, if there is one.
-    Long {
-        name: &'a str,
-        value: Option<&'a str>,
-    },
-    /// `-` and letters.
-    Short,
-    /// `--` alone: what follows are no options.
-    Stop,
-    /// All else: a value or a word that stands for itself.
-    Plain,
+/// Whether a word begins with `-` and is more than that.
+#[tactic(auto, unfolding(crate::specs::Places::is_dashed))]
+pub(crate) fn is_dashed(word: &str) -> bool
+    ensures { result ≡ is_dashed word.now }
+{
+    let bytes = word.as_bytes();
+    bytes.len() > 1 && bytes[0] == b'-'
 }
 
-pub(crate) fn form_of(word: &str) -> Form<'_> {
-    if word == "--" {
-        return Form::Stop;
-    }
-    match word.strip_prefix("--") {
-        Some(rest) => match rest.split_once('=') {
-            Some((name, value)) => Form::Long {
-                name,
-                value: Some(value),
-            },
-            None => Form::Long {
-                name: rest,
-                value: None,
-            },
-        },
-        None => {
-            if word != "-" && word.starts_with('-') {
-                Form::Short
-            } else {
-                Form::Plain
-            }
-        }
-    }
+fn is_digit(byte: u8) -> bool
+    ensures { result ≡ is_digit byte }
+{
+    b'0' <= byte && byte <= b'9'
 }
 
-/// Whether a word may be the value of the option before it.
-pub(crate) fn is_plain(word: &str) -> bool {
-    matches!(form_of(word), Form::Plain)
+/// Whether a word can be meant as the value of the option before it: one without a `-`, or a number with one.
+#[tactic(auto, unfolding(crate::specs::Places::can_be_value, crate::specs::Places::is_dashed))]
+pub(crate) fn can_be_value(word: &str) -> bool
+    ensures { result ≡ can_be_value word.now }
+{
+    let bytes = word.as_bytes();
+    !(bytes.len() > 1 && bytes[0] == b'-') || is_digit(bytes[1])
 }
 
-/// The option of the command that a word names.
-pub(crate) fn option_in(command: CommandName, word: &str) -> Option<OptionName> {
-    match form_of(word) {
-        Form::Long { name, value: _ } => command.option(name),
-        Form::Short | Form::Stop | Form::Plain => None,
+/// What comes before the first such character, which is ASCII, and what comes after it.
+pub(crate) fn halves(text: &str, mark: char) -> Option<(&str, &str)>
+    requires { mark < 128 }
+    ensures { option_map (λ parts. (parts.0.now, parts.1.now)) result ≡ halves mark text.entry.now }
+{
+    text.split_once(mark)
+}
+
+/// What comes before the first `=` of a word, or the word.
+#[tactic(auto, unfolding(crate::specs::Places::head_of))]
+pub(crate) fn head_of(word: &str) -> &str
+    ensures { result.now ≡ head_of word.entry.now }
+{
+    match halves(word, '=') {
+        Some((head, _)) => head,
+        None => word,
     }
 }
 
-/// The option of the command whose value is the next word.
-fn option_waiting(command: CommandName, word: &str) -> Option<OptionName> {
-    match form_of(word) {
-        Form::Long { name, value: None } => command.option(name),
-        _ => None,
-    }
-}
-
-/// The option whose value the plain word at this place is, if it is one.
-pub(crate) fn option_before(
-    command: CommandName,
-    words: &[String],
-    at: usize,
-) -> Option<OptionName> {
-    match at.checked_sub(1) {
-        Some(before) => match words.get(before) {
-            Some(word) => option_waiting(command, word.as_str()),
-            None => None,
-        },
+/// What comes after the first `=` of a word.
+#[tactic(auto, unfolding(crate::specs::Places::value_of))]
+pub(crate) fn value_of(word: &str) -> Option<&str>
+    ensures { option_map (λ value. value.now) result ≡ value_of word.entry.now }
+{
+    match halves(word, '=') {
+        Some((_, value)) => Some(value),
         None => None,
+    }
+}
+
+/// What an option is called without its dashes.
+pub(crate) fn name_of(flag: &str) -> &str {
+    match flag.strip_prefix("--") {
+        Some(name) => name,
+        None => match flag.strip_prefix('-') {
+            Some(name) => name,
+            None => flag,
+        },
     }
 }

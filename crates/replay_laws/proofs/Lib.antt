@@ -3,3 +3,12 @@ pub mod Stamps
 pub mod Lines
 pub mod States
 pub mod Runs
+pub mod Apart
+pub mod Rows
+pub mod Growing
+pub mod Chosen
+pub mod Written
+pub mod Endings
+pub mod Printed
+pub mod Others
+pub mod Escapes

@@ -1,6 +1,6 @@
 -- No stamp that a line of a script writes lies before 1970.
 use Rattle.std.proofs.Common.{ℕ, Bool, true, false, cond, List, [], ◌∷◌, Option, Some, None, IfSome, arith}
-use Rattle.std.specs.Prelude.{codes, drop, nat_eq, nat_le, option_and_then, pos, unwrap_or, ◌==◌, if◌then◌else◌}
+use Rattle.std.specs.Prelude.{codes, drop, nat_le, option_and_then, pos, unwrap_or, ◌==◌, if◌then◌else◌}
 use Rattle.std.specs.Option.{option_map}
 use Rattle.std.specs.Str.{bytes_eq}
 use Rattle.std.proofs.lemmas.Int.{ints}

@@ -9,7 +9,7 @@ use Rattle.std.proofs.lemmas.Option.{slice_get-get_or}
 use Rattle.shm_segment.specs.declared.sample.Sample.{Sample}
 use Rattle.shm_segment.specs.declared.view.Numbered.{Numbered}
 use Rattle.shm_segment.specs.Samples.{body_of, no_sample, sample_of}
-use Rattle.shm_segment.specs.Words.{published_after, count_at, count_after, body_at, body_word, body_after, words_of, body_places}
+use Rattle.shm_segment.specs.Words.{published_after, count_after, body_at, body_word, body_after, words_of, body_places}
 use Rattle.shm_segment.specs.Rule.{IsCounted, IsPublished, IsRunning, IsWhole, Rises, last_from}
 use Rattle.shm_segment.proofs.Samples.{body_there}
 use Rattle.shm_segment.proofs.Running.{body_after_more, even_count, flag, half_count, still_body}

@@ -1,5 +1,5 @@
 -- What monitors take over any lines of a script, and what is written of it.
-use Rattle.std.proofs.Common.{◌≡◌, ◌≢◌, ℕ, zero, suc, ◌+◌, ◌<◌, ◌≤◌, Bool, true, false, cond, List, [], ◌∷◌, ◌++◌, length, map, refl, sym, ap, ◌∙◌, subst, append-nil, append_assoc, arith, Option, Some, None, IfSome, option_map}
+use Rattle.std.proofs.Common.{◌≡◌, ◌≢◌, ℕ, zero, suc, ◌<◌, ◌≤◌, Bool, true, false, cond, List, [], ◌∷◌, ◌++◌, length, map, refl, sym, ap, ◌∙◌, subst, append-nil, append_assoc, arith, Option, Some, None, IfSome, option_map}
 use Rattle.std.specs.Prelude.{nat_eq, nat_lt, option_and_then, replicate, slice_get, slice_index, slice_set, unwrap_or}
 use Rattle.std.specs.List.{AllByRecursion}
 use Rattle.std.proofs.lemmas.Bool.Decides.{nat_tests}
@@ -18,7 +18,7 @@ use Rattle.replay_monitors.specs.Loads.{reading_after, step_of}
 use Rattle.replay_script.specs.Events.{event_in}
 use Rattle.replay_script.specs.declared.event.ScriptEvent.{ScriptEvent}
 use Rattle.replay_script.specs.declared.event.ScriptEvent.TheVariants.{Nothing, Device, Segment, Feed, Edge, End, Lose, Open, Input, Hang, Take, Monitor, Store, Load}
-use Rattle.replay_player.specs.Effects.{EventEffect, effect, load_lines, loads, quietly, reading_after_loads, step_line, stores, watches, with_watch}
+use Rattle.replay_player.specs.Effects.{EventEffect, effect, load_lines, loads, quietly, reading_after_loads, step_line, with_watch}
 use Rattle.replay_player.specs.States.{MonitorState, State, most_units, new_state, samples_at, words_at}
 use Rattle.gps_replay.specs.Run.{effect_of, of_line, rules_of}
 use Rattle.replay_laws.specs.Readings.{EndedReading, IsOfPublished, TakesPublished, ended_at, ended_by, lines_of, readings_at, readings_at_line, readings_at_load, readings_by, readings_from, readings_in, readings_of, taken_at, taken_by, taken_in}

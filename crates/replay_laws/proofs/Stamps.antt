@@ -1,6 +1,6 @@
 -- No stamp of a report lies before 1970, if none of the device's stream does. So each sample of a unit is read back from its words.
-use Rattle.std.proofs.Common.{◌≡◌, ℕ, zero, suc, ◌+◌, ◌-◌, ◌*◌, ◌/◌, Bool, true, false, cond, ◌&&◌, List, [], ◌∷◌, ◌++◌, length, map, take, drop, refl, sym, ap, subst, arith, Option, Some, None, IfSome, option_map, option_to_list}
-use Rattle.std.specs.Prelude.{ℤ, pos, ◌≤ℤ◌, negsuc, reverse, unsigned_abs, unwrap_or}
+use Rattle.std.proofs.Common.{◌≡◌, ℕ, zero, suc, ◌+◌, ◌-◌, Bool, true, false, cond, ◌&&◌, List, [], ◌∷◌, ◌++◌, map, take, drop, sym, subst, arith, Option, Some, None, IfSome, option_map, option_to_list}
+use Rattle.std.specs.Prelude.{ℤ, pos, ◌≤ℤ◌, reverse, unsigned_abs, unwrap_or}
 use Rattle.std.specs.Int.{w64, cast_signed, cast_unsigned}
 use Rattle.std.specs.List.{AllByRecursion}
 use Rattle.std.specs.Option.{option_or}
@@ -18,10 +18,9 @@ use Rattle.gps_report.specs.declared.report.Body.TheVariants as body
 use Rattle.gps_report.specs.declared.report.Report.{Report}
 use Rattle.packet_cut.specs.declared.head.Head.{Head}
 use Rattle.packet_cut.specs.declared.head.Head.TheVariants as head
-use Rattle.packet_cut.specs.Packets.{Part, Stamped, by_head, head_of_stream, packet, packets_of, parts_from}
+use Rattle.packet_cut.specs.Packets.{Part, Stamped, by_head, head_of_stream, packet, parts_from}
 use Rattle.epoch_core.specs.declared.heard.Heard.{Heard}
-use Rattle.epoch_core.specs.declared.said.Said.{Said}
-use Rattle.epoch_core.specs.Days.{Dated, dated, day_known}
+use Rattle.epoch_core.specs.Days.{Dated, dated}
 use Rattle.epoch_core.specs.Epochs.{all_closed, all_told, begins, closing, epochs, epochs_of, has_ended, joined, left, reports, running, sky_of, toffs}
 use Rattle.epoch_core.specs.Fixes.{fix_of}
 use Rattle.epoch_core.specs.Past.{earliest}
@@ -33,7 +32,6 @@ use Rattle.book_log.specs.Entries.{Entry, Got, Ended, Lost, stream, symbol_of}
 use Rattle.book_log.specs.History.{announced, history, history_after, reports_at}
 use Rattle.book_log.specs.Readings.{first_stamp, of_device}
 use Rattle.book_units.specs.Samples.{pulse_precision, sample_of, samples_in, samples_of, serial_precision}
-use Rattle.shm_segment.specs.declared.sample.Sample.{Sample}
 use Rattle.replay_laws.proofs.Loads.{IsKept}
 
 abbrev pub IsLate : Moment → Type 0

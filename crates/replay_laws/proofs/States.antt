@@ -51,13 +51,13 @@ number_set P (z ∷ xs) zero n new (suc j) old = old
 number_set P (z ∷ xs) (suc k) n new zero old = old
 number_set P (z ∷ xs) (suc k) n new (suc j) old = number_set (λ i m. P (suc i) m) xs k n new j old
 
-at_longer : {X : Type 0} (xs : List X) (x y : X) (j : ℕ) → slice_get (xs ++ x ∷ []) j ≡ Some y → j ≢ length xs → slice_get xs j ≡ Some y
+pub at_longer : {X : Type 0} (xs : List X) (x y : X) (j : ℕ) → slice_get (xs ++ x ∷ []) j ≡ Some y → j ≢ length xs → slice_get xs j ≡ Some y
 at_longer [] x y zero there other = absurd (other refl)
 at_longer [] x y (suc j) there other = absurd (cc)
 at_longer (z ∷ xs) x y zero there other = there
 at_longer (z ∷ xs) x y (suc j) there other = at_longer xs x y j there (λ e. other (ap suc e))
 
-at_last : {X : Type 0} (xs : List X) (x y : X) → slice_get (xs ++ x ∷ []) (length xs) ≡ Some y → x ≡ y
+pub at_last : {X : Type 0} (xs : List X) (x y : X) → slice_get (xs ++ x ∷ []) (length xs) ≡ Some y → x ≡ y
 at_last [] x y there = cc
 at_last (z ∷ xs) x y there = at_last xs x y there
 
@@ -104,14 +104,14 @@ pub record Does (lasts : Lasts) (readings : List EndedReading) (after : State) :
 pub silently : (lasts : Lasts) (after : State) → Holds lasts after → Does lasts [] after
 silently lasts after holds = record { holds = record { before = holds.before; late = holds.late; reach = holds.reach; reads = holds.reads; fresh = holds.fresh }; published = tt; rises = λ m. tt }
 
-allowed_is : {X : Type 0} (ok : Bool) (x y : X) → allowed ok x ≡ Some y → (ok ≡ true) × (x ≡ y)
+pub allowed_is : {X : Type 0} (ok : Bool) (x y : X) → allowed ok x ≡ Some y → (ok ≡ true) × (x ≡ y)
 allowed_is true x y e = (refl, let same : x ≡ y = cc in same)
 allowed_is false x y e = absurd (cc)
 
 pub state_is : (x y : EventEffect) → x ≡ y → x.state ≡ y.state
 state_is x y e = ap (λ (z : EventEffect). z.state) e
 
-first_true : (a b : Bool) → (a && b) ≡ true → a ≡ true
+pub first_true : (a b : Bool) → (a && b) ≡ true → a ≡ true
 first_true true b e = refl
 first_true false b e = absurd (cc)
 

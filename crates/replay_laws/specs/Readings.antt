@@ -1,5 +1,5 @@
 -- The readings that end in the run of a script, line by line, and what monitors take by them. This project's own; a reading is that of the NTP reference clock driver 28, mode 1.
-use Rattle.std.specs.Prelude.{ℕ, zero, suc, List, [], ◌∷◌, ◌++◌, cond, map, nat_eq, slice_get, slice_index, Option, Some, None, option_map, unwrap_or}
+use Rattle.std.specs.Prelude.{ℕ, zero, suc, Bool, List, [], ◌∷◌, ◌++◌, cond, map, nat_eq, slice_get, slice_index, Option, Some, None, option_map, unwrap_or}
 use Rattle.std.specs.List.{flat_map}
 use Rattle.shm_segment.specs.declared.view.Numbered.{Numbered}
 use Rattle.shm_segment.specs.Rule.{IsPublished}
@@ -85,6 +85,10 @@ taken_at monitor r = cond (nat_eq r.monitor monitor) (taken_in r.reading) []
 -- the samples that one monitor takes, with their numbers, in order
 abbrev pub taken_by : ℕ → List EndedReading → List Numbered
 taken_by monitor readings = flat_map (taken_at monitor) readings
+
+-- whether monitor m made it
+abbrev pub is_by : ℕ → EndedReading → Bool
+is_by m r = nat_eq r.monitor m
 
 abbrev pub line_of : EndedReading → List ℕ
 line_of r = reading_line r.monitor r.reading

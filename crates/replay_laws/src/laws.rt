@@ -1,11 +1,60 @@
-//! The laws of the monitors of a script, as contracts of functions that do nothing.
+//! The laws of the output of a script, and of its monitors, as contracts of functions that do nothing.
 
-ghost use Rattle.std.specs.Prelude.{◌≡◌, ℕ, List, Some};
-ghost use Rattle.std.specs.List.{AllByRecursion};
+ghost use Rattle.std.specs.Prelude.{◌≡◌, ◌<◌, ◌^◌, ℕ, true, List, [], Some, None, map, slice_get};
+ghost use Rattle.std.specs.List.{AllByRecursion, concat, filter, list_all};
+ghost use Rattle.ubx_frame.specs.Frame.{is_byte};
+ghost use Rattle.line_cut.specs.Lines.{line_cut, lines};
+ghost use Rattle.output_lines.specs.Items.{item_line};
 ghost use Rattle.shm_segment.specs.Rule.{Rises};
+ghost use Rattle.replay_player.specs.Clients.{Client};
 ghost use Rattle.replay_player.specs.Effects.{EventEffect, loads};
 ghost use Rattle.replay_player.specs.States.{State};
-ghost use Rattle.replay_laws.specs.Readings.{IsOfPublished, lines_of, readings_at_load, readings_of, taken_by};
+ghost use Rattle.gps_replay.specs.Closings.{closings};
+ghost use Rattle.gps_replay.specs.Run.{run};
+ghost use Rattle.replay_laws.specs.Readings.{IsOfPublished, is_by, line_of, lines_of, readings_at_load, readings_of, taken_by};
+ghost use Rattle.replay_laws.specs.Outputs.{IsDrained, RefusesALine, RefusesNoLine, end_state, is_other_line, last_state};
+ghost use Rattle.replay_laws.specs.Outputs.{lines_taken, monitor_lines, session_lines, taken_line, taken_lines};
+
+/// The output of a script is its lines, each with its line feed, and nothing else.
+pub fn an_output_is_its_lines()
+    ensures { (queue : ℕ) (script : List ℕ) → concat (lines (run queue script)) ≡ run queue script }
+{}
+
+/// The lines of session S in the output of a script are those that begin with `sS `. If no line of the script is refused, they are
+/// the lines of all items that the session's run selects of the log, in order, and then its closing line (`whole`). If one is
+/// refused, they are those of the items that were taken before it, the first of the same items (`refused`). A number that no
+/// session has has no line (`none`).
+pub fn sessions_are_written_their_items()
+    ensures whole { (queue : ℕ) (script : List ℕ) (s : ℕ) (c : Client) → RefusesNoLine queue script
+        → slice_get (end_state queue script).clients s ≡ Some c → IsDrained s (end_state queue script) c (run queue script) }
+    ensures refused { (queue : ℕ) (script : List ℕ) (s : ℕ) (c : Client) → RefusesALine queue script
+        → slice_get (last_state queue script).clients s ≡ Some c
+        → session_lines s (run queue script) ≡ lines_taken s (last_state queue script) c }
+    ensures none { (queue : ℕ) (script : List ℕ) (s : ℕ) → s < 2 ^ 64 → slice_get (last_state queue script).clients s ≡ None
+        → session_lines s (run queue script) ≡ [] }
+{}
+
+/// The line of an item tells the item: two items of bytes that have the same line are the same.
+pub fn item_lines_tell_their_items()
+    ensures { (s : ℕ) (one other : List ℕ) → list_all is_byte one ≡ true → list_all is_byte other ≡ true
+        → item_line s one ≡ item_line s other → one ≡ other }
+{}
+
+/// The lines of monitor M in the output of a script are those that begin with `mM `. They are the lines of the readings that it
+/// ended, in order (`readings`). Those that begin with `mM taken ` are the lines of the samples that it took (`taken`), of which
+/// `monitors_take_published_samples` speaks.
+pub fn monitors_are_written_their_readings()
+    ensures readings { (queue : ℕ) (script : List ℕ) (m : ℕ) → m < 2 ^ 64
+        → monitor_lines m (run queue script) ≡ map line_of (filter (is_by m) (readings_of queue (line_cut script))) }
+    ensures taken { (queue : ℕ) (script : List ℕ) (m : ℕ) → m < 2 ^ 64
+        → taken_lines m (run queue script) ≡ map (taken_line m) (taken_by m (readings_of queue (line_cut script))) }
+{}
+
+/// The closing lines of a script, which `generate` writes, are its output without the lines of items and of readings. A line of a
+/// session is its closing line exactly if `drained` comes after its number: no item begins so.
+pub fn closings_are_the_other_lines()
+    ensures { (queue : ℕ) (script : List ℕ) → closings queue script ≡ concat (filter is_other_line (lines (run queue script))) }
+{}
 
 /// Each sample that a monitor takes is the published sample of its number: the number is above the unit's first number, by no more
 /// than the number of samples that are published at that line (`published`). The numbers that one monitor takes do not fall

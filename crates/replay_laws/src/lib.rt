@@ -1,6 +1,11 @@
-//! What monitors take in the run of a script, through all of its lines. This project's own.
+//! What the output of a script holds: the items of its sessions, the readings of its monitors, and its closing lines. And what its
+//! monitors take, through all of its lines. This project's own.
 #![tactic(auto)]
 
 mod laws;
 
-pub use laws::{loads_write_their_readings, monitors_take_published_samples};
+pub use laws::{
+    an_output_is_its_lines, closings_are_the_other_lines, item_lines_tell_their_items,
+    loads_write_their_readings, monitors_are_written_their_readings,
+    monitors_take_published_samples, sessions_are_written_their_items,
+};

@@ -237,6 +237,9 @@ def forms():
     told = json.loads(file_of(lines, "geojson", "--title", title))
     check("GeoJSON: its features", ("FeatureCollection", [(title, "stdin", 1), (title, "stdin", 2)]),
           (told["type"], [tuple(feature["properties"][name] for name in ("name", "device", "segment")) for feature in told["features"]]))
+    for format_ in FORMATS:
+        status, text, errors = export(tpv(0, device="a\ud800b"), "--format", format_, "--title", "c\udcff")
+        check(f"{format_}: a device and a title that UTF-8 cannot say", (0, [wanted_points(tpv(0))], ""), (status, READERS[format_](text) if status == 0 else text, errors[-200:]))
     point = json.loads(file_of(tpv(0), "geojson"))["features"][0]["geometry"]
     check("GeoJSON: one fix is a point", {"type": "Point", "coordinates": [11.5, 48.0]}, point)
     first = file_of(lines, "csv").split("\n", 2)

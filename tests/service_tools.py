@@ -66,7 +66,14 @@ class Terminal:
 
     def is_read_by(self, daemon):
         folder = f"{daemon.place}/fd"
-        return until(lambda: self.name in [os.readlink(f"{folder}/{it}") for it in os.listdir(folder) if os.path.islink(f"{folder}/{it}")])
+
+        def is_led_to_by(file):
+            try:
+                return os.readlink(f"{folder}/{file}") == self.name
+            except FileNotFoundError:  # it was closed meanwhile
+                return False
+
+        return until(lambda: any(map(is_led_to_by, os.listdir(folder))))
 
     def send(self, data):
         os.write(self.master, data)

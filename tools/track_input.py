@@ -103,10 +103,12 @@ def written(call):
 
 
 def write(path, text):
-    """Writes a text to a file, or to standard output if there is no path."""
+    """Writes a text to a file, or to standard output if there is no path. What UTF-8 cannot say, as half a pair of UTF-16 in a device's name,
+    is a question mark there."""
+    data = text.encode(errors="replace")
     if path is None:
-        sys.stdout.buffer.write(text.encode())
+        sys.stdout.buffer.write(data)
         sys.stdout.buffer.flush()
     else:
-        with open(path, "w", encoding="utf-8", newline="") as out:
-            out.write(text)
+        with open(path, "wb") as out:
+            out.write(data)

@@ -182,7 +182,7 @@ fraction_small k used value power ds first rest e f r read back p =
     let read_is = front.1 ∙ ap number f in
     subst (λ n. n < 10 ^ k) (sym (ap (λ q. value * q) p ∙ first_value k used value ds all e read_is)) (first_small k ds all)
 
--- digits before the point and digits behind it, as one number
+-- digits before the point and digits after it, as one number
 pub scaled_small : (a k whole power behind : ℕ) → whole < 10 ^ a → power ≡ 10 ^ k → behind < 10 ^ k → whole * power + behind < 10 ^ (a + k)
 scaled_small a k whole power behind w p b =
     let step : (whole + 1) * 10 ^ k ≤ 10 ^ a * 10 ^ k = mul-le-mul_right (10 ^ k) (omega (arith, w)) in

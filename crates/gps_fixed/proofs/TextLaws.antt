@@ -12,7 +12,7 @@ use Rattle.gps_fixed.specs.Text.{digits_in}
 pub decimal_one : (n : ℕ) → n < 10 → decimal n ≡ (48 + n % 10) ∷ []
 decimal_one n h = decimal_digit n h ∙ ap (λ d. (48 + d) ∷ []) (sym (mod-eq_of_lt h))
 
--- one more digit behind the others
+-- one more digit after the others
 decimal_more : (n : ℕ) → n < 2 ^ 64 → 10 ≤ n → decimal n ≡ decimal (n / 10) ++ (48 + n % 10) ∷ []
 decimal_more n h ten =
     let some : 0 < n = omega (arith, ten) in

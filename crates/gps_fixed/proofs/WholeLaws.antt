@@ -1,4 +1,4 @@
--- A text of exactly n digits, optionally with a point and digits behind it, by its first digits.
+-- A text of exactly n digits, optionally with a point and digits after it, by its first digits.
 use Rattle.std.proofs.Common.{◌≡◌, ℕ, zero, suc, ◌+◌, ◌^◌, ◌<◌, ◌≤◌, ◌==◌, ◌&&◌, refl, sym, ap, ◌∙◌, subst, inl, inr, Bool, true, false, cond, nat_lt, Option, Some, None, if◌then◌else◌, unwrap_or, drop, arith, List, [], ◌∷◌, length, take, zero-add}
 use Rattle.std.proofs.lemmas.Bool.{and_parts, cases_Bool, cond-true, cond-false, ne_eqb, eqb-true}
 use Rattle.std.proofs.lemmas.List.{length-take-le}

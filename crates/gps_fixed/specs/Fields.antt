@@ -12,6 +12,6 @@ u4_at bytes at =
     slice_index bytes at + 2 ^ 8 * slice_index bytes (at + 1) + 2 ^ 16 * slice_index bytes (at + 2)
     + 2 ^ 24 * slice_index bytes (at + 3)
 
--- four bytes as a number with a sign: from 2 ^ 31 on they stand for the number less 2 ^ 32 (two's complement)
+-- four bytes as a number with a sign: from 2 ^ 31 on they are the number less 2 ^ 32 (two's complement)
 abbrev pub i4_at : List ℕ → ℕ → ℤ
 i4_at bytes at = cast_signed w32 (u4_at bytes at)

@@ -8,3 +8,4 @@ pub mod Ratio
 pub mod Scaled
 pub mod Text
 pub mod Utc
+pub mod Limits

@@ -1,4 +1,4 @@
--- Decimal texts: digits, and behind a point further digits. NMEA 0183 writes its numeric fields so; that at most nine digits stand before the
+-- Decimal texts: digits, and optionally a point and further digits. NMEA 0183 writes its numeric fields so; that at most nine digits come before the
 -- point is this project's own.
 use Rattle.std.specs.Prelude.{◌≡◌, ℕ, Bool, ◌+◌, ◌-◌, ◌*◌, ◌^◌, ◌≤◌, true, ◌&&◌, ◌==◌, nat_lt, List, [], ◌∷◌, ◌++◌, length, take, drop, replicate, Option, Some, None, if◌then◌else◌}
 use Rattle.std.specs.List.{fold, list_all, prefix_len}
@@ -14,7 +14,7 @@ number digits = fold (λ n c. n * 10 + (c - 48)) 0 digits
 abbrev pub first_digits : ℕ → List ℕ → List ℕ
 first_digits k digits = take k (digits ++ replicate k 48)
 
--- the digits before the point, and those behind it if there is a point
+-- the digits before the point, and those after it if there is a point
 pub record Parts : Type 0 where
   pub whole : List ℕ
   pub behind : Option (List ℕ)
@@ -39,7 +39,7 @@ pub record AreParts (p : Parts) : Type 0 where
 abbrev pub scaled_magnitude : ℕ → Parts → ℕ
 scaled_magnitude k p = number p.whole * 10 ^ k + number (first_digits k (fraction p.behind))
 
--- how many digits stand before the point and behind it, and the value times 10 ^ k
+-- how many digits come before the point and after it, and the value times 10 ^ k
 abbrev pub reading : ℕ → Parts → Numeral
 reading k p = record { before = length p.whole; behind = option_map length p.behind; magnitude = scaled_magnitude k p }
 
@@ -51,7 +51,7 @@ IsNumeral k text n = (p : Parts) × AreParts p × (text ≡ spelling p) × (n �
 abbrev pub if_digits : Bool → ℕ → Option ℕ
 if_digits all n = if all then Some n else None
 
--- the same as a function: the digits that begin a text, and what may stand behind them
+-- the same as a function: the digits that begin a text, and what may follow them
 abbrev pub numeral_behind : ℕ → List ℕ → List ℕ → Option Numeral
 numeral_behind k whole [] = Some (reading k (record { whole = whole; behind = None }))
 numeral_behind k whole (c ∷ digits) =

@@ -4,7 +4,7 @@ use Rattle.std.specs.Option.{option_map, option_and_then, unwrap_or}
 use Rattle.gps_fixed.specs.declared.numeral.Numeral.{Numeral}
 use Rattle.gps_fixed.specs.Numeral.{Parts, AreParts, fraction, spelling, scaled_magnitude, numeral}
 
--- digits with an optional point, at least one digit in all, written behind a `-` if the value is negative
+-- digits with an optional point, at least one digit in all, written after a `-` if the value is negative
 abbrev pub sign : Bool → List ℕ
 sign true = 45 ∷ []
 sign false = []
@@ -42,7 +42,7 @@ without_minus (c ∷ text) = if c == 45 then text else c ∷ text
 unfoldable pub scaled : ℕ → List ℕ → Option ℤ
 scaled k text = option_map (signed (has_minus text)) (magnitude k (without_minus text))
 
--- a text of exactly n digits, optionally with a point and at least one digit behind it
+-- a text of exactly n digits, optionally with a point and at least one digit after it
 abbrev pub has_whole : ℕ → Numeral → Bool
 has_whole count n = (n.before == count) && nat_lt 0 (unwrap_or n.behind 1)
 

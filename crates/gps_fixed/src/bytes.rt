@@ -65,7 +65,7 @@ impl Bytes {
         self.items.len()
     }
 
-    /// Makes room for `more` further bytes, so that pushes of as many need no more memory of the system.
+    /// Makes room for `more` further bytes, so that pushing as many does not allocate.
     pub fn reserve(&mut self, more: usize) -> Result<(), NoMemory>
         ensures same { self.new ≡ self.old }
     {

@@ -1,6 +1,6 @@
-//! Numbers, stamps and civil time: what every layer of gpsrelay stands on.
+//! Numbers, stamps and civil time: what every layer of gpsrelay uses.
 //!
-//! Quantities are whole numbers of a small unit (fixed point), so nothing is rounded in secret, and a
+//! Quantities are whole numbers of a small unit (fixed point), so no rounding is hidden, and a
 //! stamp is a second since 1970-01-01T00:00:00Z with its nanoseconds.
 #![tactic(auto)]
 

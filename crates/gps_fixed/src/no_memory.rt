@@ -1,6 +1,6 @@
 use std::alloc::{AllocError, AllocFailed};
 
-/// The allocator refused. No clause says when this comes; it always stands last among refusals.
+/// The allocator refused. No clause says when this comes; it always comes last among refusals.
 #[derive(Clone, Copy, Debug, PartialEq, Eq)]
 pub struct NoMemory;
 

@@ -5,12 +5,12 @@ ghost use Rattle.gps_fixed.specs.declared.numeral.Numeral.{Numeral};
 ghost use Rattle.gps_fixed.specs.Scaled.{has_digits, has_whole, is_whole};
 ghost use Rattle.gps_fixed.specs.Numeral.{number, first_digits, numeral_behind, numeral, if_digits, IsNumeral};
 
-/// A decimal text, read: digits, and behind a point further digits.
+/// A decimal text, read: digits, and optionally a point and further digits.
 #[derive(Clone, Copy, Debug, PartialEq, Eq)]
 pub struct Numeral {
-    /// How many digits stand before the point.
+    /// How many digits come before the point.
     pub before: usize,
-    /// How many digits stand behind the point, if there is one.
+    /// How many digits follow the point, if there is one.
     pub behind: Option<usize>,
     /// The value times a power of ten, further digits dropped.
     pub magnitude: u64,
@@ -26,7 +26,7 @@ struct Digits {
     value: u64,
 }
 
-/// Reads at most nine digits, and behind a point any number of them; the value is scaled by `10^decimals`.
+/// Reads at most nine digits, and after a point any number of them; the value is scaled by `10^decimals`.
 ///
 /// `None` comes exactly if the text is not of this form. The text may have no digit at all.
 pub fn read_numeral(text: &[u8], decimals: u8) -> Option<Numeral>
@@ -59,10 +59,15 @@ fn numeral_in(text: &[u8], decimals: u8) -> Option<Numeral>
 /// The digits that begin a text, if there are at most nine.
 #[tactic(auto, using(crate::proofs::NumeralLaws::below_leading))]
 fn leading_digits(text: &[u8]) -> Option<Digits>
+    // Why there may be none.
     ensures none { result ≡ None → 9 < prefix_len is_ascii_digit text.now }
+
+    // How many they are.
     ensures len { IfSome result (λ l. l.len ≡ prefix_len is_ascii_digit text.now) }
     ensures within { IfSome result (λ l. l.len ≤ length text.now) }
     ensures few { IfSome result (λ l. l.len ≤ 9) }
+
+    // What they are, and their value.
     ensures digits { IfSome result (λ l. list_all is_ascii_digit (take l.len text.now) ≡ true) }
     ensures value { IfSome result (λ l. l.value ≡ number (take l.len text.now)) }
     ensures below { IfSome result (λ l. l.value < 10 ^ l.len) }
@@ -82,16 +87,21 @@ fn leading_digits(text: &[u8]) -> Option<Digits>
     Some(Digits { len, value })
 }
 
-/// The numeral of at most nine digits, with their value, and what stands behind them.
+/// The numeral of at most nine digits, with their value, and what follows them.
 #[tactic(auto, using(crate::proofs::NumeralLaws::no_fraction, crate::proofs::NumeralLaws::scaled_small, crate::proofs::NumeralLaws::whole_small))]
 #[inline(always)]
 pub(crate) fn numeral_behind(decimals: u8, whole: &[u8], value: u64, rest: &[u8]) -> Option<Numeral>
+    // The digits before the point, at most nine, with their value.
     requires decimals { decimals ≤ 9 }
     requires digits { list_all is_ascii_digit whole.now ≡ true }
     requires few { length whole.now ≤ 9 }
     requires number { value ≡ number whole.now }
     requires below { value < 10 ^ length whole.now }
+
+    // The numeral.
     ensures value { result ≡ numeral_behind decimals whole.now rest.now }
+
+    // Bounds of its parts.
     ensures small { IfSome result (λ n. n.magnitude < 10 ^ (n.before + decimals)) }
     ensures few { IfSome result (λ n. n.before ≤ 9) }
 {
@@ -138,7 +148,7 @@ pub(crate) fn number_of(text: &[u8]) -> Option<u64>
     Some(value)
 }
 
-/// The number that the first digits behind a point write, with zeros if there are fewer; `None` if what stands there is not all digits.
+/// The number that the first digits after a point write, with zeros if there are fewer; `None` if not all bytes there are digits.
 fn fraction(text: &[u8], count: u8) -> Option<u64>
     requires few { count ≤ 9 }
     ensures value { result ≡ if_digits (list_all is_ascii_digit text.now) (number (first_digits count text.now)) }
@@ -171,14 +181,14 @@ pub(crate) fn power_of_ten(exponent: u8) -> u64
 }
 
 impl Numeral {
-    /// A digit stands before the point or behind it.
+    /// There is a digit before the point or after it.
     pub fn has_digits(self) -> bool
         ensures { result ≡ has_digits self }
     {
         self.before > 0 || self.behind.unwrap_or(0) > 0
     }
 
-    /// This number of digits before the point, and a digit behind it if there is a point.
+    /// This number of digits before the point, and a digit after it if there is a point.
     pub fn has_whole(self, count: usize) -> bool
         ensures { result ≡ has_whole count self }
     {

@@ -53,7 +53,7 @@ pub fn read_magnitude(text: &[u8], decimals: u8) -> Option<u64>
     }
 }
 
-/// Reads exactly `count` digits, and optionally a point and at least one digit behind it; times `10^decimals`, further digits dropped.
+/// Reads exactly `count` digits, and optionally a point and at least one digit after it; times `10^decimals`, further digits dropped.
 /// If the count is a constant, the digits before the point are read without a loop.
 #[inline(always)]
 #[tactic(auto, using(crate::proofs::WholeLaws::none_long, crate::proofs::WholeLaws::none_short, crate::proofs::WholeLaws::none_first, crate::proofs::WholeLaws::all_read))]

@@ -1,4 +1,4 @@
--- What holds of a content if it is told, step after step.
+-- What holds of a content that is modelled, step after step.
 use Rattle.std.proofs.Common.{Option, Some, None, inl, refl}
 use Rattle.gps_outside.specs.Told.{Goes, MayLose, Stream}
 

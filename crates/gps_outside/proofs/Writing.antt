@@ -1,5 +1,5 @@
 -- A piece that is written by parts.
-use Rattle.std.proofs.Common.{◌≡◌, ℕ, ◌+◌, ◌-◌, ◌≤◌, List, [], ◌++◌, Bool, true, false, Option, Some, None, length, take, drop, refl, sym, ◌∙◌, ap, append_assoc, arith, length-append, subst}
+use Rattle.std.proofs.Common.{◌≡◌, ℕ, ◌+◌, ◌-◌, ◌≤◌, List, [], ◌++◌, Bool, true, false, Option, Some, None, option_map, length, take, drop, refl, sym, ◌∙◌, ap, append_assoc, arith, length-append, subst}
 use Rattle.std.proofs.lemmas.List.{take_rest, take-append-drop, append-nil}
 use Rattle.std.proofs.lemmas.Grind.{common_steps}
 use Rattle.gps_outside.specs.Told.{Goes, Appends, AppendsPart}
@@ -23,6 +23,13 @@ written_more n piece rest before now after under wrote = record {
       (λ x y z p q. grind (arith, common_steps)) under.wrote wrote;
 }
 
+-- what was written is told by a function, if a sink that is not modelled stays so
+pub appended : (piece : List ℕ) (before now : Option (List ℕ)) → Goes (Appends piece) before now → (before ≡ None → now ≡ None)
+    → now ≡ option_map (λ bytes. bytes ++ piece) before
+appended piece None now wrote unmodelled = unmodelled refl
+appended piece (Some bytes) None wrote unmodelled = absurd wrote
+appended piece (Some bytes) (Some more) wrote unmodelled = ap Some wrote
+
 -- an empty piece has no rest to write
 pub not_empty : (n : ℕ) (piece rest : List ℕ) (before now : Option (List ℕ))
     → Waits piece rest before now
@@ -33,7 +40,7 @@ not_empty n piece rest before now under fits none =
     let short : length piece ≡ 0 = ap length none in
     omega arith
 
--- one piece behind another
+-- one piece after another
 pub appends_on : (piece more : List ℕ) (before now after : Option (List ℕ))
     → Goes (Appends piece) before now → Goes (Appends more) now after → Goes (Appends (piece ++ more)) before after
 appends_on piece more before now after first second =
@@ -71,7 +78,7 @@ part_longer piece more before after part =
     (λ x y p. (p.0, ((p.1.0.0 ++ more, ap (λ l. l ++ more) p.1.0.1 ∙ append_assoc p.0 p.1.0.0 more), p.1.1)))
     part
 
--- more stands behind what waits
+-- more follows what waits
 pub waits_more : (due rest more : List ℕ) (before after : Option (List ℕ)) → Waits due rest before after → Waits (due ++ more) (rest ++ more) before after
 waits_more due rest more before after waits = record {
   front = waits.front;
@@ -79,7 +86,7 @@ waits_more due rest more before after waits = record {
   wrote = waits.wrote;
 }
 
--- of what waited a front was written in turn
+-- of what waited a front was written one after another
 pub waits_on : (due rest less : List ℕ) (before now after : Option (List ℕ))
     → Waits due rest before now → Waits rest less now after → Waits due less before after
 waits_on due rest less before now after first second = record {

@@ -1,7 +1,7 @@
--- Counts of faults and quiets: what it is that one rose in a call.
+-- Counts of faults and quiets: what it means that one rose in a call.
 use Rattle.std.specs.Prelude.{ℕ, zero, suc, ◌+◌, ◌-◌, ◌^◌, ◌≤◌, min}
 
--- The count is greater by n or more, or it stands at the greatest value of a u64 or above.
+-- The count is greater by n or more, or it is at the greatest value of a u64 or above.
 abbrev pub RoseBy : ℕ → ℕ → ℕ → Type 0
 RoseBy n before now = min (before + n) (2 ^ 64 - 1) ≤ now
 

@@ -23,12 +23,12 @@ links_of (PlanLink source sink ∷ plan) = (source, sink) ∷ links_of plan
 links_of (PlanQuiet ∷ plan) = links_of plan
 links_of (Fail ∷ plan) = links_of plan
 
--- of each link of a plan the source is as P says, and the sink as Q says
-abbrev pub HaveLinks : {I K : Type 0} → (I → Type 0) → (K → Type 0) → List (DoorPlan I K) → Type 0
-HaveLinks P Q [] = Unit {0}
-HaveLinks P Q (PlanLink source sink ∷ plan) = P source × Q sink × HaveLinks P Q plan
-HaveLinks P Q (PlanQuiet ∷ plan) = HaveLinks P Q plan
-HaveLinks P Q (Fail ∷ plan) = HaveLinks P Q plan
+-- each link of a plan has a source as P says, a sink as Q says, and both as R says
+abbrev pub HaveLinks : {I K : Type 0} → (I → Type 0) → (K → Type 0) → (I → K → Type 0) → List (DoorPlan I K) → Type 0
+HaveLinks P Q R [] = Unit {0}
+HaveLinks P Q R (PlanLink source sink ∷ plan) = P source × Q sink × R source sink × HaveLinks P Q R plan
+HaveLinks P Q R (PlanQuiet ∷ plan) = HaveLinks P Q R plan
+HaveLinks P Q R (Fail ∷ plan) = HaveLinks P Q R plan
 
 abbrev pub closed_or_quiet : {I K : Type 0} → AtEnd → DoorStep I K
 closed_or_quiet EndsByEnd = Closed

@@ -1,5 +1,5 @@
 -- The links that come through a door.
-use Rattle.std.specs.Prelude.{◌≡◌, ℕ, List, [], ◌∷◌, ◌++◌, Option, IfSome}
+use Rattle.std.specs.Prelude.{◌≡◌, ℕ, List, [], ◌∷◌, ◌++◌, Option, Some, None, IfSome}
 use Rattle.gps_outside.specs.declared.door.DoorStep.{DoorStep}
 use Rattle.gps_outside.specs.declared.door.DoorStep.TheVariants.{Link, Quiet, Closed, Failed}
 use Rattle.gps_outside.specs.Told.{Stream, Goes, Stays}
@@ -27,16 +27,21 @@ FailsOnly Quiet before after = after ≡ before
 FailsOnly Closed before after = after ≡ before
 FailsOnly Failed before after = Unit {0}
 
--- nothing was taken from a source, if it tells that, and it counted nothing
+-- nothing was read from a source, if its contents are modelled, and it counted nothing
 pub record IsUnread (content : Option Stream) (faults quiets : ℕ) : Type 0 where
   pub nothing : IfSome content (λ stream. stream.taken ≡ [])
   pub no_fault : faults ≡ 0
   pub no_quiet : quiets ≡ 0
 
--- nothing was written to a sink, if it tells that, and it counted nothing
+-- nothing was written to a sink, if its contents are modelled, and it counted nothing
 pub record IsUnwritten (written : Option (List ℕ)) (faults : ℕ) : Type 0 where
   pub nothing : IfSome written (λ bytes. bytes ≡ [])
   pub no_fault : faults ≡ 0
+
+-- if all that a client sends is told, it is what is left in the source of its link, whose contents are modelled
+abbrev pub AsksOf : Option Stream → Option (List ℕ) → Type 0
+AsksOf content None = Unit {0}
+AsksOf content (Some all) = (stream : Stream) × (content ≡ Some stream) × (stream.left ≡ all)
 
 -- what holds of the link that a door gives
 abbrev pub IfLink : {I O : Type 0} → DoorStep I O → (I → O → Type 0) → Type 0

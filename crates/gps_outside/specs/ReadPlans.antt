@@ -37,7 +37,7 @@ by_entry (Some Fail) room left at_end = Failed
 abbrev pub answer_of : MemorySourceView → ℕ → ReadStep
 answer_of held room = by_entry (first_of held.plan) room held.stream.left held.at_end
 
--- the first n bytes pass from those left to those taken
+-- the first n bytes pass from those left to those read
 abbrev pub after_taking : ℕ → Stream → Stream
 after_taking n stream = record { taken = stream.taken ++ take n stream.left; left = drop n stream.left }
 

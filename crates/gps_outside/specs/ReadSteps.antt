@@ -7,7 +7,7 @@ use Rattle.gps_outside.specs.declared.whole.ReadEnd.TheVariants.{AtEnd, Full, Fa
 use Rattle.gps_outside.specs.Counts.{Rose, RoseBy, many_more, one_more}
 use Rattle.gps_outside.specs.Told.{Stream, Goes, Stays, Passes, IsAtEnd, MayLose}
 
--- how many bytes may still be taken, and how many quiets were counted; the thousandth quiet ends the reading
+-- how many bytes may still be read, and how many quiets were counted; the thousandth quiet ends the reading
 pub record Budget : Type 0 where
   pub room : ℕ
   pub quiets : ℕ
@@ -25,7 +25,7 @@ Spends End before after = after ≡ before
 Spends Failed before after = after ≡ before
 Spends TooQuiet before after = (before.quiets + 1 ≡ 1000) × (after ≡ before)
 
--- the bytes pass, and one more behind them at least
+-- the bytes pass, and at least one more after them
 abbrev pub PassesMore : List ℕ → Stream → Stream → Type 0
 PassesMore bytes before after = (more : List ℕ) × ((0 < length more) × Passes (bytes ++ more) before after)
 
@@ -65,7 +65,7 @@ StepFailsOnly End before after = after ≡ before
 StepFailsOnly Failed before after = Unit {0}
 StepFailsOnly TooQuiet before after = after ≡ before
 
--- the source counts one quiet in each step to which nothing came, and in no other
+-- the source counts one quiet in each quiet step, and in no other
 abbrev pub StepCountsQuiet : IntakeStep → ℕ → ℕ → Type 0
 StepCountsQuiet (Piece n) before after = after ≡ before
 StepCountsQuiet Quiet before after = after ≡ one_more before
@@ -74,7 +74,7 @@ StepCountsQuiet End before after = after ≡ before
 StepCountsQuiet Failed before after = after ≡ before
 StepCountsQuiet TooQuiet before after = after ≡ one_more before
 
--- So far these bytes were handed on, no read failed, and nothing came as often as the budget says.
+-- So far these bytes were returned, no read failed, and as many reads were quiet as the budget says.
 pub record HasTaken (limit : ℕ) (bytes : List ℕ) (budget : Budget) (before now : Option Stream) (faults_before faults_now quiets_before quiets_now : ℕ) : Type 0 where
   pub passed : Goes (Passes bytes) before now
   pub room : length bytes + budget.room ≡ limit
@@ -94,14 +94,14 @@ pub record TakesSome (bytes : List ℕ) (before after : Stream) : Type 0 where
   pub joins : after.taken ≡ before.taken ++ bytes
   pub kept : (after.left ≡ rest) ⊎ (after.left ≡ [])
 
--- what a reading's ending says of the content, for the bytes that it handed on
+-- what a reading's ending says of the content, for the bytes that it returned
 abbrev pub ReadsToEnd : ReadEnd → ℕ → List ℕ → Option Stream → Option Stream → Type 0
 ReadsToEnd AtEnd limit bytes before after = (length bytes ≤ limit) × Goes (TakesAll bytes) before after
 ReadsToEnd Full limit bytes before after = (length bytes ≡ limit) × Goes (PassesMore bytes) before after
 ReadsToEnd EndsFailed limit bytes before after = (length bytes ≤ limit) × Goes (TakesSome bytes) before after
 ReadsToEnd EndsTooQuiet limit bytes before after = (length bytes ≤ limit) × Goes (Passes bytes) before after
 
--- nothing came fewer than a thousand times
+-- fewer than a thousand reads were quiet
 abbrev pub IsQuietSometimes : ℕ → ℕ → Type 0
 IsQuietSometimes before now = (n : ℕ) × ((n < 1000) × (now ≡ many_more n before))
 

@@ -1,11 +1,11 @@
--- What one read of a source may answer.
+-- The results that one read of a source may have.
 use Rattle.std.specs.Prelude.{◌≡◌, ℕ, ◌≤◌, List, take, Option}
 use Rattle.gps_outside.specs.declared.source.ReadStep.{ReadStep}
 use Rattle.gps_outside.specs.declared.source.ReadStep.TheVariants.{Got, End, Quiet, Failed}
 use Rattle.gps_outside.specs.Counts.{one_more}
 use Rattle.gps_outside.specs.Told.{Stream, Goes, Stays, Passes, IsAtEnd, MayLose}
 
--- bytes that were got are some, and no more than the buffer has room for
+-- bytes that were read are some, and no more than the buffer has room for
 abbrev pub FitsBuffer : ReadStep → ℕ → Type 0
 FitsBuffer (Got n) room = (1 ≤ n) × (n ≤ room)
 FitsBuffer End room = Unit {0}

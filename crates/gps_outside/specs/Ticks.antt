@@ -14,7 +14,7 @@ pub record Gives (stamp : Moment) (before after : Dial) : Type 0 where
   pub same : after.may ≡ before.may
   pub next : (before.left ≡ stamp ∷ after.left) ⊎ ((before.left ≡ []) × (after.left ≡ []))
 
--- the stamp that is the given number of nanoseconds after 1970-01-01T00:00:00Z, or the last one if that lies behind it
+-- the stamp that is the given number of nanoseconds after 1970-01-01T00:00:00Z, or the last one if that is later
 abbrev pub nearest_stamp : ℕ → Moment
 nearest_stamp nanos =
     if nat_le (nanos / 1_000_000_000) 9_999_999_999

@@ -2,7 +2,7 @@
 use Rattle.std.specs.Prelude.{◌≡◌, ℕ, List, ◌++◌, Option, Bool, true, false}
 use Rattle.gps_outside.specs.Told.{Goes, Appends, AppendsPart}
 
--- of what was due a front was written, and the rest waits
+-- a prefix of what was due was written, and the rest waits
 pub record Waits (due rest : List ℕ) (before after : Option (List ℕ)) : Type 0 where
   pub front : List ℕ
   pub split : due ≡ front ++ rest

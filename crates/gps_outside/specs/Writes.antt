@@ -1,5 +1,5 @@
--- What one write to a sink may answer.
-use Rattle.std.specs.Prelude.{◌≡◌, ℕ, ◌≤◌, List, take, Option, Bool, true, false}
+-- The results that one write to a sink may have.
+use Rattle.std.specs.Prelude.{◌≡◌, ℕ, ◌<◌, ◌≤◌, List, ◌++◌, length, take, Option, option_map, Bool, true, false}
 use Rattle.gps_outside.specs.declared.sink.WriteStep.{WriteStep}
 use Rattle.gps_outside.specs.declared.sink.WriteStep.TheVariants.{Wrote, Failed}
 use Rattle.gps_outside.specs.Told.{Goes, Stays, Appends, AppendsPart}
@@ -14,7 +14,7 @@ abbrev pub Writes : WriteStep → List ℕ → Option (List ℕ) → Option (Lis
 Writes (Wrote n) piece before after = Goes (Appends (take n piece)) before after
 Writes Failed piece before after = Goes Stays before after
 
--- all of the piece, or a part from its beginning
+-- all of the piece, or a prefix of it
 abbrev pub WritesAll : Bool → List ℕ → Option (List ℕ) → Option (List ℕ) → Type 0
 WritesAll true piece before after = Goes (Appends piece) before after
 WritesAll false piece before after = Goes (AppendsPart piece) before after
@@ -23,3 +23,9 @@ WritesAll false piece before after = Goes (AppendsPart piece) before after
 abbrev pub FailsOnly : WriteStep → ℕ → ℕ → Type 0
 FailsOnly (Wrote n) before after = after ≡ before
 FailsOnly Failed before after = Unit {0}
+
+-- after each part of the piece that was written, the sink may be written the rest
+abbrev pub AllowsAll : {K : Type 0} → (K → Option (List ℕ)) → (K → Option (List ℕ)) → (K → List ℕ → Type 0) → K → List ℕ → Type 0
+AllowsAll {K} asks written allows sink piece =
+    (now : K) (part rest : List ℕ) → piece ≡ part ++ rest → 0 < length rest
+    → asks now ≡ asks sink → written now ≡ option_map (λ before. before ++ part) (written sink) → allows now rest

@@ -6,7 +6,7 @@ use std::time::{Clock, Duration};
 /// How many seconds the hosts of one address may take to answer, all together.
 const CONNECT_WAIT: u64 = 5;
 
-/// Why no connection came about.
+/// Why no connection was made.
 #[derive(Clone, Copy, Debug)]
 pub enum ConnectFault {
     /// The daemon itself listens there.

@@ -27,13 +27,13 @@ const HOST_WAIT: u64 = 1;
 const DEVICE_WAIT: i32 = 1_000;
 
 /// How many reads of a link that is idle for too long may follow one another, while bytes of it are ready. In pieces of 512 bytes they are
-/// more than the system holds for a socket, so all that stood ready is read.
+/// more than the system holds for a socket, so all that was ready is read.
 const LATE_READS: u32 = 16_384;
 
 /// What the next read of a source waits for, before it can give bytes.
 #[derive(Clone, Copy, Debug, PartialEq, Eq)]
 pub enum Awaited {
-    /// A writer of a pipe with a name.
+    /// A writer of a named pipe.
     Writer,
     /// The answer of a host.
     Host,
@@ -55,9 +55,9 @@ pub(crate) struct Link {
 /// What a real source reads. At its end, and after a fault, it has closed what it read.
 #[derive(Drop)]
 pub(crate) enum Inlet {
-    /// A pipe with a name, which is opened by the first read: that waits for a writer.
+    /// A named pipe, which is opened by the first read: that waits for a writer.
     Pipe(Global, Bytes),
-    /// A pipe with a name before the first bytes of a writer.
+    /// A named pipe before the first bytes of a writer.
     Kept(KeptPipe),
     /// A host, to which the first read connects.
     Host(Bytes, Listening),
@@ -142,7 +142,7 @@ impl Link {
         self.late > LATE_READS || !is_readable(&self.stream, 0)
     }
 
-    /// Takes the bytes that one read gave, which may be none. Whether the link ends.
+    /// Takes the bytes of one read, which may be none, and returns whether the link ends.
     fn take<R: Clock>(&mut self, machine: &R, bytes: &[u8]) -> bool {
         // If the clock fails, it is as late as before.
         if let Ok(now) = machine.monotonic() {
@@ -202,7 +202,7 @@ impl Inlet {
         }
     }
 
-    /// Whether bytes that came ahead are still to be handed on.
+    /// Whether bytes that came ahead are still to be returned.
     pub(crate) fn is_ready(&self) -> bool {
         match self {
             Inlet::File(file) | Inlet::Device(file) => !file.buffer().is_empty(),

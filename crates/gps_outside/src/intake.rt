@@ -10,12 +10,12 @@ use std::marker::Model;
 /// The quiet that ends a reading.
 const LAST_QUIET: u32 = 1_000;
 
-/// What one step of a reading hands on, or how the reading ends.
+/// What one step of a reading returns, or how the reading ends.
 #[derive(Clone, Copy, Debug, PartialEq, Eq)]
 pub enum IntakeStep {
-    /// This number of bytes, at least one, stands at the head of the buffer; the reading goes on.
+    /// This number of bytes, at least one, is at the head of the buffer; the reading goes on.
     Piece(usize),
-    /// Nothing came this time; the reading goes on.
+    /// The read was quiet; the reading goes on.
     Quiet,
     /// The limit is passed: this number of bytes at the head of the buffer, perhaps none, is the last within it, and what came
     /// after them was dropped. The reading is over.
@@ -24,13 +24,13 @@ pub enum IntakeStep {
     End,
     /// The source failed. The reading is over.
     Failed,
-    /// Nothing came for the thousandth time in this reading, which is over.
+    /// A read was quiet for the thousandth time in this reading, which is over.
     TooQuiet,
 }
 
-/// A reading of a source to its end, step by step: how many bytes it may still take, and how often nothing came.
+/// A reading of a source to its end, step by step: how many bytes it may still read, and how often nothing came.
 ///
-/// A loop over its steps ends: each step that goes on hands on a byte or counts one of at most 1,000 quiets.
+/// A loop over its steps ends: each step that goes on returns a byte or counts one of at most 1,000 quiets.
 #[derive(Drop)]
 pub struct Intake {
     room: usize,
@@ -61,15 +61,20 @@ impl Intake {
 
     /// Reads once.
     pub fn step<S: Source>(&mut self, source: &mut S, buf: &mut [u8]) -> IntakeStep
+        // What it reads, and what that takes from the budget.
         requires { 0 < length buf.old }
         ensures fits { FitsRoom result (length buf.new) }
         ensures budget { Spends result self.old self.new }
         ensures goes_on { IntakeGoesOn result self.old self.new }
         ensures bytes { Hands result buf.new (S.content source.old) (S.content source.new) }
+
+        // What the source counts, and what a failed read leaves in it.
         ensures faults_stay { S.faults source.old ≤ S.faults source.new }
         ensures quiets_stay { S.quiets source.old ≤ S.quiets source.new }
         ensures failed { result ≡ IntakeStep.Failed → Rose (S.faults source.old) (S.faults source.new) }
         ensures kept { S.keeps_at_fault source.old → result ≡ IntakeStep.Failed → Goes Stays (S.content source.old) (S.content source.new) }
+
+        // A quiet read counts once, and only a failure counts as a fault.
         ensures quiet { result ≡ IntakeStep.Quiet → Rose (S.quiets source.old) (S.quiets source.new) }
         ensures too_quiet { result ≡ IntakeStep.TooQuiet → Rose (S.quiets source.old) (S.quiets source.new) }
         ensures fails_only { StepFailsOnly result (S.faults source.old) (S.faults source.new) }

@@ -7,7 +7,7 @@ use std::io::{self, BufReader, ErrorKind};
 use std::os::unix::fs::{FileTypeExt, MetadataExt};
 use std::rt::Files;
 
-/// A pipe with a name before the first bytes of a writer. It is open at both ends, so that nothing waits for a writer.
+/// A named pipe before the first bytes of a writer. It is open at both ends, so that nothing waits for a writer.
 #[derive(Drop)]
 pub(crate) struct KeptPipe {
     path: Bytes,

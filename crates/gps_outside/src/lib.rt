@@ -1,7 +1,7 @@
-//! The outside of gpsrelay: where bytes come from, where they go, what time it is, and who comes.
+//! The outside of gpsrelay: sources and sinks of bytes, the clock, and the door through which clients come.
 //!
 //! A source, a sink, a clock and a door each have a form in memory, which follows a plan and has modelled contents, and an
-//! adapter over std, which tells none. Faults and quiets are counted, so that an answer can show its cause.
+//! adapter over std, whose contents are not modelled. Faults and quiets are counted, so that an answer can show its cause.
 #![tactic(auto)]
 
 mod client_sink;

@@ -8,14 +8,14 @@ use std::marker::Model;
 use std::net::{Shutdown, TcpStream};
 use std::time::{Clock, Duration};
 
-/// How many milliseconds one call of the system waits for room. A client that takes a little at a time leaves room that only the next call
+/// How many milliseconds one call of the system waits for room. A client that reads a little at a time leaves room that only the next call
 /// sees, so this is a part of the second.
 pub(crate) const STEP: u64 = 100;
 
-/// A client that takes nothing for this number of milliseconds is a fault.
+/// A client that reads nothing for this number of milliseconds is a fault.
 const PATIENCE: u64 = 1_000;
 
-/// How many milliseconds the writing of what is left may take, once the sink was told that it ends soon.
+/// How many milliseconds the writing of what is left may take, once the sink knows that it ends soon.
 const LEFT: u64 = 10_000;
 
 /// How often a write is tried. More than fit into the time that it has.
@@ -29,9 +29,9 @@ const REST: usize = 4_096;
 
 /// The link of a client as a sink, a TCP stream with no buffer between: each try of a write is one call of the system.
 ///
-/// It is seen as the number of its faults, and tells no content. A write is a fault if the client takes nothing for a second; a client that
-/// is slow but takes what it is sent keeps its link. Once the sink was told that it ends soon, all that is left has ten seconds, however the
-/// client takes it. A write that a signal interrupts begins anew.
+/// It is seen as the number of its faults, and its contents are not modelled. A write is a fault if the client reads nothing for a second; a client that
+/// is slow but reads what it is sent keeps its link. Once the sink knows that it ends soon, all that is left has ten seconds, however the
+/// client reads it. A write that a signal interrupts begins again.
 ///
 /// It delivers within the same ten seconds: it says that nothing follows, reads and drops what the client still sends, and closes once the
 /// client has closed its side. A socket that is closed while bytes of the client are unread is reset, and then the system drops what it had
@@ -83,7 +83,7 @@ impl<R> LinkSink<R> {
 }
 
 impl<R: Clock> LinkSink<R> {
-    /// Writes, and tries again until some bytes were taken or the time is over.
+    /// Writes, and tries again until some bytes were written or the time is over.
     fn write_out(&self, mut stream: &TcpStream, piece: &[u8]) -> io::Result<usize>
         ensures { IfOk result (λ n. n ≤ length piece.now) }
     {
@@ -138,8 +138,8 @@ impl<R: Clock> LinkSink<R> {
         Err(timed_out())
     }
 
-    /// From here on nobody else reads the stream, as its time-out tells the link's source. The system tells a reset once, to the read that
-    /// meets it first, and after it each read meets an end.
+    /// From here on nobody else reads the stream: its time-out says so to the link's source. The system reports a reset once, to the first
+    /// read after it, and each later read is at the end.
     fn take_reading(&self) {
         if let Some(stream) = &self.stream {
             let _ = stream.set_read_timeout(Some(Duration::from_millis(STEP)));
@@ -160,7 +160,7 @@ impl<R: Clock> LinkSink<R> {
         }
     }
 
-    /// A read of the stream that waits ends at once. The system keeps what the client has not taken yet until it takes nothing for this number of
+    /// A read of the stream that waits ends at once. The system keeps what the client has not accepted yet until it accepts nothing for this number of
     /// milliseconds.
     fn close(&mut self, kept: u64)
         ensures { self.new ≡ self.old }

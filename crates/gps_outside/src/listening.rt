@@ -39,7 +39,7 @@ fn address_of(high: u64, low: u64) -> IpAddr {
     Ipv6Addr::from_bits(u128::from(high) << 64 | u128::from(low)).to_canonical()
 }
 
-/// Whether a listener at `at` takes what comes to `to`. One without an address of its own takes what comes to any of the machine.
+/// Whether a listener at `at` accepts what comes to `to`. One without an address of its own accepts what comes to any of the machine.
 fn takes(at: IpAddr, to: IpAddr) -> bool {
     match (at, to) {
         (IpAddr::V4(_), IpAddr::V6(_)) => false,
@@ -82,7 +82,7 @@ impl Listening {
         }
     }
 
-    /// The same once more.
+    /// A copy.
     pub fn share(&self) -> Listening {
         let words = match &self.words {
             Some(words) => Arc::try_clone(words).ok(),

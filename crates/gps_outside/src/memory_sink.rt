@@ -13,7 +13,7 @@ use std::vec::IntoIter;
 
 /// A sink in memory that follows a plan, entry by entry, and after the plan takes whole pieces, as far as its room goes.
 ///
-/// Its room is taken from the system at once, so a write takes no memory.
+/// Its room is allocated at once, so a write takes no memory.
 #[derive(Drop)]
 pub struct MemorySink {
     written: Vec<u8>,
@@ -70,12 +70,15 @@ impl MemorySink {
 impl MemorySink {
     /// Writes as its plan says.
     fn take(&mut self, piece: &[u8]) -> WriteStep
+        // What each sink promises.
         requires { 0 < length piece.now }
         ensures fits { FitsPiece result (length piece.now) }
         ensures bytes { Writes result piece.now (Some self.old.written) (Some self.new.written) }
         ensures faults_stay { self.old.faults ≤ self.new.faults }
         ensures failed { result ≡ WriteStep.Failed → Rose self.old.faults self.new.faults }
         ensures fails_only { FailsOnly result self.old.faults self.new.faults }
+
+        // This one answers as its plan says.
         ensures answer { result ≡ answer_of self.old (length piece.now) }
         ensures after { self.new ≡ filled_after result piece.now self.old }
     {
@@ -99,12 +102,15 @@ impl Sink for MemorySink {
     ghost written = { λ s. Some s.written };
 
     fn write(&mut self, piece: &[u8]) -> WriteStep
+        // What each sink promises.
         requires some { 0 < length piece.now }
         ensures fits { FitsPiece result (length piece.now) }
         ensures bytes { Writes result piece.now (Some self.old.written) (Some self.new.written) }
         ensures faults_stay { self.old.faults ≤ self.new.faults }
         ensures failed { result ≡ WriteStep.Failed → Rose self.old.faults self.new.faults }
         ensures fails_only { FailsOnly result self.old.faults self.new.faults }
+
+        // This one answers as its plan says.
         ensures answer { result ≡ answer_of self.old (length piece.now) }
         ensures after { self.new ≡ filled_after result piece.now self.old }
     {

@@ -60,7 +60,7 @@ impl MemorySource {
         }
     }
 
-    /// The bytes that were taken so far.
+    /// The bytes that were read so far.
     pub fn taken(&self) -> &[u8]
         ensures { result.now ≡ self.now.stream.taken }
     {
@@ -81,7 +81,7 @@ impl MemorySource {
         self.faults
     }
 
-    /// How often nothing came.
+    /// How often a read was quiet.
     pub fn quiets(&self) -> u64
         ensures { result ≡ self.now.quiets }
     {
@@ -101,6 +101,7 @@ impl Source for MemorySource {
     ghost keeps_at_fault = { λ _. Unit {0} };
 
     fn read(&mut self, buf: &mut [u8]) -> ReadStep
+        // What each source promises.
         requires { 0 < length buf.old }
         ensures fits { FitsBuffer result (length buf.old) }
         ensures bytes { Reads result buf.new (Some self.old.stream) (Some self.new.stream) }
@@ -111,6 +112,8 @@ impl Source for MemorySource {
         ensures fails_only { FailsOnly result self.old.faults self.new.faults }
         ensures counts_quiet { CountsQuiet result self.old.quiets self.new.quiets }
         ensures kept { result ≡ ReadStep.Failed → self.new.stream ≡ self.old.stream }
+
+        // This one answers as its plan says.
         ensures answer { result ≡ answer_of self.old (length buf.old) }
         ensures after { self.new ≡ held_after result self.old }
     {
@@ -132,7 +135,7 @@ impl Source for MemorySource {
         step
     }
 
-    /// Behind its plan, while bytes are left.
+    /// After its plan, while bytes are left.
     fn is_ready(&self) -> bool {
         self.plan.len() == 0 && !self.left().is_empty()
     }

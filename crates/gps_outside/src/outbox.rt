@@ -12,7 +12,7 @@ const ROOM: usize = 40_960;
 
 /// Bytes on their way to a sink. They wait for further ones, so that many pieces make one write.
 ///
-/// Its memory is taken at once. If there is none, nothing waits.
+/// Its memory is allocated at once. If there is none, nothing waits.
 #[derive(Drop)]
 pub struct Outbox {
     waiting: Vec<u8>,
@@ -70,11 +70,16 @@ impl Outbox {
     ///
     /// False: the sink failed.
     pub fn flush<K: Sink>(&mut self, sink: &mut K) -> bool
+        // The sink is open, and stays open.
         requires takes { K.takes sink.old }
         ensures takes { K.takes sink.new }
+
+        // What is written, and that nothing waits any more.
         ensures bytes { WritesAll result self.old (K.written sink.old) (K.written sink.new) }
         ensures empty { self.new ≡ [] }
         ensures none { self.old ≡ [] → result ≡ true }
+
+        // A fault is counted exactly if the sink failed.
         ensures faults_stay { K.faults sink.old ≤ K.faults sink.new }
         ensures failed { result ≡ false → Rose (K.faults sink.old) (K.faults sink.new) }
         ensures fails_only { result ≡ true → K.faults sink.new ≡ K.faults sink.old }
@@ -84,14 +89,19 @@ impl Outbox {
         wrote
     }
 
-    /// Writes what waits, unless more bytes stand ready in the source.
+    /// Writes what waits, unless more bytes are ready in the source.
     ///
     /// False: the sink failed.
     pub fn flush_unless_ready<S: Source, K: Sink>(&mut self, source: &S, sink: &mut K) -> bool
+        // The sink is open, and stays open.
         requires takes { K.takes sink.old }
         ensures takes { K.takes sink.new }
+
+        // What is written, and what may still wait.
         ensures bytes { Sends result self.old self.new (K.written sink.old) (K.written sink.new) }
         ensures kept { result ≡ true → (self.new ≡ []) ⊎ S.keeps_at_fault source.now }
+
+        // A fault is counted exactly if the sink failed.
         ensures faults_stay { K.faults sink.old ≤ K.faults sink.new }
         ensures failed { result ≡ false → Rose (K.faults sink.old) (K.faults sink.new) }
         ensures fails_only { result ≡ true → K.faults sink.new ≡ K.faults sink.old }

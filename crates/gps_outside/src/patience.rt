@@ -1,7 +1,7 @@
 use libc::net::{IPPROTO_TCP, TCP_USER_TIMEOUT, setsockopt};
 use std::os::fd::AsRawFd;
 
-/// Lets the system give a connection up, and what it still has to send, once the other side has taken nothing for this number of
+/// Makes the system give up a connection, and what it still has to send, once the other side has accepted nothing for this number of
 /// milliseconds. Without it the system keeps both for as long as the other side stays, also after the socket was closed.
 pub(crate) fn give_up_after<F: AsRawFd>(socket: &F, wait: u64) {
     let wait = u32::try_from(wait).unwrap_or(u32::MAX);

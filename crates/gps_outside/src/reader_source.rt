@@ -2,9 +2,9 @@ use crate::{ReadStep, Source};
 use std::io::{self, ErrorKind, Read};
 use std::marker::Model;
 
-/// A reader of std as a source: it hands on the next bytes that the reader gives, and counts its faults and quiets.
+/// A reader of std as a source: it returns the next bytes that the reader gives, and counts its faults and quiets.
 ///
-/// As a source it tells no content, since a reader does not keep what it gave.
+/// As a source its contents are not modelled, since a reader does not keep what it gave.
 #[derive(Drop)]
 pub struct ReaderSource<R: Read> {
     reader: R,
@@ -48,6 +48,7 @@ impl<R: Read + Drop> Source for ReaderSource<R> {
     ghost content = { λ _. None };
 
     fn read(&mut self, buf: &mut [u8]) -> ReadStep
+        // What each source promises.
         requires { 0 < length buf.old }
         ensures fits { FitsBuffer result (length buf.old) }
         ensures bytes { Reads result buf.new None None }
@@ -57,6 +58,8 @@ impl<R: Read + Drop> Source for ReaderSource<R> {
         ensures quiet { result ≡ ReadStep.Quiet → Rose self.old.quiets self.new.quiets }
         ensures fails_only { FailsOnly result self.old.faults self.new.faults }
         ensures counts_quiet { CountsQuiet result self.old.quiets self.new.quiets }
+
+        // The bytes come in the order of the reader.
         ensures next { HandsNext result buf.new self.old.to_come self.new.to_come }
     {
         match self.reader.read(buf) {

@@ -6,7 +6,7 @@ use crate::Clock;
 use gps_fixed::Stamp;
 use std::time::{self, Duration};
 
-/// The machine's clock. It tells no stamps.
+/// The machine's clock. Its stamps are not modelled.
 #[derive(Drop)]
 pub struct RealClock<R> {
     machine: R,
@@ -31,7 +31,7 @@ impl<R: time::Clock + Drop> Clock for RealClock<R> {
     }
 }
 
-/// The stamp that is this long after 1970-01-01T00:00:00Z, or the last stamp if that lies behind it.
+/// The stamp that is this long after 1970-01-01T00:00:00Z, or the last stamp if that is later.
 fn stamp_of(since: Duration) -> Stamp
     ensures { result ≡ nearest_stamp (as_nanos since) }
 {

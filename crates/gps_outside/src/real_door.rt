@@ -12,7 +12,7 @@ use std::os::fd::OwnedFd;
 use std::rt::Files;
 use std::time::{self, Duration};
 
-/// How many milliseconds one call of a door waits for a link. Nothing is lost by waiting, as a link is taken at once; what
+/// How many milliseconds one call of a door waits for a link. Nothing is lost by waiting, as a link is accepted at once; what
 /// ended meanwhile is joined after a call.
 const ACCEPT_WAIT: u64 = 5_000;
 
@@ -26,7 +26,7 @@ const READ_WAIT: u64 = 500;
 const SHUT: i32 = 22;
 
 /// What accept(2) of Linux answers if the system or this process has no file or no room left (ENOMEM, ENFILE, EMFILE, ENOBUFS), if a
-/// firewall refuses the link (EPERM), or if the link's network failed before it was handed on.
+/// firewall refuses the link (EPERM), or if the link's network failed before it was accepted.
 const PASSING: [i32; 13] = [1, 12, 23, 24, 64, 71, 92, 95, 100, 101, 105, 112, 113];
 
 /// What the system answers if it or this process has no file or no room left (ENOMEM, ENFILE, EMFILE, ENOBUFS).
@@ -53,7 +53,7 @@ fn is_shut(error: &io::Error) -> bool {
     error.raw_os_error() == Some(SHUT)
 }
 
-/// Both directions of a client's link. Small pieces are sent at once, and a client that takes nothing for a second is a fault, so none holds
+/// Both directions of a client's link. Small pieces are sent at once, and a client that reads nothing for a second is a fault, so none holds
 /// the thread that serves it.
 fn link_of<R: time::Clock + Copy>(
     machine: R,
@@ -71,9 +71,9 @@ fn link_of<R: time::Clock + Copy>(
     Ok((source, LinkSink::of_stream(machine, other)))
 }
 
-/// A TCP listener as a door. It counts its faults and quiets, and tells no links.
+/// A TCP listener as a door. It counts its faults and quiets, and its links are not modelled.
 ///
-/// If no link waits for five seconds it is quiet; so it is if a link breaks off before it is handed on, and if no file or room is
+/// If no link waits for five seconds it is quiet; so it is if a link breaks off before it is accepted, and if no file or room is
 /// left for it: the door stays open for those that come later. Its closer closes it.
 #[derive(Drop)]
 pub struct RealDoor<R> {

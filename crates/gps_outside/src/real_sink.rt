@@ -18,7 +18,7 @@ enum Outlet {
 
 /// Standard output or a TCP stream as a sink, with no buffer between: each write is one call of the system.
 ///
-/// It is seen as the number of its faults, and tells no content. A write that fails is a fault, as one that timed out or
+/// It is seen as the number of its faults, and its contents are not modelled. A write that fails is a fault, as one that timed out or
 /// took no byte; one that a signal interrupts is tried again.
 #[derive(Drop)]
 pub struct RealSink {

@@ -12,12 +12,12 @@ use std::net::{Net, TcpStream};
 use std::rt::Files;
 use std::time::{Clock, Duration};
 
-/// A file, a pipe with a name, standard input, a host or the link of a client as a source. It counts its faults and
-/// quiets, and tells no content.
+/// A file, a named pipe, standard input, a host or the link of a client as a source. It counts its faults and
+/// quiets, and its contents are not modelled.
 ///
 /// Of a file and of standard input it asks the system for more than a read may take, and hands what came ahead on to the
 /// next reads; it never waits for more than came at once. A stream is read as it is asked. What may wait long to be
-/// opened, a pipe with a name and a host, is opened by the first read. A read of a terminal, another device, a pipe or a
+/// opened, a named pipe and a host, is opened by the first read. A read of a terminal, another device, a pipe or a
 /// host waits for bytes for a second, and is quiet then; a host that does not answer within five seconds, or refuses, is a
 /// fault, and so is one that is this daemon itself. After its end it stays ended, and after a fault each read is a fault.
 #[derive(Drop)]
@@ -48,7 +48,7 @@ impl<R> RealSource<R> {
         }
     }
 
-    /// Reads a file, from where it stands.
+    /// Reads a file, from its present place on.
     pub fn of_file(machine: R, alloc: Global, file: File) -> Result<RealSource<R>, NoMemory>
     where
         R: Drop,
@@ -137,7 +137,7 @@ impl<R> RealSource<R> {
         self.inlet.awaited()
     }
 
-    /// Whether the next read would not wait for bytes. Known of a stream alone; else false.
+    /// Whether the next read would not wait for bytes. Known only of a stream; else false.
     pub fn is_readable(&self) -> bool {
         self.inlet.is_readable()
     }

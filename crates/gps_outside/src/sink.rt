@@ -1,7 +1,7 @@
-/// What one write to a sink answers.
+/// The result of one write to a sink.
 #[derive(Clone, Copy, Debug, PartialEq, Eq)]
 pub enum WriteStep {
-    /// This number of bytes from the head of the piece, at least one, was written.
+    /// This number of the piece's first bytes, at least one, was written.
     Wrote(usize),
     /// Nothing was written; the faults rose.
     Failed,
@@ -15,27 +15,32 @@ pub trait Sink: Drop {
     ghost use Rattle.gps_outside.specs.Told.{Goes, Stays};
     ghost use Rattle.gps_outside.specs.Writes.{FailsOnly, FitsPiece, Writes};
 
-    /// That it can be written: a sink is open until `finish`.
+    /// Whether it can be written: a sink is open until `finish`.
     ghost takes: { Self → Type 0 } = { λ _. Unit {0} };
 
     /// How often a write failed.
     ghost faults: { Self → ℕ };
 
-    /// The bytes written so far, if the sink tells them.
+    /// The bytes written so far, if they are modelled.
     ghost written: { Self → Option (List ℕ) };
 
-    /// Writes a part of the piece from its head, as much as goes at once.
+    /// Writes a prefix of the piece, as much as goes at once.
     fn write(&mut self, piece: &[u8]) -> WriteStep
+        // The piece is not empty. The sink is open, and stays open.
         requires some { 0 < length piece.now }
         requires takes { takes self.old }
         ensures takes { takes self.new }
+
+        // What is written.
         ensures fits { FitsPiece result (length piece.now) }
         ensures bytes { Writes result piece.now (written self.old) (written self.new) }
+
+        // A fault is counted exactly if it failed.
         ensures faults_stay { faults self.old ≤ faults self.new }
         ensures failed { result ≡ WriteStep.Failed → Rose (faults self.old) (faults self.new) }
         ensures fails_only { FailsOnly result (faults self.old) (faults self.new) };
 
-    /// Says that nothing follows, so that what stands behind the sink may be closed.
+    /// Says that nothing follows, so that the file or connection under it may be closed.
     fn finish(&mut self)
         ensures bytes { Goes Stays (written self.old) (written self.new) }
         ensures faults { faults self.new ≡ faults self.old }
@@ -48,11 +53,16 @@ ghost use Rattle.gps_outside.specs.Writes.{WritesAll};
 
 /// Writes the whole piece, by as many writes as it needs.
 ///
-/// False: the sink failed, and a part of the piece from its head was written. An empty piece is written without a call.
+/// False: the sink failed, and a prefix of the piece was written. An empty piece is written without a call.
 pub fn write_all<K: Sink>(sink: &mut K, piece: &[u8]) -> bool
+    // The sink is open, and stays open.
     requires takes { K.takes sink.old }
     ensures takes { K.takes sink.new }
+
+    // What is written.
     ensures bytes { WritesAll result piece.now (K.written sink.old) (K.written sink.new) }
+
+    // A fault is counted exactly if the sink failed. An empty piece does not reach it.
     ensures faults_stay { K.faults sink.old ≤ K.faults sink.new }
     ensures failed { result ≡ false → Rose (K.faults sink.old) (K.faults sink.new) }
     ensures fails_only { result ≡ true → K.faults sink.new ≡ K.faults sink.old }

@@ -10,11 +10,11 @@ use std::alloc::Global;
 pub enum ReadEnd {
     /// Nothing is left in the source.
     AtEnd,
-    /// As many bytes as the limit allows were taken, and one more was read.
+    /// As many bytes as the limit allows were read, and then one more.
     Full,
     /// The source failed.
     Failed,
-    /// Nothing came for the thousandth time.
+    /// A read was quiet for the thousandth time.
     TooQuiet,
 }
 
@@ -32,7 +32,7 @@ pub fn read_all<S: Source>(
     let mut bytes = Vec::new(alloc);
     let mut intake = Intake::new(limit);
     let mut buf = [0u8; 512];
-    'turns: loop {
+    'rounds: loop {
         match intake.step(source, &mut buf) {
             IntakeStep::Piece(n) => bytes.extend_from_slice(&buf[..n])?,
             IntakeStep::Quiet => {}

@@ -1,4 +1,4 @@
--- What every note of a sentence or a frame keeps, and what the grouping into epochs asks of a note.
+-- The ranges of every note of a sentence or a frame, and what the grouping into epochs requires of a note.
 use Rattle.std.specs.Prelude.{ℕ, ℤ, pos, negsuc, Bool, true, false, ◌&&◌, ◌||◌, ◌+◌, ◌*◌, ◌≡◌, List, Option, Some, None, nat_eq, nat_le, nat_lt, is_none, is_some}
 use Rattle.std.specs.List.{list_all}
 use Rattle.gps_report.specs.declared.note.Note.{Note}

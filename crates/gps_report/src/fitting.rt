@@ -87,7 +87,7 @@ fn fits_system(system: Option<u8>) -> bool
     }
 }
 
-/// Whether a note is one that sentences and frames give: its ranges are those of their fields.
+/// Whether a note can be one of a sentence or a frame: its ranges are those of their fields.
 pub fn fits(note: &Note) -> bool
     ensures { IsTrue result ↔ Fits note.now }
 {

@@ -9,7 +9,7 @@ use std::alloc::Global;
 use std::marker::Model;
 
 /// The name of a device: 1 to 64 printable ASCII bytes without space, `"`, `\` and `=`, so that it needs
-/// no escape in JSON and stands before the `=` of a device word.
+/// no escape in JSON and comes before the `=` of a device word.
 #[derive(Debug, Drop)]
 pub struct Name {
     text: Bytes,

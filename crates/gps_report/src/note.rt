@@ -23,7 +23,7 @@ pub enum NoteKind {
     Other,
 }
 
-/// By what a note's epoch is told from the next: the time of day in nanoseconds, or u-blox's `iTOW`.
+/// What distinguishes a note's epoch from the next: the time of day in nanoseconds, or u-blox's `iTOW`.
 #[derive(Clone, Copy, Debug, PartialEq, Eq)]
 pub enum Tag {
     Tod(u64),

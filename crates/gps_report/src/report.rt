@@ -7,7 +7,7 @@ pub enum Body {
     Packet(Packet),
     Tpv(Fix),
     Sky(Sky),
-    /// A time of the satellites beside the host's stamp of the bytes that brought it.
+    /// A time of the satellites beside the host's stamp of the bytes that said it.
     Toff(Pair),
     /// A whole second beside the host's stamp of the pulse that marks it.
     Pps(Pair),

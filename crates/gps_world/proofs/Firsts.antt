@@ -31,7 +31,7 @@ held None nothing = tt
 held (Some stream) nothing = ap (λ (taken : List ℕ). Some (record { taken = taken; left = stream.left })) nothing
 
 module _ {I : Type 0} where
-  -- what `take_first` gives and leaves, if k sources of other places stand before
+  -- what `take_first` gives and leaves, if k sources of other places come before
   abbrev pub TakesFirst : Option I → List (Place × I) → List (Place × I) → ℕ → Place × I → Type 0
   TakesFirst source rest places k gave = (source ≡ Some gave.1) × (rest ≡ remove places k)
 

@@ -56,11 +56,11 @@ after_input place stock =
       input_faults = faults_after (source_at place stock.places) stock.input_faults;
     }
 
--- the bytes that are left in the first source of a place, if it tells them
+-- the bytes that are left in the first source of a place, if they are modelled
 abbrev pub bytes_at : {I : Type 0} → (I → Option Stream) → List (Place × I) → Place → Option (List ℕ)
 bytes_at content places place = option_and_then (λ source. option_map (λ (stream : Stream). stream.left) (content source)) (source_at place places)
 
--- of each source it is as P says
+-- each source is as P says
 abbrev pub HaveSources : {I : Type 0} → (I → Type 0) → List (Place × I) → Type 0
 HaveSources P [] = Unit {0}
 HaveSources P (first ∷ rest) = P first.1 × HaveSources P rest

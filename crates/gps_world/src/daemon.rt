@@ -1,6 +1,7 @@
 ghost use Rattle.std.specs.Prelude.{◌<◌, length, IfOk};
 ghost use Rattle.gps_outside.specs.Reads.{FitsBuffer};
 
+use crate::deadline::Deadline;
 use crate::head_source::HeadSource;
 use gps_fixed::Bytes;
 use gps_outside::{ConnectFault, Listening, ReadStep, RealSink, RealSource, Source, connect};
@@ -23,7 +24,7 @@ const TICK: u64 = 1;
 pub enum DaemonFault {
     /// It is this daemon itself.
     Own,
-    /// No connection to it came about.
+    /// No connection to it was made.
     Unreached(io::Error),
     /// The request for packets could not be written.
     Unsent,
@@ -33,7 +34,7 @@ pub enum DaemonFault {
     ClosedEarly,
     /// Its answer was not whole within ten seconds.
     TooLate,
-    /// The connection broke behind its answer.
+    /// The connection broke after its answer.
     Broken,
 }
 
@@ -41,8 +42,8 @@ pub enum DaemonFault {
 #[derive(Drop)]
 struct Connection<R: Files<File = File> + Net<Stream = TcpStream> + Clock + Copy> {
     upstream: Upstream<HeadSource<R>, RealSink>,
-    /// When it was connected; none once the head has ended.
-    since: Option<Duration>,
+    /// When the head must have ended; none once it has.
+    end: Option<Deadline>,
 }
 
 #[derive(Drop)]
@@ -57,7 +58,7 @@ enum State<R: Files<File = File> + Net<Stream = TcpStream> + Clock + Copy> {
 /// The packets of another daemon, over one TCP connection.
 ///
 /// Its first read connects, as that of a host, and asks for the packets of all devices of the daemon. What the daemon answers
-/// before the packets must be whole ten seconds later; silence behind it is no fault. After its end it stays ended, and after a
+/// before the packets must be whole ten seconds later; silence after it is no fault. After its end it stays ended, and after a
 /// fault each read is a fault.
 #[derive(Drop)]
 pub(crate) struct Daemon<R: Files<File = File> + Net<Stream = TcpStream> + Clock + Copy> {
@@ -80,12 +81,11 @@ fn connection_over<R: Files<File = File> + Net<Stream = TcpStream> + Clock + Cop
     stream.set_write_timeout(Some(Duration::from_secs(TICK)))?;
     let source = RealSource::of_stream(machine, stream.try_clone()?);
     let sink = RealSink::of_stream(stream);
-    let since = machine.monotonic()?;
-    let end = since.saturating_add(Duration::from_secs(HEAD_WAIT));
+    let end = Deadline::after(&machine, Duration::from_secs(HEAD_WAIT))?;
     let source = HeadSource::new(machine, source, end);
     Ok(Connection {
         upstream: Upstream::new(source, sink, None),
-        since: Some(since),
+        end: Some(end),
     })
 }
 
@@ -112,12 +112,9 @@ fn connection_to<R: Files<File = File> + Net<Stream = TcpStream> + Clock + Copy>
 impl<R: Files<File = File> + Net<Stream = TcpStream> + Clock + Copy> Connection<R> {
     /// Whether the head has not ended in time.
     fn is_late(&self, machine: &R) -> bool {
-        let Some(since) = self.since else {
-            return false;
-        };
-        match machine.monotonic() {
-            Ok(now) => now.saturating_sub(since).as_secs() >= HEAD_WAIT,
-            Err(_) => true,
+        match self.end {
+            Some(end) => end.has_passed(machine),
+            None => false,
         }
     }
 
@@ -138,11 +135,11 @@ impl<R: Files<File = File> + Net<Stream = TcpStream> + Clock + Copy> Connection<
     {
         let step = self.upstream.read(buf);
         if let Head::Done = self.upstream.head() {
-            self.since = None;
+            self.end = None;
         }
         match step {
             ReadStep::Failed => Err(self.cause()),
-            ReadStep::End if self.since.is_some() => Err(DaemonFault::ClosedEarly),
+            ReadStep::End if self.end.is_some() => Err(DaemonFault::ClosedEarly),
             ReadStep::Quiet if self.is_late(machine) => Err(DaemonFault::TooLate),
             step => Ok(step),
         }

@@ -3,28 +3,29 @@ ghost use Rattle.gps_outside.specs.Counts.{Rose};
 ghost use Rattle.gps_outside.specs.Reads.{FailsOnly, FitsBuffer};
 ghost use Rattle.gps_outside.specs.declared.source.ReadStep.{ReadStep};
 
+use crate::deadline::Deadline;
 use gps_outside::{ReadStep, RealSource, Source};
 use std::fs::File;
 use std::net::{Net, TcpStream};
 use std::rt::Files;
-use std::time::{Clock, Duration};
+use std::time::Clock;
 
 /// A connection to a daemon, which answers once that nothing came, when its head must have ended: a read inside the head goes on while
 /// bytes come, however few, and would not look at the clock.
 ///
-/// Bytes that are ready are read first, also behind that moment: this process may have been stopped while they came. A head has at most
+/// Bytes that are ready are read first, also after that moment: this process may have been stopped while they came. A head has at most
 /// 1,048,576 bytes, so that they have an end.
 #[derive(Drop)]
 pub(crate) struct HeadSource<R: Files<File = File> + Net<Stream = TcpStream> + Clock + Copy> {
     machine: R,
     source: RealSource<R>,
-    /// When the head must have ended; none once that was told.
-    end: Option<Duration>,
+    /// When the head must have ended; none once that was said.
+    end: Option<Deadline>,
     quiets: u64,
 }
 
 impl<R: Files<File = File> + Net<Stream = TcpStream> + Clock + Copy> HeadSource<R> {
-    pub(crate) fn new(machine: R, source: RealSource<R>, end: Duration) -> HeadSource<R> {
+    pub(crate) fn new(machine: R, source: RealSource<R>, end: Deadline) -> HeadSource<R> {
         HeadSource {
             machine,
             source,
@@ -35,12 +36,9 @@ impl<R: Files<File = File> + Net<Stream = TcpStream> + Clock + Copy> HeadSource<
 
     /// Whether the moment has come.
     fn is_late(&self) -> bool {
-        let Some(end) = self.end else {
-            return false;
-        };
-        match self.machine.monotonic() {
-            Ok(now) => now >= end,
-            Err(_) => true,
+        match self.end {
+            Some(end) => end.has_passed(&self.machine),
+            None => false,
         }
     }
 

@@ -10,7 +10,7 @@ use std::os::unix::fs::FileTypeExt;
 use std::rt::Files;
 use std::str;
 
-/// Pipes with names that are open at both ends, so that no reader of theirs waits for a writer. Takes no memory.
+/// Named pipes that are open at both ends, so that no reader of theirs waits for a writer. Takes no memory.
 #[derive(Drop)]
 pub struct HeldPipes {
     /// None for a pipe that could not be opened.
@@ -65,7 +65,7 @@ impl HeldPipes {
     }
 }
 
-/// The paths of pipes with names whose readers may wait for a writer.
+/// The paths of named pipes whose readers may wait for a writer.
 #[derive(Drop)]
 pub struct WaitingPipes {
     paths: ArrayVec<Option<Bytes>, 16, Global>,

@@ -5,6 +5,7 @@
 
 mod asked;
 mod daemon;
+mod deadline;
 mod head_source;
 mod held_pipes;
 mod loss;

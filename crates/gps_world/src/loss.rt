@@ -8,7 +8,7 @@ pub enum Loss {
     Ended,
     /// What was there failed, for this reason of the system if one is known.
     Failed(Option<io::Error>),
-    /// It could not be opened, or no connection came about, for this reason.
+    /// It could not be opened, or no connection was made, for this reason.
     Unopened(Option<io::Error>),
     /// The daemon there failed.
     Daemon(DaemonFault),

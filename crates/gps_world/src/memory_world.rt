@@ -47,7 +47,7 @@ impl<I: Source, K: ClientSink> Model for MemoryWorld<I, K> {
         × IfSome s.clock (λ clock. clock.last ≡ s.last) };
 }
 
-/// How many sources stand before the first one of a place.
+/// How many sources come before the first one of a place.
 fn others_before<I>(places: &[(Place, I)], place: &Place) -> usize
     ensures { result ≡ prefix_len (differs place.now) places.now }
 {
@@ -74,7 +74,7 @@ fn take_first<I: Drop>(places: &mut Vec<(Place, I)>, place: &Place) -> Option<I>
 impl<I: Source, K: ClientSink> MemoryWorld<I, K> {
     ghost use Rattle.gps_world.specs.MemoryWorlds.{IsUnusedGate};
 
-    /// Nothing was taken from the sources, if they tell that, and the counts of the sources and the door are 0. Takes
+    /// Nothing was read from the sources, if their contents are modelled, and the counts of the sources and the door are 0. Takes
     /// no memory.
     pub fn new(
         alloc: Global,
@@ -145,16 +145,23 @@ impl<I: Source + Send, K: ClientSink + Send> World for MemoryWorld<I, K> {
     ghost stamps = { λ s. Some s.clock.dial };
 
     fn input(&mut self, place: Place) -> Opened<I>
+        // What is asked for, and the source that it gives: unused, with all bytes of its place.
         requires { length self.old.asked.places < 16 }
         ensures asked { self.new.asked ≡ asked_for place self.old.asked }
         ensures unread { IfReady result (λ source. IsUnread (I.content source) (I.faults source) (I.quiets source)) }
         ensures bytes { IfReady result (λ source. IsAllLeft (bytes_at I.content self.old.places place) (I.content source)) }
+
+        // A failure counts as a fault of an input. Faults of listening stay.
         ensures failed { result ≡ Opened.Failed → Rose self.old.input_faults self.new.input_faults }
         ensures faults_stay { self.old.input_faults ≤ self.new.input_faults }
         ensures listen_faults { self.new.listen_faults ≡ self.old.listen_faults }
+
+        // What does not change.
         ensures other_places { (other : Place) → other ≢ place → bytes_at I.content self.new.places other ≡ bytes_at I.content self.old.places other }
         ensures links { Some (links_in self.new.door) ≡ Some (links_in self.old.door) }
         ensures stamps { Some self.new.clock.dial ≡ Some self.old.clock.dial }
+
+        // This world answers with what it was given.
         ensures answer { result ≡ opened_of (source_at place self.old.places) }
         ensures after { self.new ≡ after_input place self.old }
     {
@@ -170,15 +177,22 @@ impl<I: Source + Send, K: ClientSink + Send> World for MemoryWorld<I, K> {
     }
 
     fn listen(&mut self, address: Bytes) -> Opened<MemoryDoor<I, K>>
+        // What is asked for, and the door that it gives: unused, with the links of this world.
         requires { self.old.asked.address ≡ None }
         ensures asked { self.new.asked ≡ listened_to address self.old.asked }
         ensures unused { IfReady result (λ gate. (gate.faults ≡ 0) × (gate.quiets ≡ 0)) }
         ensures links { IfReady result (λ gate. Tells (Some (links_in self.old.door)) (Some (links_of gate.plan))) }
+
+        // A failure counts as a fault of listening. Faults of inputs stay.
         ensures failed { result ≡ Opened.Failed → Rose self.old.listen_faults self.new.listen_faults }
         ensures faults_stay { self.old.listen_faults ≤ self.new.listen_faults }
         ensures input_faults { self.new.input_faults ≡ self.old.input_faults }
+
+        // What does not change.
         ensures places { (place : Place) → bytes_at I.content self.new.places place ≡ bytes_at I.content self.old.places place }
         ensures stamps { Some self.new.clock.dial ≡ Some self.old.clock.dial }
+
+        // This world answers with what it was given.
         ensures answer { result ≡ opened_of self.old.door }
         ensures after { self.new ≡ after_listen address self.old }
     {
@@ -190,12 +204,17 @@ impl<I: Source + Send, K: ClientSink + Send> World for MemoryWorld<I, K> {
     }
 
     fn clock(&mut self) -> MemoryClock
+        // The clock shows the stamps of this world.
         ensures told { Tells (Some self.old.clock.dial) (Some result.dial) }
+
+        // What does not change.
         ensures asked { self.new.asked ≡ self.old.asked }
         ensures input_faults { self.new.input_faults ≡ self.old.input_faults }
         ensures listen_faults { self.new.listen_faults ≡ self.old.listen_faults }
         ensures places { (place : Place) → bytes_at I.content self.new.places place ≡ bytes_at I.content self.old.places place }
         ensures links { Some (links_in self.new.door) ≡ Some (links_in self.old.door) }
+
+        // This world answers with what it was given.
         ensures answer { result ≡ self.old.clock }
         ensures after { self.new ≡ after_clock self.old }
     {

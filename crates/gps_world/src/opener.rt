@@ -30,13 +30,13 @@ pub(crate) struct Found<R: Files<File = File> + Net<Stream = TcpStream> + Clock 
     pub(crate) returns: bool,
 }
 
-/// What opens places.
+/// Opens places.
 #[derive(Drop)]
 pub(crate) struct Opener<R> {
     machine: R,
     alloc: Global,
     listening: Listening,
-    /// Whether a pipe with a name is opened without waiting for a writer.
+    /// Whether a named pipe is opened without waiting for a writer.
     keeps_pipes: bool,
 }
 
@@ -57,7 +57,7 @@ impl<R: Copy> Opener<R> {
         }
     }
 
-    /// The same once more.
+    /// A copy.
     pub(crate) fn share(&self) -> Opener<R> {
         Opener {
             machine: self.machine,
@@ -100,7 +100,7 @@ impl<R: Files<File = File> + Copy> Opener<R> {
         }
     }
 
-    /// What is behind a path, and whether its path may give something again.
+    /// What is at a path, and whether that path may give something again.
     fn open_path(&self, path: &Bytes) -> io::Result<(RealSource<R>, bool)> {
         let text = text_of(path)?;
         if fs::metadata(&self.machine, text)?.file_type().is_fifo() {

@@ -9,7 +9,7 @@ use std::io::{self, ErrorKind};
 /// Where bytes come from.
 #[derive(Debug, Drop)]
 pub enum Place {
-    /// A file of this path, or what else opens under it, as a pipe with a name or a terminal.
+    /// A file of this path, or what else opens under it, as a named pipe or a terminal.
     File(Bytes),
     /// A TCP connection to this HOST:PORT.
     Tcp(Bytes),
@@ -17,7 +17,7 @@ pub enum Place {
     Gpsd(Bytes),
 }
 
-/// The bytes once more, if there is memory for them.
+/// A copy of the bytes, if there is memory for it.
 pub(crate) fn copy_of(bytes: &Bytes) -> io::Result<Bytes> {
     match bytes.copy() {
         Ok(copy) => Ok(copy),
@@ -38,7 +38,7 @@ impl Place {
         }
     }
 
-    /// The place once more, if there is memory for it.
+    /// A copy of the place, if there is memory for it.
     pub(crate) fn copy(&self) -> io::Result<Place> {
         match self {
             Place::File(path) => Ok(Place::File(copy_of(path)?)),
@@ -48,7 +48,7 @@ impl Place {
     }
 }
 
-/// The place of no name, which stands if there is none yet.
+/// The default: a file without a name.
 impl MadeWith<Global> for Place {
     fn made_with(alloc: Global) -> Place {
         Place::File(Bytes::new(alloc))

@@ -9,7 +9,7 @@ use std::net::{Net, SocketAddr, TcpStream};
 use std::rt::Files;
 use std::time::Clock;
 
-/// The door of the real world: a TCP listener, whose links are inputs of the real world. It tells no links.
+/// The door of the real world: a TCP listener, whose links are inputs of the real world. They are not modelled.
 #[derive(Drop)]
 pub struct RealGate<R> {
     door: RealDoor<R>,

@@ -11,8 +11,8 @@ use std::net::{Net, TcpStream};
 use std::rt::Files;
 use std::time::Clock;
 
-/// What a real world gives as a source: a file, a pipe with a name, a host, a link, or the packets of another daemon. It counts
-/// its faults and quiets, and tells no content.
+/// What a real world opens as a source: a file, a named pipe, a host, a link, or the packets of another daemon. It counts
+/// its faults and quiets, and its contents are not modelled.
 ///
 /// The place of one that is opened again may be away: each read is quiet then, and so is the one at which it was lost. What it
 /// gives is what its place gave each time, joined.

@@ -14,10 +14,10 @@ use std::rt::Files;
 use std::time::Duration;
 use std::{io, time};
 
-/// The real world: files, TCP connections, a TCP listener and the machine's clock. It tells no content.
+/// The real world: files, TCP connections, a TCP listener and the machine's clock. Their contents are not modelled.
 ///
 /// A file that cannot be opened is a fault, for whatever reason; so is no memory for its buffer. What may wait long to be
-/// opened, a pipe with a name and a host, is opened by the first read of its source; if that fails, it is a fault of the
+/// opened, a named pipe and a host, is opened by the first read of its source; if that fails, it is a fault of the
 /// source.
 ///
 /// If places are opened again, one that ended, failed or is not there yet gives a source all the same, but a regular file. A
@@ -30,7 +30,7 @@ pub struct RealWorld<R> {
     /// After how long a place is opened again; none: never.
     reopen: Option<Duration>,
     asked: Asked,
-    /// Which of the places that it was asked for are pipes with names that wait for a writer to be opened.
+    /// Which of the places that it was asked for are named pipes that wait for a writer to be opened.
     are_pipes: [bool; 16],
     input_faults: u64,
     listen_faults: u64,
@@ -86,7 +86,7 @@ impl<R> RealWorld<R> {
         self.fault
     }
 
-    /// The pipes with names among its inputs whose readers may wait for a writer, as far as there is memory for their paths.
+    /// The named pipes among its inputs whose readers may wait for a writer, as far as there is memory for their paths.
     pub fn waiting_pipes(&self) -> WaitingPipes {
         let mut pipes = WaitingPipes::none(self.alloc);
         for (place, is_pipe) in self.asked.places().iter().zip(self.are_pipes.iter()) {

@@ -26,7 +26,7 @@ enabled_after bytes piece gained before after gains was leaves =
     ∙ leaves (fold policy_with opening_policy (requests bytes))
     (sym (was ∙ ap (λ (p : Policy). p.enable) (after_all bytes))))
 
--- the timer of a client of which nothing was read
+-- the timer of a client that has sent nothing
 pub fresh : (timer : IdleTimerView) (now : ℕ) → input.StandsFor timer.cutter []
     → timer.watches ≡ false → timer.asked ≡ false → timer.since ≡ now → timer.missed ≡ false
     → StandsFor timer (record { came = now; reads = [] })

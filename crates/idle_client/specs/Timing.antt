@@ -14,7 +14,7 @@ pub record IdleTimerView : Type 0 where
   pub since : ℕ
   pub missed : Bool  -- memory was short when bytes were taken, so nothing is known any more
 
--- all bytes were taken, and what is kept is what they and their times leave
+-- all bytes were read, and what is kept is what they and their times leave
 pub record StandsFor (timer : IdleTimerView) (client : Client) : Type 0 where
   pub missed : timer.missed ≡ false
   pub cutter : input.StandsFor timer.cutter (bytes_of client.reads)
@@ -22,6 +22,6 @@ pub record StandsFor (timer : IdleTimerView) (client : Client) : Type 0 where
   pub asked : timer.asked ≡ has_asked client
   pub since : timer.since ≡ last_asked client.came client.reads
 
--- whether a policy is enabled after these requests goes by whether it was before
+-- whether a policy is enabled after these requests depends on whether it was before
 abbrev pub Leaves : (before : Bool) → List RawCommand → (after : Bool) → Type 0
 Leaves before requests after = (policy : Policy) → policy.enable ≡ before → (fold policy_with policy requests).enable ≡ after

@@ -10,10 +10,10 @@ use std::marker::Model;
 use std::mem;
 use std::time::Duration;
 
-/// After how many seconds a client is idle whose link came, and of which no request has ended.
+/// After how many seconds a client that has sent no whole request since its link came is idle.
 const FIRST: u64 = 60;
 
-/// After how many seconds without a request a client is idle that has asked before.
+/// After how many seconds without a request a client that has asked before is idle.
 const LATER: u64 = 900;
 
 /// No read waits longer for bytes, in seconds. The system may add an eighth.
@@ -22,8 +22,8 @@ const LONGEST: u64 = 120;
 /// Nor does one wait for less.
 const SHORTEST: u64 = 1;
 
-/// Tells from the bytes that were read of a client, and from when they came, whether it is idle: whether it watches
-/// nothing, and asked nothing for too long. Once memory was short it tells that the client is not.
+/// Whether a client is idle, by the bytes that were read from it and when they came: whether it watches
+/// nothing, and asked nothing for too long. Once memory ran out, it says that the client is not idle.
 #[derive(Drop)]
 pub struct IdleTimer {
     alloc: Global,
@@ -34,7 +34,7 @@ pub struct IdleTimer {
     asked: bool,
     /// When the link came, or its last request ended.
     since: Duration,
-    /// Whether memory was short when bytes were taken.
+    /// Whether memory ran out when bytes were read.
     missed: bool,
 }
 
@@ -124,7 +124,7 @@ impl IdleTimer {
         }
     }
 
-    /// Takes the bytes that one read gave, which came now. Once this is refused, the client is not idle any more, whatever it does.
+    /// Takes the bytes of one read, which came now. Once this is refused, the client is not idle any more, whatever it does.
     pub fn take(&mut self, bytes: &[u8], now: Duration) -> Result<(), NoMemory>
         ensures taken { OnOk result ((client : Client) → StandsFor self.old client
             → StandsFor self.new (after_read client bytes.now (as_nanos now))) }

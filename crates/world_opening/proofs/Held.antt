@@ -1,7 +1,9 @@
--- Sources that hold what was behind their places, opened one after another.
-use Rattle.std.proofs.Common.{◌≡◌, ◌≢◌, ℕ, true, false, true≢false, Bool, List, [], ◌∷◌, ◌++◌, map, Option, Some, None, is_some, length, refl, sym, ◌∙◌, ap, subst, append_assoc}
-use Rattle.std.specs.List.{AllByRecursion, AllZip, IsDistinct}
+-- Sources that hold what was at their places, opened one after another.
+use Rattle.std.proofs.Common.{◌≡◌, ◌≢◌, ◌⊎◌, inl, inr, ℕ, ◌≤◌, ◌+◌, ◌==◌, true, false, Bool, cond, if◌then◌else◌, List, [], ◌∷◌, ◌++◌, map, Option, Some, None, is_some, length, refl, sym, ◌∙◌, ap, subst, append_assoc, arith}
+use Rattle.std.specs.List.{AllByRecursion, AllZip}
+use Rattle.std.proofs.lemmas.Bool.{eqb-true}
 use Rattle.std.proofs.lemmas.List.{append-nil, map-append}
+use Rattle.std.proofs.lemmas.List.Sums.{sum_by-append, sum_by-cons}
 use Rattle.std.specs.Option.{option_to_list}
 use Rattle.std.specs.Cmp.Lexicographic.{nat_list_eq_equiv}
 use Rattle.std.proofs.lemmas.Slice.Zip.{all_zipped_more}
@@ -10,20 +12,17 @@ use Rattle.gps_world.specs.Opening.{IsAllLeft}
 use Rattle.gps_world.specs.Places.{same_place}
 use Rattle.gps_world.specs.declared.place.Place.{Place}
 use Rattle.gps_world.specs.declared.place.Place.TheVariants.{File, Tcp, Gpsd}
-use Rattle.world_opening.specs.Opening.{HasOneMore, GivenOnce, IsEdgeHeld, IsHeld, IsNoneOf, IsOpening, IsOpeningEdges, IsOpeningInputs, places_in}
+use Rattle.world_opening.specs.Opening.{HasOneMore, IsEdgeHeld, IsHeld, IsNoneOf, IsOpening, IsOpeningEdges, IsOpeningInputs, behind_once, places_in, times_given}
 use Rattle.world_opening.proofs.Asking.{places_in_step}
 
--- ---- places that differ
+-- ---- how often a place is given
 
 same_itself : (place : Place) → same_place place place ≡ true
 same_itself (File path) = nat_list_eq_equiv.refl path
 same_itself (Tcp address) = nat_list_eq_equiv.refl address
 same_itself (Gpsd address) = nat_list_eq_equiv.refl address
 
-differ : (one two : Place) → same_place one two ≡ false → two ≢ one
-differ one two other same = true≢false (sym (same_itself one) ∙ ap (same_place one) (sym same) ∙ other)
-
--- of two rows of which each element is so
+-- of two rows whose elements all are so
 module _ {A : Type 0} where
   all_front : (P : A → Type 0) (front back : List A) → AllByRecursion P (front ++ back) → AllByRecursion P front
   all_front P [] back all = tt
@@ -44,23 +43,76 @@ module _ {A : Type 0} where
   all_weaker : (P Q : A → Type 0) → ((a : A) → P a → Q a) → (row : List A) → AllByRecursion P row → AllByRecursion Q row
   all_weaker P Q so row p = all_with P P Q (λ a one two. so a one) row p p
 
-once_front : (front back : List Place) → GivenOnce (front ++ back) → GivenOnce front
-unfolding IsDistinct
-once_front [] back once = tt
-once_front (place ∷ front) back once = (all_front (λ other. same_place place other ≡ false) front back once.0, once_front front back once.1)
+times_cons : (p place : Place) (places : List Place) → times_given p (place ∷ places) ≡ cond (same_place p place) 1 0 + times_given p places
+times_cons p place places = sum_by-cons (λ (x : Place). cond (same_place p x) 1 0) place places
 
-once_back : (front back : List Place) → GivenOnce (front ++ back) → GivenOnce back
-unfolding IsDistinct
-once_back [] back once = once
-once_back (place ∷ front) back once = once_back front back once.1
+times_joined : (p : Place) (front back : List Place) → times_given p (front ++ back) ≡ times_given p front + times_given p back
+times_joined p front back = sum_by-append (λ (x : Place). cond (same_place p x) 1 0) front back
 
--- none of those behind is one of those before
-apart : (front back : List Place) → GivenOnce (front ++ back) → AllByRecursion (λ place. IsNoneOf place front) back
-unfolding IsDistinct
-apart [] back once = all_so (λ place. IsNoneOf place []) (λ place. tt) back
-apart (first ∷ front) back once =
-    all_with (λ place. same_place first place ≡ false) (λ place. IsNoneOf place front) (λ place. IsNoneOf place (first ∷ front))
-    (λ place other none. (differ first place other, none)) back (all_back (λ place. same_place first place ≡ false) front back once.0) (apart front back once.1)
+-- each of these is given
+all_given : (places : List Place) → AllByRecursion (λ p. 1 ≤ times_given p places) places
+all_given [] = tt
+all_given (place ∷ places) =
+    let here : ℕ = cond (same_place place place) 1 0 in
+    let count : Bool → ℕ = λ b. cond b 1 0 in
+    let one : here ≡ 1 = ap count (same_itself place) in
+    let first : 1 ≤ times_given place (place ∷ places) = omega (arith, one, times_cons place place places) in (
+      first,
+      all_weaker (λ p. 1 ≤ times_given p places) (λ p. 1 ≤ times_given p (place ∷ places))
+          (λ p some. omega (arith, some, times_cons p place places)) places (all_given places),
+    )
+
+none_of : (p : Place) (places : List Place) → times_given p places ≡ 0 → IsNoneOf p places
+none_of p [] none = tt
+none_of p (place ∷ places) none = (
+  λ (is : p ≡ place).
+      let here : ℕ = cond (same_place p place) 1 0 in
+      let count : Bool → ℕ = λ b. cond b 1 0 in
+      let one : here ≡ 1 = ap (λ (x : Place). count (same_place p x)) (sym is) ∙ ap count (same_itself p) in
+      absurd (omega (arith, none, one, times_cons p place places)),
+  none_of p places (omega (arith, none, times_cons p place places)),
+)
+
+-- nothing is known of the bytes of a place, or what was known before
+abbrev LessTold : (one two : Place → Option (List ℕ)) → Place → Type 0
+LessTold one two p = (two p ≡ None) ⊎ (two p ≡ one p)
+
+told_once : (places : List Place) (behind mid : Place → Option (List ℕ)) (p : Place) → (times_given p places ≡ 1 → behind p ≡ mid p) → LessTold mid (behind_once places behind) p
+told_once places behind mid p same = by (times_given p places == 1) refl
+  where
+    by : (b : Bool) → (times_given p places == 1) ≡ b → LessTold mid (behind_once places behind) p
+    by true e = inr (ap (λ (b : Bool). if b then behind p else None) e ∙ same (eqb-true (times_given p places) 1 e))
+    by false e = inl (ap (λ (b : Bool). if b then behind p else None) e)
+
+is_once : (places : List Place) (behind : Place → Option (List ℕ)) (p : Place) → times_given p places ≡ 1 → behind_once places behind p ≡ behind p
+is_once places behind p one = ap (λ (n : ℕ). if n == 1 then behind p else None) one
+
+-- of some in the midst, if those in front alone were opened
+told_here : (front own back : List Place) (behind mid : Place → Option (List ℕ)) → ((other : Place) → IsNoneOf other front → mid other ≡ behind other)
+    → AllByRecursion (LessTold mid (behind_once (front ++ (own ++ back)) behind)) own
+told_here front own back behind mid others =
+    all_weaker (λ p. 1 ≤ times_given p own) (LessTold mid (behind_once (front ++ (own ++ back)) behind))
+    (λ p some. told_once (front ++ (own ++ back)) behind mid p
+    (λ one. sym (others p (none_of p front (omega (arith, one, some, times_joined p front (own ++ back), times_joined p own back))))))
+    own (all_given own)
+
+-- of those in front
+told_front : (front back : List Place) (behind : Place → Option (List ℕ)) → AllByRecursion (LessTold (behind_once front behind) (behind_once (front ++ back) behind)) front
+told_front front back behind =
+    all_weaker (λ p. 1 ≤ times_given p front) (LessTold (behind_once front behind) (behind_once (front ++ back) behind))
+    (λ p some. told_once (front ++ back) behind (behind_once front behind) p
+    (λ one. sym (is_once front behind p (omega (arith, one, some, times_joined p front back)))))
+    front (all_given front)
+
+-- of those that follow, if those in front alone were opened
+told_back : (front back : List Place) (behind mid : Place → Option (List ℕ)) → ((other : Place) → IsNoneOf other front → mid other ≡ behind other)
+    → AllByRecursion (LessTold (behind_once back mid) (behind_once (front ++ back) behind)) back
+told_back front back behind mid others =
+    all_weaker (λ p. 1 ≤ times_given p back) (LessTold (behind_once back mid) (behind_once (front ++ back) behind))
+    (λ p some. told_once (front ++ back) behind (behind_once back mid) p
+    (λ one. sym (others p (none_of p front (omega (arith, one, some, times_joined p front back))))
+    ∙ sym (is_once back mid p (omega (arith, one, some, times_joined p front back)))))
+    back (all_given back)
 
 -- ---- one more
 
@@ -68,7 +120,7 @@ apart (first ∷ front) back once =
 module _ {A X : Type 0} (places_of : List A → List Place) (own : A → List Place)
     (empty : places_of [] ≡ []) (step : (a : A) (left : List A) → places_of (a ∷ left) ≡ own a ++ places_of left)
     (R : (Place → Option (List ℕ)) → A → X → Type 0)
-    (carry : (one two : Place → Option (List ℕ)) (a : A) (x : X) → AllByRecursion (λ place. two place ≡ one place) (own a) → R one a x → R two a x) where
+    (carry : (one two : Place → Option (List ℕ)) (a : A) (x : X) → AllByRecursion (LessTold one two) (own a) → R one a x → R two a x) where
   joined : (front back : List A) → places_of (front ++ back) ≡ places_of front ++ places_of back
   joined [] back = ap (λ l. l ++ places_of back) (sym empty)
   joined (a ∷ front) back =
@@ -79,12 +131,16 @@ module _ {A X : Type 0} (places_of : List A → List Place) (own : A → List Pl
   places_here done left a = joined done (a ∷ left) ∙ ap (λ l. places_of done ++ l) (step a left)
 
   opens_more : (behind mid new : Place → Option (List ℕ)) (given now left : List A) (a : A) (sources sources' : List X)
-      → now ≡ a ∷ left → IsOpening places_of (R behind) behind mid given now sources
+      → now ≡ a ∷ left → IsOpening places_of (R (behind_once (places_of given) behind)) behind mid given now sources
       → ((other : Place) → IsNoneOf other (own a) → new other ≡ mid other)
       → HasOneMore (R mid a) sources sources'
-      → IsOpening places_of (R behind) behind new given left sources'
+      → IsOpening places_of (R (behind_once (places_of given) behind)) behind new given left sources'
   opens_more behind mid new given now left a sources sources' is so others gains =
+      let once = behind_once (places_of given) behind in
       let all : so.done ++ a ∷ left ≡ given = ap (λ l. so.done ++ l) (sym is) ∙ so.all in
+      let places : places_of given ≡ places_of so.done ++ (own a ++ places_of left) = ap places_of (sym all) ∙ places_here so.done left a in
+      let less : AllByRecursion (LessTold mid once) (own a) =
+      subst (λ l. AllByRecursion (LessTold mid (behind_once l behind)) (own a)) (sym places) (told_here (places_of so.done) (own a) (places_of left) behind mid so.others) in
       record {
         done = so.done ++ a ∷ [];
         all = append_assoc so.done (a ∷ []) left ∙ all;
@@ -92,35 +148,32 @@ module _ {A X : Type 0} (places_of : List A → List Place) (own : A → List Pl
             let both : IsNoneOf other (places_of so.done ++ (own a ++ places_of [])) = subst (IsNoneOf other) (places_here so.done [] a) none in
             others other (all_front (λ place. other ≢ place) (own a) (places_of []) (all_back (λ place. other ≢ place) (places_of so.done) (own a ++ places_of []) both))
             ∙ so.others other (all_front (λ place. other ≢ place) (places_of so.done) (own a ++ places_of []) both);
-        held = λ once.
-            let apart_here = apart (places_of so.done) (own a ++ places_of left) (subst GivenOnce (ap places_of (sym all) ∙ places_here so.done left a) once) in
-            let same = all_weaker (λ place. IsNoneOf place (places_of so.done)) (λ place. behind place ≡ mid place) (λ place none. sym (so.others place none)) (own a)
-            (all_front (λ place. IsNoneOf place (places_of so.done)) (own a) (places_of left) apart_here) in
-            subst (AllZip (R behind) (so.done ++ a ∷ [])) (sym gains.1)
-            (all_zipped_more (R behind) so.done sources a gains.0 (so.held once) (carry mid behind a gains.0 same gains.2));
+        held = subst (AllZip (R once) (so.done ++ a ∷ [])) (sym gains.1)
+            (all_zipped_more (R once) so.done sources a gains.0 so.held (carry mid once a gains.0 less gains.2));
       }
 
-  -- what is behind their places is as it was before
+  -- what is known of their places was known before
   zip_carry : (one two : Place → Option (List ℕ)) (row : List A) (xs : List X)
-      → AllByRecursion (λ place. two place ≡ one place) (places_of row) → AllZip (R one) row xs → AllZip (R two) row xs
-  zip_carry one two [] [] same zip = tt
-  zip_carry one two [] (x ∷ xs) same zip = zip
-  zip_carry one two (a ∷ rest) [] same zip = zip
-  zip_carry one two (a ∷ rest) (x ∷ xs) same zip =
-      let both = subst (AllByRecursion (λ place. two place ≡ one place)) (step a rest) same in (
-        carry one two a x (all_front (λ place. two place ≡ one place) (own a) (places_of rest) both) zip.0,
-        zip_carry one two rest xs (all_back (λ place. two place ≡ one place) (own a) (places_of rest) both) zip.1,
+      → AllByRecursion (LessTold one two) (places_of row) → AllZip (R one) row xs → AllZip (R two) row xs
+  zip_carry one two [] [] less zip = tt
+  zip_carry one two [] (x ∷ xs) less zip = zip
+  zip_carry one two (a ∷ rest) [] less zip = zip
+  zip_carry one two (a ∷ rest) (x ∷ xs) less zip =
+      let both = subst (AllByRecursion (LessTold one two)) (step a rest) less in (
+        carry one two a x (all_front (LessTold one two) (own a) (places_of rest) both) zip.0,
+        zip_carry one two rest xs (all_back (LessTold one two) (own a) (places_of rest) both) zip.1,
       )
 
 -- ---- the inputs, and the edges
 
 module _ {S : Type 0} (content : S → Option Stream) where
   input_carry : (one two : Place → Option (List ℕ)) (place : Place) (source : S)
-      → AllByRecursion (λ place. two place ≡ one place) (place ∷ []) → IsHeld one content place source → IsHeld two content place source
-  input_carry one two place source same held = subst (λ bytes. IsAllLeft bytes (content source)) (sym same.0) held
+      → AllByRecursion (LessTold one two) (place ∷ []) → IsHeld one content place source → IsHeld two content place source
+  input_carry one two place source (inl none, more) held = subst (λ bytes. IsAllLeft bytes (content source)) (sym none) tt
+  input_carry one two place source (inr same, more) held = subst (λ bytes. IsAllLeft bytes (content source)) (sym same) held
 
   edge_carry : (one two : Place → Option (List ℕ)) (place : Option Place) (source : Option S)
-      → AllByRecursion (λ place. two place ≡ one place) (option_to_list place) → IsEdgeHeld one content place source → IsEdgeHeld two content place source
+      → AllByRecursion (LessTold one two) (option_to_list place) → IsEdgeHeld one content place source → IsEdgeHeld two content place source
   edge_carry one two None None same held = tt
   edge_carry one two None (Some source) same held = held
   edge_carry one two (Some place) None same held = held
@@ -159,18 +212,19 @@ module _ {S : Type 0} (content : S → Option Stream) where
       ∙ ap (λ l. map is_some sources ++ map is_some l) (sym is) ∙ so
 
   -- first the inputs were opened, and then the places of edges
-  pub both_held : (old mid : Place → Option (List ℕ)) (inputs : List Place) (edges : List (Option Place)) (sources : List S) (edge_sources : List (Option S))
-      → (GivenOnce inputs → AllZip (IsHeld old content) inputs sources)
+  pub inputs_held : (old : Place → Option (List ℕ)) (inputs : List Place) (edges : List (Option Place)) (sources : List S)
+      → AllZip (IsHeld (behind_once inputs old) content) inputs sources → AllZip (IsHeld (behind_once (inputs ++ places_in edges) old) content) inputs sources
+  inputs_held old inputs edges sources first =
+      zip_carry (λ (places : List Place). places) (λ place. place ∷ []) refl (λ place left. refl) (λ behind. IsHeld behind content) input_carry
+      (behind_once inputs old) (behind_once (inputs ++ places_in edges) old) inputs sources (told_front inputs (places_in edges) old) first
+
+  pub edges_held : (old mid : Place → Option (List ℕ)) (inputs : List Place) (edges : List (Option Place)) (sources : List (Option S))
       → ((other : Place) → IsNoneOf other inputs → mid other ≡ old other)
-      → (GivenOnce (places_in edges) → AllZip (IsEdgeHeld mid content) edges edge_sources)
-      → GivenOnce (inputs ++ places_in edges)
-      → AllZip (IsHeld old content) inputs sources × AllZip (IsEdgeHeld old content) edges edge_sources
-  both_held old mid inputs edges sources edge_sources first others then once = (
-    first (once_front inputs (places_in edges) once),
-    zip_carry places_in option_to_list refl places_in_step (λ behind. IsEdgeHeld behind content) edge_carry mid old edges edge_sources
-        (all_weaker (λ place. IsNoneOf place inputs) (λ place. old place ≡ mid place) (λ place none. sym (others place none)) (places_in edges) (apart inputs (places_in edges) once))
-        (then (once_back inputs (places_in edges) once)),
-  )
+      → AllZip (IsEdgeHeld (behind_once (places_in edges) mid) content) edges sources
+      → AllZip (IsEdgeHeld (behind_once (inputs ++ places_in edges) old) content) edges sources
+  edges_held old mid inputs edges sources others held =
+      zip_carry places_in option_to_list refl places_in_step (λ behind. IsEdgeHeld behind content) edge_carry
+      (behind_once (places_in edges) mid) (behind_once (inputs ++ places_in edges) old) edges sources (told_back inputs (places_in edges) old mid others) held
 
 pub pairs_all : {S : Type 0} (sources : List (Option S)) (given now : List (Option Place)) → length now ≡ 0 → map is_some sources ++ map is_some now ≡ map is_some given
     → map is_some sources ≡ map is_some given

@@ -1,6 +1,6 @@
--- What opening the outside of a daemon comes to.
-use Rattle.std.specs.Prelude.{◌≡◌, ◌≢◌, ℕ, ◌≤◌, ◌⊎◌, List, [], ◌∷◌, ◌++◌, Result, Ok, Err, Option, Some, None, option_map}
-use Rattle.std.specs.List.{AllByRecursion, AllZip, IsDistinct}
+-- The result of opening the outside of a daemon.
+use Rattle.std.specs.Prelude.{◌≡◌, ◌≢◌, ℕ, ◌≤◌, ◌==◌, ◌⊎◌, if◌then◌else◌, List, [], ◌∷◌, ◌++◌, count_by, Result, Ok, Err, Option, Some, None, option_map}
+use Rattle.std.specs.List.{AllByRecursion, AllZip}
 use Rattle.gps_fixed.specs.Moment.{Moment}
 use Rattle.gps_outside.specs.Counts.{Rose}
 use Rattle.gps_outside.specs.Links.{IsUnread}
@@ -54,7 +54,7 @@ pub record IsAsking (places left : List Place) (old new : Asking) (faults faults
   pub address : new.address ≡ old.address
   pub faults_stay : FaultsStay faults faults'
 
--- the stamps that a clock may give, if it tells them
+-- the stamps that a clock may give, if they are modelled
 abbrev pub dial_of : Option Dial → Option (List Moment)
 dial_of stamps = option_map (λ (dial : Dial). dial.may) stamps
 
@@ -65,14 +65,14 @@ OpenAsks (Err stop) old new places listen =
     ((rest : List Place) × (old.places ++ places ≡ new.places ++ rest)) × ((new.address ≡ None) ⊎ (new.address ≡ Some listen))
 
 -- of a world that was asked nothing before: the places asked for are the first of these
-abbrev pub AsksSome : Asking → List Place → List ℕ → Type 0
-AsksSome asked places listen = ((rest : List Place) × (places ≡ asked.places ++ rest)) × ((asked.address ≡ None) ⊎ (asked.address ≡ Some listen))
+abbrev pub AsksPrefix : Asking → List Place → List ℕ → Type 0
+AsksPrefix asked places listen = ((rest : List Place) × (places ≡ asked.places ++ rest)) × ((asked.address ≡ None) ⊎ (asked.address ≡ Some listen))
 
 -- they are all of these, and the address was listened to
 abbrev pub AsksAll : Asking → List Place → List ℕ → Type 0
 AsksAll asked places listen = (asked.places ≡ places) × (asked.address ≡ Some listen)
 
--- of each source nothing was taken, if it tells that, and it counted nothing
+-- nothing was read from any source, if its contents are modelled, and it counted nothing
 abbrev pub AreUnread : {S : Type 0} → (S → Option Stream) → (S → ℕ) → (S → ℕ) → List S → Type 0
 AreUnread content faults quiets [] = Unit {0}
 AreUnread content faults quiets (source ∷ sources) = IsUnread (content source) (faults source) (quiets source) × AreUnread content faults quiets sources
@@ -83,16 +83,20 @@ sources_in [] = []
 sources_in (None ∷ sources) = sources_in sources
 sources_in (Some source ∷ sources) = source ∷ sources_in sources
 
--- what a world tells of its door and of its clock is as it was
+-- the modelled contents of a world's door and clock are as they were
 pub record TellsAsBefore {L D : Type 0} (links links' : Option L) (stamps stamps' : Option D) : Type 0 where
   pub links_are : links' ≡ links
   pub stamps_are : stamps' ≡ stamps
 
--- no place is given twice
-abbrev pub GivenOnce : List Place → Type 0
-GivenOnce places = IsDistinct same_place places
+-- how often a place is given
+abbrev pub times_given : Place → List Place → ℕ
+times_given place places = count_by (same_place place) places
 
--- if the bytes behind the place were told, they are all left in the source
+-- What is known of the bytes of a place if these are given: nothing of a place that is given twice, since who opens it first may take them.
+abbrev pub behind_once : List Place → (Place → Option (List ℕ)) → Place → Option (List ℕ)
+behind_once places behind place = if times_given place places == 1 then behind place else None
+
+-- if the bytes of the place are known, they are all left in the source
 abbrev pub IsHeld : {S : Type 0} → (Place → Option (List ℕ)) → (S → Option Stream) → Place → S → Type 0
 IsHeld behind content place source = IsAllLeft (behind place) (content source)
 
@@ -111,15 +115,17 @@ IsNoneOf other places = AllByRecursion (λ (place : Place). other ≢ place) pla
 abbrev pub HasOneMore : {X : Type 0} → (X → Type 0) → List X → List X → Type 0
 HasOneMore {X} P old new = (x : X) × (new ≡ old ++ x ∷ []) × P x
 
--- So far all but those left were opened. What is behind other places is as it was, and if no place is given twice, each source is as R says.
+-- So far all but those left were opened. What is at other places is as it was, and each source is as R says.
 pub record IsOpening {A X : Type 0} (places_of : List A → List Place) (R : A → X → Type 0) (behind behind' : Place → Option (List ℕ)) (given left : List A) (sources : List X) : Type 0 where
   pub done : List A
   pub all : done ++ left ≡ given
   pub others : (other : Place) → IsNoneOf other (places_of done) → behind' other ≡ behind other
-  pub held : GivenOnce (places_of given) → AllZip R done sources
+  pub held : AllZip R done sources
 
 abbrev pub IsOpeningInputs : {S : Type 0} → (Place → Option (List ℕ)) → (Place → Option (List ℕ)) → (S → Option Stream) → List Place → List Place → List S → Type 0
-IsOpeningInputs behind behind' content given left sources = IsOpening (λ (places : List Place). places) (IsHeld behind content) behind behind' given left sources
+IsOpeningInputs behind behind' content given left sources =
+    IsOpening (λ (places : List Place). places) (IsHeld (behind_once given behind) content) behind behind' given left sources
 
 abbrev pub IsOpeningEdges : {S : Type 0} → (Place → Option (List ℕ)) → (Place → Option (List ℕ)) → (S → Option Stream) → List (Option Place) → List (Option Place) → List (Option S) → Type 0
-IsOpeningEdges behind behind' content given left sources = IsOpening places_in (IsEdgeHeld behind content) behind behind' given left sources
+IsOpeningEdges behind behind' content given left sources =
+    IsOpening places_in (IsEdgeHeld (behind_once (places_in given) behind) content) behind behind' given left sources

@@ -1,6 +1,6 @@
-//! Part of the world of the daemon, with `gps_world`.
+//! Opens what a daemon works with outside: its inputs, the places of its edges, and its door.
 //!
-//! Opens what a daemon works with outside: its inputs, the places of its edges, and its door. This project's own.
+//! Part of the world of the daemon, with `gps_world`. This project's own.
 #![tactic(auto)]
 
 mod opening;

@@ -4,7 +4,7 @@ ghost use Rattle.std.specs.Option.{option_to_list};
 ghost use Rattle.gps_outside.specs.Links.{IsUnread};
 ghost use Rattle.gps_world.specs.Opening.{Tells};
 ghost use Rattle.gps_world.specs.declared.place.Place.{Place};
-ghost use Rattle.world_opening.specs.Opening.{AreUnread, AsksFor, FaultsStay, HasOneMore, GivenOnce, OpeningHasCause, IsEdgeHeld, IsHeld, IsNoneOf, OpenAsks, TellsAsBefore, places_in, sources_in, world_faults};
+ghost use Rattle.world_opening.specs.Opening.{AreUnread, AsksFor, FaultsStay, HasOneMore, OpeningHasCause, IsEdgeHeld, IsHeld, IsNoneOf, OpenAsks, TellsAsBefore, behind_once, places_in, sources_in, world_faults};
 
 use gps_fixed::Bytes;
 use gps_world::{Opened, Place, World};
@@ -31,12 +31,18 @@ pub struct Outside<W: World> {
 
 fn open_place<W: World>(world: &mut W, place: Place) -> Result<W::In, Stop>
     requires { length (W.asked world.old).places < 16 }
+
+    // The outcome says what failed, and the counts of faults never fall.
     ensures cause { OpeningHasCause result (world_faults (W.input_faults world.old) (W.listen_faults world.old))
         (world_faults (W.input_faults world.new) (W.listen_faults world.new)) }
     ensures faults_stay { FaultsStay (world_faults (W.input_faults world.old) (W.listen_faults world.old))
         (world_faults (W.input_faults world.new) (W.listen_faults world.new)) }
+
+    // What is asked for.
     ensures places { (W.asked world.new).places ≡ (W.asked world.old).places ++ place ∷ [] }
     ensures address { (W.asked world.new).address ≡ (W.asked world.old).address }
+
+    // What is opened, and what stays as it was.
     ensures tells { TellsAsBefore (W.links world.old) (W.links world.new) (W.stamps world.old) (W.stamps world.new) }
     ensures unread { IfOk result (λ source. IsUnread (W.In.content source) (W.In.faults source) (W.In.quiets source)) }
     ensures held { IfOk result (λ source. IsHeld (W.behind world.old) W.In.content place source) }
@@ -51,12 +57,18 @@ fn open_place<W: World>(world: &mut W, place: Place) -> Result<W::In, Stop>
 #[tactic(auto, using(crate::proofs::Unread::one_more))]
 fn open_one<W: World>(world: &mut W, place: Place, opened: &mut Vec<W::In>) -> Result<(), Stop>
     requires { length (W.asked world.old).places < 16 }
+
+    // The outcome says what failed, and the counts of faults never fall.
     ensures cause { OpeningHasCause result (world_faults (W.input_faults world.old) (W.listen_faults world.old))
         (world_faults (W.input_faults world.new) (W.listen_faults world.new)) }
     ensures faults_stay { FaultsStay (world_faults (W.input_faults world.old) (W.listen_faults world.old))
         (world_faults (W.input_faults world.new) (W.listen_faults world.new)) }
+
+    // What is asked for.
     ensures places { (W.asked world.new).places ≡ (W.asked world.old).places ++ place ∷ [] }
     ensures address { (W.asked world.new).address ≡ (W.asked world.old).address }
+
+    // What is opened, and what stays as it was.
     ensures count { OnOk result (length opened.new.items ≡ length opened.old.items + 1) }
     ensures tells { TellsAsBefore (W.links world.old) (W.links world.new) (W.stamps world.old) (W.stamps world.new) }
     ensures unread { AreUnread W.In.content W.In.faults W.In.quiets opened.old.items → AreUnread W.In.content W.In.faults W.In.quiets opened.new.items }
@@ -77,17 +89,24 @@ fn open_inputs<W: World>(
     places: Vec<Place>,
     room: Vec<W::In>,
 ) -> Result<Vec<W::In>, Stop>
+    // At most 16 places are asked for in all, and the room is empty.
     requires few { length (W.asked world.old).places + length places.items ≤ 16 }
     requires empty { room.items ≡ [] }
+
+    // The outcome says what failed, and the counts of faults never fall.
     ensures cause { OpeningHasCause result (world_faults (W.input_faults world.old) (W.listen_faults world.old))
         (world_faults (W.input_faults world.new) (W.listen_faults world.new)) }
     ensures faults_stay { FaultsStay (world_faults (W.input_faults world.old) (W.listen_faults world.old))
         (world_faults (W.input_faults world.new) (W.listen_faults world.new)) }
+
+    // What is asked for, and what is opened.
     ensures asked { AsksFor result (W.asked world.old) (W.asked world.new) places.items }
     ensures count { IfOk result (λ opened. length opened.items ≡ length places.items) }
     ensures tells { TellsAsBefore (W.links world.old) (W.links world.new) (W.stamps world.old) (W.stamps world.new) }
     ensures unread { IfOk result (λ opened. AreUnread W.In.content W.In.faults W.In.quiets opened.items) }
-    ensures held { GivenOnce places.items → IfOk result (λ opened. AllZip (IsHeld (W.behind world.old) W.In.content) places.items opened.items) }
+
+    // Each source has the bytes of its place, if the place is given once, and other places keep theirs.
+    ensures held { IfOk result (λ opened. AllZip (IsHeld (behind_once places.items (W.behind world.old)) W.In.content) places.items opened.items) }
     ensures others { OnOk result ((other : Place) → IsNoneOf other places.items → W.behind world.new other ≡ W.behind world.old other) }
 {
     let mut opened = room;
@@ -102,12 +121,18 @@ fn open_inputs<W: World>(
 
 fn open_edge<W: World>(world: &mut W, place: Option<Place>) -> Result<Option<W::In>, Stop>
     requires { length (W.asked world.old).places + length (option_to_list place) ≤ 16 }
+
+    // The outcome says what failed, and the counts of faults never fall.
     ensures cause { OpeningHasCause result (world_faults (W.input_faults world.old) (W.listen_faults world.old))
         (world_faults (W.input_faults world.new) (W.listen_faults world.new)) }
     ensures faults_stay { FaultsStay (world_faults (W.input_faults world.old) (W.listen_faults world.old))
         (world_faults (W.input_faults world.new) (W.listen_faults world.new)) }
+
+    // What is asked for.
     ensures places { (W.asked world.new).places ≡ (W.asked world.old).places ++ option_to_list place }
     ensures address { (W.asked world.new).address ≡ (W.asked world.old).address }
+
+    // What is opened, and what stays as it was.
     ensures tells { TellsAsBefore (W.links world.old) (W.links world.new) (W.stamps world.old) (W.stamps world.new) }
     ensures unread { IfOk result (λ source. AreUnread W.In.content W.In.faults W.In.quiets (option_to_list source)) }
     ensures held { IfOk result (λ source. IsEdgeHeld (W.behind world.old) W.In.content place source) }
@@ -129,12 +154,18 @@ fn open_next<W: World>(
     opened: &mut Vec<Option<W::In>>,
 ) -> Result<(), Stop>
     requires { length (W.asked world.old).places + length (option_to_list place) ≤ 16 }
+
+    // The outcome says what failed, and the counts of faults never fall.
     ensures cause { OpeningHasCause result (world_faults (W.input_faults world.old) (W.listen_faults world.old))
         (world_faults (W.input_faults world.new) (W.listen_faults world.new)) }
     ensures faults_stay { FaultsStay (world_faults (W.input_faults world.old) (W.listen_faults world.old))
         (world_faults (W.input_faults world.new) (W.listen_faults world.new)) }
+
+    // What is asked for.
     ensures places { (W.asked world.new).places ≡ (W.asked world.old).places ++ option_to_list place }
     ensures address { (W.asked world.new).address ≡ (W.asked world.old).address }
+
+    // What is opened, and what stays as it was.
     ensures count { OnOk result (length opened.new.items ≡ length opened.old.items + 1) }
     ensures tells { TellsAsBefore (W.links world.old) (W.links world.new) (W.stamps world.old) (W.stamps world.new) }
     ensures unread { AreUnread W.In.content W.In.faults W.In.quiets (sources_in opened.old.items)
@@ -156,19 +187,26 @@ fn open_edges<W: World>(
     places: Vec<Option<Place>>,
     room: Vec<Option<W::In>>,
 ) -> Result<Vec<Option<W::In>>, Stop>
+    // At most 16 places are asked for in all, and the room is empty.
     requires few { length (W.asked world.old).places + length (places_in places.items) ≤ 16 }
     requires empty { room.items ≡ [] }
+
+    // The outcome says what failed, and the counts of faults never fall.
     ensures cause { OpeningHasCause result (world_faults (W.input_faults world.old) (W.listen_faults world.old))
         (world_faults (W.input_faults world.new) (W.listen_faults world.new)) }
     ensures faults_stay { FaultsStay (world_faults (W.input_faults world.old) (W.listen_faults world.old))
         (world_faults (W.input_faults world.new) (W.listen_faults world.new)) }
+
+    // What is asked for, and what is opened.
     ensures asked { AsksFor result (W.asked world.old) (W.asked world.new) (places_in places.items) }
     ensures count { IfOk result (λ opened. length opened.items ≡ length places.items) }
     ensures tells { TellsAsBefore (W.links world.old) (W.links world.new) (W.stamps world.old) (W.stamps world.new) }
     ensures unread { IfOk result (λ opened. AreUnread W.In.content W.In.faults W.In.quiets (sources_in opened.items)) }
+
+    // The sources are those of the devices that have edges, with the bytes of their places, if these are given once.
     ensures pairs { IfOk result (λ opened. map is_some opened.items ≡ map is_some places.items) }
-    ensures held { GivenOnce (places_in places.items)
-        → IfOk result (λ opened. AllZip (IsEdgeHeld (W.behind world.old) W.In.content) places.items opened.items) }
+    ensures held { IfOk result (λ opened. AllZip (IsEdgeHeld (behind_once (places_in places.items) (W.behind world.old)) W.In.content)
+        places.items opened.items) }
 {
     let mut opened = room;
     'places: for place in places {
@@ -182,12 +220,18 @@ fn open_edges<W: World>(
 
 fn open_door<W: World>(world: &mut W, address: Bytes) -> Result<W::Gate, Stop>
     requires { (W.asked world.old).address ≡ None }
+
+    // The outcome says what failed, and the counts of faults never fall.
     ensures cause { OpeningHasCause result (world_faults (W.input_faults world.old) (W.listen_faults world.old))
         (world_faults (W.input_faults world.new) (W.listen_faults world.new)) }
     ensures faults_stay { FaultsStay (world_faults (W.input_faults world.old) (W.listen_faults world.old))
         (world_faults (W.input_faults world.new) (W.listen_faults world.new)) }
+
+    // What is asked for.
     ensures places { (W.asked world.new).places ≡ (W.asked world.old).places }
     ensures address { (W.asked world.new).address ≡ Some address }
+
+    // The door is unused and has the links of the world.
     ensures links { IfOk result (λ gate. Tells (W.links world.old) (W.Gate.links gate)) }
     ensures stamps { W.stamps world.new ≡ W.stamps world.old }
     ensures unused { IfOk result (λ gate. (W.Gate.faults gate ≡ 0) × (W.Gate.quiets gate ≡ 0)) }
@@ -206,21 +250,31 @@ pub fn open<W: World>(
     edges: Vec<Option<Place>>,
     listen: Bytes,
 ) -> Result<Outside<W>, Stop>
+    // At most 16 places are asked for in all, and the door was not.
     requires few { length (W.asked world.old).places + (length inputs.items + length (places_in edges.items)) ≤ 16 }
     requires address { (W.asked world.old).address ≡ None }
+
+    // The outcome says what failed, and the counts of faults never fall.
     ensures cause { OpeningHasCause result (world_faults (W.input_faults world.old) (W.listen_faults world.old))
         (world_faults (W.input_faults world.new) (W.listen_faults world.new)) }
     ensures faults_stay { FaultsStay (world_faults (W.input_faults world.old) (W.listen_faults world.old))
         (world_faults (W.input_faults world.new) (W.listen_faults world.new)) }
+
+    // What is asked for.
     ensures asked { OpenAsks result (W.asked world.old) (W.asked world.new) (inputs.items ++ places_in edges.items) listen }
+
+    // The sources: one for each place, unused, with all bytes of the place, if it is given once.
     ensures inputs { IfOk result (λ outside. length outside.inputs.items ≡ length inputs.items) }
     ensures edges { IfOk result (λ outside. length outside.edges.items ≡ length edges.items) }
     ensures unread { IfOk result (λ outside. AreUnread W.In.content W.In.faults W.In.quiets outside.inputs.items
         × AreUnread W.In.content W.In.faults W.In.quiets (sources_in outside.edges.items)) }
     ensures pairs { IfOk result (λ outside. map is_some outside.edges.items ≡ map is_some edges.items) }
-    ensures held { GivenOnce (inputs.items ++ places_in edges.items)
-        → IfOk result (λ outside. AllZip (IsHeld (W.behind world.old) W.In.content) inputs.items outside.inputs.items
-        × AllZip (IsEdgeHeld (W.behind world.old) W.In.content) edges.items outside.edges.items) }
+    ensures held { IfOk result (λ outside. AllZip (IsHeld (behind_once (inputs.items ++ places_in edges.items) (W.behind world.old)) W.In.content)
+        inputs.items outside.inputs.items) }
+    ensures held_edges { IfOk result (λ outside. AllZip (IsEdgeHeld (behind_once (inputs.items ++ places_in edges.items) (W.behind world.old)) W.In.content)
+        edges.items outside.edges.items) }
+
+    // The door and the clock are those of the world.
     ensures links { IfOk result (λ outside. Tells (W.links world.old) (W.Gate.links outside.gate)) }
     ensures stamps { IfOk result (λ outside. Tells (W.stamps world.old) (W.Now.stamps outside.clock)) }
     ensures unused { IfOk result (λ outside. (W.Gate.faults outside.gate ≡ 0) × (W.Gate.quiets outside.gate ≡ 0)) }

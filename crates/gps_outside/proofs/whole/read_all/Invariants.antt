@@ -2,8 +2,8 @@ use Rattle.std.proofs.Common.{◌≤◌, ◌<◌}
 use Rattle.gps_outside.specs.ReadSteps.{HasTaken, work_left}
 use Rattle.gps_outside.proofs.whole.read_all.Given as goal
 
-abbrev pub invariant-turns : goal.invariant-turns
-invariant-turns g l = record {
+abbrev pub invariant-rounds : goal.invariant-rounds
+invariant-rounds g l = record {
   taken : HasTaken l.limit l.bytes.items l.intake
       (g.S.Source.content l.initial.source) (g.S.Source.content l.source)
       (g.S.Source.faults l.initial.source) (g.S.Source.faults l.source)
@@ -13,5 +13,5 @@ invariant-turns g l = record {
   quiets : g.S.Source.quiets l.initial.source ≤ g.S.Source.quiets l.source;
 }
 
-abbrev pub decreases-turns : goal.decreases-turns
-decreases-turns g l = work_left l.intake
+abbrev pub decreases-rounds : goal.decreases-rounds
+decreases-rounds g l = work_left l.intake

@@ -20,10 +20,10 @@ begun count piece = record {
 pub goes_on : (before now next : Count) (piece rest : List ℕ) (n : ℕ) → Feeding before now piece rest
     → ((bytes : List ℕ) → CountStands now bytes → CountSteps (Ok (Some n)) next bytes rest)
     → Feeding before next piece (drop n rest)
-goes_on before now next piece rest n so_far turn = record {
+goes_on before now next piece rest n so_far round = record {
   done = so_far.done ++ take n rest;
   split = so_far.split ∙ ap (λ r. so_far.done ++ r) (sym (take-append-drop n rest)) ∙ sym (append_assoc so_far.done (take n rest) (drop n rest));
-  stands = λ bytes at_first. subst (λ b. CountStands next b) (append_assoc bytes so_far.done (take n rest)) (turn (bytes ++ so_far.done) (so_far.stands bytes at_first));
+  stands = λ bytes at_first. subst (λ b. CountStands next b) (append_assoc bytes so_far.done (take n rest)) (round (bytes ++ so_far.done) (so_far.stands bytes at_first));
 }
 
 whole : (bytes done rest piece : List ℕ) → piece ≡ done ++ rest → (bytes ++ done) ++ rest ≡ bytes ++ piece
@@ -32,11 +32,11 @@ whole bytes done rest piece split = append_assoc bytes done rest ∙ ap (λ p. b
 pub at_end : (before now next : Count) (piece rest : List ℕ) → Feeding before now piece rest
     → ((bytes : List ℕ) → CountStands now bytes → CountSteps (Ok None) next bytes rest)
     → (bytes : List ℕ) → CountStands before bytes → CountStands next (bytes ++ piece)
-at_end before now next piece rest so_far turn bytes at_first =
-    subst (λ b. CountStands next b) (whole bytes so_far.done rest piece so_far.split) (turn (bytes ++ so_far.done) (so_far.stands bytes at_first))
+at_end before now next piece rest so_far round bytes at_first =
+    subst (λ b. CountStands next b) (whole bytes so_far.done rest piece so_far.split) (round (bytes ++ so_far.done) (so_far.stands bytes at_first))
 
 pub stopped : (stop : Stop) (before now next : Count) (piece rest : List ℕ) → Feeding before now piece rest
     → ((bytes : List ℕ) → CountStands now bytes → CountSteps (Err stop) next bytes rest)
     → (bytes : List ℕ) → CountStands before bytes → Stops stop next (bytes ++ piece)
-stopped stop before now next piece rest so_far turn bytes at_first =
-    subst (λ b. Stops stop next b) (whole bytes so_far.done rest piece so_far.split) (turn (bytes ++ so_far.done) (so_far.stands bytes at_first))
+stopped stop before now next piece rest so_far round bytes at_first =
+    subst (λ b. Stops stop next b) (whole bytes so_far.done rest piece so_far.split) (round (bytes ++ so_far.done) (so_far.stands bytes at_first))

@@ -74,7 +74,7 @@ used_up old new bytes piece so_far gives stands stays numbers good = record {
     fits_on [] fits = ap (λ b. is_too_long limit (open_line b)) (append-nil bytes) ∙ so_far.fits
     fits_on (c ∷ p) fits = ap (λ l. is_too_long l (open_line (bytes ++ c ∷ p))) (sym so_far.limit_is) ∙ fits (omega arith)
 
--- the bytes as those up to a place of the piece, and those behind it
+-- the bytes as those up to a place of the piece, and those after it
 at_place : (bytes piece : List ℕ) (n : ℕ) → bytes ++ piece ≡ (bytes ++ take n piece) ++ drop n piece
 at_place bytes piece n = ap (λ p. bytes ++ p) (sym (take-append-drop n piece)) ∙ sym (append_assoc bytes (take n piece) (drop n piece))
 

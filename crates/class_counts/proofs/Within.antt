@@ -1,4 +1,4 @@
--- An input within the limits, each line of which is read, is not refused.
+-- An input within the limits is not refused if each of its lines is read.
 use Rattle.std.proofs.Common.{◌≡◌, ◌≢◌, ℕ, ◌+◌, ◌<◌, ◌⊎◌, Bool, true, false, cond, List, [], ◌∷◌, ◌++◌, length, inl, inr, Option, Some, None, refl, sym, ap, ◌∙◌, subst, arith, append_assoc, append-nil, length-append}
 use Rattle.std.specs.Prelude.{◌||◌}
 use Rattle.std.proofs.lemmas.Bool.Decides.{nat_tests}
@@ -61,7 +61,7 @@ plain_both (c ∷ a) b none more =
     neither true y e = absurd (cc)
     neither false y e = (refl, e)
 
--- an open line, and what comes behind it: the next line begins with it
+-- an open line, and what comes after it: the next line begins with it
 abbrev NextBegins : List ℕ → List ℕ → Type 0
 NextBegins line more = (behind : List ℕ) × (rest : List (List ℕ)) × (whole_lines (line ++ more) ≡ (line ++ behind) ∷ rest)
 

@@ -43,7 +43,7 @@ pub record Counted (outcome : CommandOutcome) (source source' : Option Stream) (
   pub bytes : List ℕ
   pub ends : Ends outcome most_bytes bytes source source' (CountedSoFar outcome bytes sink sink') (CountedAll outcome bytes sink sink')
 
--- the source tells that no more is left than an input may have, and that each line of it is read
+-- the source's contents are modelled, no more is left than an input may have, and each line of it is read
 abbrev pub IsWithin : Option Stream → Type 0
 IsWithin None = ⊥
 IsWithin (Some stream) = (length stream.left ≤ most_bytes) × ((values : List Line) × AreRead values (whole_lines stream.left))

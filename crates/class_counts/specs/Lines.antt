@@ -31,7 +31,7 @@ IsBad line = (is_too_long limit line ≡ true) ⊎ ((v : Line) → IsLineOf v li
 abbrev pub long_line : List ℕ → List (List ℕ)
 long_line line = if is_too_long limit line then line ∷ [] else []
 
--- the lines that are known of bytes behind which more may come
+-- the lines that are known of bytes to which more may be added
 abbrev pub known_lines : List ℕ → List (List ℕ)
 known_lines bytes = lines bytes ++ long_line (open_line bytes)
 

@@ -1,4 +1,4 @@
--- What is kept of the bytes so far stands for them, as long as no line was bad.
+-- What is kept stands for all bytes so far, as long as no line was bad.
 use Rattle.std.specs.Prelude.{◌≡◌, ℕ, ◌+◌, ◌<◌, ◌≤◌, false, List, ◌++◌, length, take, Option, Some, None, Result, Ok, Err}
 use Rattle.line_cut.specs.Standing.{StandsFor}
 use Rattle.line_cut.specs.Limits.{is_too_long}
@@ -19,12 +19,12 @@ pub record CountStands (count : Count) (bytes : List ℕ) : Type 0 where
   pub good : count.good ≡ kept_number (length values)
   pub fits : is_too_long limit (open_line bytes) ≡ false
 
--- the line behind the good ones is bad
+-- the line after the good ones is bad
 abbrev pub Stops : Stop → Count → List ℕ → Type 0
 Stops Bad count bytes = (n : ℕ) × Refuses bytes (n + 1) × (count.good ≡ kept_number n)
 Stops NoMemory count bytes = Unit {0}
 
--- one step through a piece behind these bytes
+-- one step through a piece that follows these bytes
 abbrev pub CountSteps : Result (Option ℕ) Stop → Count → List ℕ → List ℕ → Type 0
 CountSteps (Ok (Some n)) count bytes piece = CountStands count (bytes ++ take n piece)
 CountSteps (Ok None) count bytes piece = CountStands count (bytes ++ piece)

@@ -20,7 +20,7 @@ class_of (line.Error fault) = 9
 abbrev pub number : ℕ → List Line → ℕ
 number class values = count_by (λ v. class_of v == class) values
 
--- a name, and a number behind it
+-- a name, followed by a number
 unfoldable pub counted : List ℕ → ℕ → List ℕ
 counted name n = name ++ decimal n
 

@@ -25,7 +25,7 @@ pub(crate) struct Count {
 /// Why no further line is counted.
 #[derive(Clone, Copy)]
 pub(crate) enum Stop {
-    /// The line behind the good ones is none, or is too long.
+    /// The line after the good ones is not valid, or is too long.
     Bad,
     NoMemory,
 }
@@ -64,7 +64,7 @@ impl Count {
 
     /// Goes on to the end of the next line of a piece, after the given number of its bytes; or to the end of the piece.
     fn step(&mut self, alloc: Global, piece: &[u8]) -> Result<Option<usize>, Stop>
-        ensures turn { (bytes : List ℕ) → CountStands self.old bytes → CountSteps result self.new bytes piece.now }
+        ensures round { (bytes : List ℕ) → CountStands self.old bytes → CountSteps result self.new bytes piece.now }
         ensures some { UsesSome result piece.now }
     {
         match self.cutter.next(piece) {

@@ -21,7 +21,7 @@ pub(crate) enum Reading {
     Full,
     /// The source failed.
     Failed,
-    /// Nothing came for the thousandth time.
+    /// A read was quiet for the thousandth time.
     TooQuiet,
 }
 
@@ -36,7 +36,7 @@ pub(crate) fn read_lines<S: Source>(alloc: Global, count: &mut Count, source: &m
 {
     let mut intake = Intake::new(MOST_BYTES);
     let mut buf = [0u8; 512];
-    'turns: loop {
+    'rounds: loop {
         match intake.step(source, &mut buf) {
             IntakeStep::Piece(n) => match count.feed(alloc, &buf[..n]) {
                 Ok(()) => {}

@@ -44,13 +44,18 @@ fn end<K: Sink>(alloc: Global, count: &Count, sink: &mut K) -> CommandOutcome
     }
 }
 
-/// As [`count_lines`].
+/// As [`count_lines`], which forwards to it. The two are apart for the prover: `within` follows from the other clauses.
 #[tactic(auto, using(crate::proofs::Ends::counted_end, crate::proofs::Ends::counted_stop, crate::proofs::Ends::counted_full, crate::proofs::Ends::counted_failed, crate::proofs::Ends::counted_quiet))]
 fn count<S: Source, K: Sink>(alloc: Global, source: &mut S, sink: &mut K) -> CommandOutcome
+    // The sink is open, and stays open.
     requires takes { K.takes sink.old }
     ensures takes { K.takes sink.new }
+
+    // What is read, and what is written.
     ensures counted { Counted result (S.content source.old) (S.content source.new) (K.written sink.old) (K.written sink.new) }
     ensures cause { HasCause result (source_call S.Source source.old source.new) (sink_call K.Sink sink.old sink.new) }
+
+    // Counts of faults and quiet reads never fall.
     ensures faults_stay { S.faults source.old ≤ S.faults source.new }
     ensures quiets_stay { S.quiets source.old ≤ S.quiets source.new }
     ensures sink_faults_stay { K.faults sink.old ≤ K.faults sink.new }
@@ -69,16 +74,21 @@ fn count<S: Source, K: Sink>(alloc: Global, source: &mut S, sink: &mut K) -> Com
 /// line. A line is ended by LF and has at most 1,048,576 bytes; an input at most 1,073,741,824.
 ///
 /// The sink is open, and stays open. The source's faults rise exactly if the outcome is a read fault, and the sink's exactly if it is a
-/// write fault; a count is too quiet exactly at the thousandth read that brings nothing.
+/// write fault; a count is too quiet exactly at the thousandth quiet read.
 pub fn count_lines<S: Source, K: Sink>(
     alloc: Global,
     source: &mut S,
     sink: &mut K,
 ) -> CommandOutcome
+    // The sink is open, and stays open.
     requires takes { K.takes sink.old }
     ensures takes { K.takes sink.new }
+
+    // What is read, and what is written.
     ensures counted { Counted result (S.content source.old) (S.content source.new) (K.written sink.old) (K.written sink.new) }
     ensures cause { HasCause result (source_call S.Source source.old source.new) (sink_call K.Sink sink.old sink.new) }
+
+    // An input within the limits is neither too long nor bad. Counts never fall.
     ensures within { IsWithin (S.content source.old) → (result ≢ CommandOutcome.Full) × (result ≢ CommandOutcome.BadLine) }
     ensures faults_stay { S.faults source.old ≤ S.faults source.new }
     ensures quiets_stay { S.quiets source.old ≤ S.quiets source.new }

@@ -14,7 +14,7 @@ use Rattle.gps_client.specs.Ranges.{IsShort}
 use Rattle.gps_decode.specs.Texts.{line_of}
 use Rattle.command_laws.specs.Composed.{HasShortLine, stdin}
 
--- what stands before the end of a satellite
+-- what comes before the end of a satellite
 abbrev satellite_front : Satellite → List ℕ
 satellite_front s =
     satellite_head
@@ -56,7 +56,7 @@ array_long sats =
     let one : length (codes "[" ++ separated satellite sats) ≡ 1 + length (separated satellite sats) = length-append (codes "[") (separated satellite sats) in
     omega (arith, all, one, separated_long sats)
 
--- what stands before the satellites of a sky
+-- what comes before the satellites of a sky
 abbrev sky_front : Sky → List ℕ
 sky_front s =
     head_of class.Sky

@@ -18,7 +18,7 @@ ghost use Rattle.gps_client.specs.History.{IsStream};
 ghost use Rattle.command_laws.specs.Composed.{alone_after, fixes_and_skies, fixes_to_end, HasNumbers, HasShortLine, reports_to_end, spoken_lines};
 ghost use Rattle.command_laws.specs.Pipes.{DecodeAfterPseudo, LinesAfterDecode};
 
-/// Law: what `pseudo` wrote of a stream comes to `decode`, with any stamps. Each fix of the stream must fit its two sentences and have a time,
+/// Law: what `pseudo` wrote of a stream is read by `decode`, with any stamps. Each fix of the stream must fit its two sentences and have a time,
 /// and its time of day must differ from that of the next one. Then `decode` writes the lines of these fixes, in order, each without the
 /// height above the ellipsoid and the climb, and nothing else (`texts`). So two runs that end well compose, by what `pseudo` and `decode`
 /// promise of each run (`runs`).
@@ -31,7 +31,7 @@ pub fn decode_reads_what_pseudo_wrote()
 
 /// Law: what `decode` wrote of a stream is read by `lines` to its end, and no line of it is bad. Its numbers are those of the fixes and of the
 /// skies that the device reports, and 0 for each other class; no other numbers can be written of it (`texts`). Each line must have at most
-/// 1,048,576 bytes, as `lines` takes none that is longer. So a run of `decode` that ends well and a run of `lines` compose, by what they
+/// 1,048,576 bytes, as `lines` reads none that is longer. So a run of `decode` that ends well and a run of `lines` compose, by what they
 /// promise (`runs`).
 pub fn lines_reads_what_decode_wrote()
     ensures texts { (stream : List Symbol) → IsStream stream → AllByRecursion HasShortLine (reports_to_end stream)

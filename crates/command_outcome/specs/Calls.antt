@@ -50,7 +50,7 @@ clock_call ghosts before after = record { before = ghosts.stamps before; after =
 abbrev pub ReadFailed : SourceCall → Type 0
 ReadFailed source = Rose source.before.faults source.after.faults
 
--- n reads or more brought nothing
+-- n reads or more were quiet
 abbrev pub WasQuiet : ℕ → SourceCall → Type 0
 WasQuiet n source = RoseBy n source.before.quiets source.after.quiets
 

@@ -1,11 +1,11 @@
--- Which bytes a command read, and what of the bytes that were due it wrote, by how it ended.
+-- Which bytes a command read, and which of the bytes that were due it wrote, by how it ended.
 use Rattle.std.specs.Prelude.{◌≡◌, ℕ, ◌≤◌, ◌⊎◌, List, length, Option, Some, None}
 use Rattle.gps_outside.specs.Told.{Stream, Goes, Passes, Appends, AppendsPart}
 use Rattle.gps_outside.specs.ReadSteps.{PassesMore, TakesAll, TakesSome}
 use Rattle.command_outcome.specs.declared.outcome.CommandOutcome.{CommandOutcome}
 use Rattle.command_outcome.specs.declared.outcome.CommandOutcome.TheVariants.{Done, ReadFault, TooQuiet, WriteFault, Full, BadLine, NoMemory}
 
--- A command that breaks off in mid-source has read all bytes that it took: no more than it may take, or as many if more came.
+-- A command that breaks off in mid-source has read all bytes that it used: no more than it may read, or as many if more came.
 abbrev pub HasReadSoFar : ℕ → List ℕ → Option Stream → Option Stream → Type 0
 HasReadSoFar most bytes before after =
     ((length bytes ≤ most) × Goes (Passes bytes) before after) ⊎ ((length bytes ≡ most) × Goes (PassesMore bytes) before after)
@@ -19,7 +19,7 @@ abbrev pub BreaksOff : ℕ → List ℕ → Option Stream → Option Stream → 
 BreaksOff most bytes before after so_far at_end = (HasReadSoFar most bytes before after × so_far) ⊎ (HasReadAll most bytes before after × at_end)
 
 -- Which bytes were read if a command ends so: all that was left; those before a fault, after which the rest may be lost; those before a thousand
--- quiets; as many as it may take if more came; or those before it broke off. Beside them holds `at_end` if they are all of the source, and `so_far`
+-- quiets; as many as it may read if more came; or those before it broke off. Beside them holds `at_end` if they are all of the source, and `so_far`
 -- otherwise.
 abbrev pub Ends : CommandOutcome → ℕ → List ℕ → Option Stream → Option Stream → Type 0 → Type 0 → Type 0
 Ends Done most bytes before after so_far at_end = HasReadAll most bytes before after × at_end
@@ -40,7 +40,7 @@ Wrote Full due before after = Goes (Appends due) before after
 Wrote BadLine due before after = Goes (Appends due) before after
 Wrote NoMemory due before after = Goes (AppendsPart due) before after
 
--- the content of the source is modelled, and no more is left of it than a command may take
+-- the content of the source is modelled, and no more is left of it than a command may read
 abbrev pub IsWithin : ℕ → Option Stream → Type 0
 IsWithin most None = ⊥
 IsWithin most (Some stream) = length stream.left ≤ most

@@ -1,4 +1,4 @@
--- How a command ends, its exit status, and what must have happened outside if it ends so.
+-- How a command ends: its exit status, and what must have happened outside for it.
 use Rattle.std.specs.Prelude.{◌≡◌, ◌≢◌, ℕ, ◌⊎◌}
 use Rattle.gps_outside.specs.Counts.{many_more}
 use Rattle.gps_outside.specs.ReadSteps.{IsQuietSometimes}
@@ -15,22 +15,22 @@ status_of Full = 5
 status_of BadLine = 6
 status_of NoMemory = 7
 
--- fewer than a thousand reads brought nothing
+-- fewer than a thousand reads were quiet
 abbrev pub IsLively : SourceCall → Type 0
 IsLively source = IsQuietSometimes source.before.quiets source.after.quiets
 
--- no read failed, and fewer than a thousand brought nothing
+-- no read failed, and fewer than a thousand were quiet
 abbrev pub NoReadFailed : SourceCall → Type 0
 NoReadFailed source = (source.after.faults ≡ source.before.faults) × IsLively source
 
 abbrev pub NoWriteFailed : SinkCall → Type 0
 NoWriteFailed sink = sink.after.faults ≡ sink.before.faults
 
--- a read failed, after fewer than a thousand that brought nothing
+-- a read failed, after fewer than a thousand quiet ones
 abbrev pub EndsByReadFault : SourceCall → Type 0
 EndsByReadFault source = ReadFailed source × IsLively source
 
--- no read failed, and the last one was the thousandth that brought nothing
+-- no read failed, and the last one was the thousandth quiet one
 abbrev pub EndsTooQuiet : SourceCall → Type 0
 EndsTooQuiet source = (source.after.faults ≡ source.before.faults) × (source.after.quiets ≡ many_more 1000 source.before.quiets)
 
@@ -38,7 +38,7 @@ abbrev pub NothingFailed : SourceCall → SinkCall → Type 0
 NothingFailed source sink = NoReadFailed source × NoWriteFailed sink
 
 -- What the source and the sink counted if a command ends so. A command ends at the first fault: the source's faults rose exactly if it ends by a
--- read fault, and the sink's exactly if by a write fault. It is too quiet exactly at the thousandth time that nothing came.
+-- read fault, and the sink's exactly if by a write fault. It is too quiet exactly at the thousandth quiet read.
 abbrev pub HasCause : CommandOutcome → SourceCall → SinkCall → Type 0
 HasCause Done source sink = NothingFailed source sink
 HasCause ReadFault source sink = EndsByReadFault source × NoWriteFailed sink
@@ -56,7 +56,7 @@ ReadBroke source = EndsByReadFault source ⊎ EndsTooQuiet source
 abbrev pub HasLateCause : CommandOutcome → SourceCall → SinkCall → Type 0
 HasLateCause outcome source sink = HasCause outcome source sink ⊎ ((outcome ≡ WriteFault) × ReadBroke source × WriteFailed sink)
 
--- What the counts say of a status, and the status of the counts. 3: a read failed, or the thousandth brought nothing. 4: a write failed. Any
+-- What the counts say of a status, and the status of the counts. 3: a read failed, or the thousandth quiet one came. 4: a write failed. Any
 -- other: nothing failed.
 abbrev pub StatusHasCause : ℕ → SourceCall → SinkCall → Type 0
 StatusHasCause status source sink =
@@ -64,10 +64,10 @@ StatusHasCause status source sink =
     ⊎ (((status ≡ 4) × (NoReadFailed source ⊎ ReadBroke source) × WriteFailed sink)
     ⊎ ((status ≢ 3) × (status ≢ 4) × NothingFailed source sink))
 
--- a read failed, or a thousand reads or more brought nothing
+-- a read failed, or a thousand reads or more were quiet
 abbrev pub HasReadCause : SourceCall → Type 0
 HasReadCause source = ReadFailed source ⊎ WasQuiet 1000 source
 
--- no read and no write failed, and fewer than a thousand reads brought nothing
+-- no read and no write failed, and fewer than a thousand reads were quiet
 abbrev pub NothingFails : SourceCall → SinkCall → Type 0
 NothingFails source sink = (ReadFailed source → ⊥) × (WasQuiet 1000 source → ⊥) × (WriteFailed sink → ⊥)

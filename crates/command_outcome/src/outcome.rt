@@ -8,11 +8,11 @@ pub enum CommandOutcome {
     Done,
     /// A read failed.
     ReadFault,
-    /// A read brought nothing for the thousandth time.
+    /// A read was quiet for the thousandth time.
     TooQuiet,
     /// A write failed.
     WriteFault,
-    /// As many bytes as may be taken were read, and one more came.
+    /// As many bytes as the limit allows were read, and one more came.
     Full,
     /// A line was refused. Only a command that reads lines ends so.
     BadLine,

@@ -1,4 +1,4 @@
--- Packets taken one after another, of which only what they cause is made.
+-- Packets taken one after another, making only what they cause.
 use Rattle.std.proofs.Common.{◌≡◌, ℕ, refl, sym, ap, ◌∙◌, subst, Bool, true, false, cond, ◌&&◌, List, [], ◌∷◌, ◌++◌, append-nil, Option, Some, None, option_map, option_to_list, unwrap_or, map}
 use Rattle.std.proofs.lemmas.Bool.{and_from}
 use Rattle.std.proofs.lemmas.List.{map-append}

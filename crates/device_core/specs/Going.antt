@@ -1,4 +1,4 @@
--- What it is that packets were taken: their notes went to the epochs, and the reports that they told were made.
+-- What taking packets means: their notes went to the epochs, and their reports were made.
 use Rattle.std.specs.Prelude.{◌≡◌, true, List, [], ◌∷◌, ◌++◌, Option}
 use Rattle.gps_report.specs.declared.fix.Pair.{Pair}
 use Rattle.gps_report.specs.declared.packet.Packet.{Packet}
@@ -10,7 +10,7 @@ use Rattle.device_core.specs.Stream.{notes_of}
 use Rattle.device_core.specs.Reports.{told, all_told, last_toff, without_packets}
 use Rattle.device_core.specs.Drafts.{is_low}
 
--- one packet was taken behind any packets before it
+-- one packet was taken after any packets before it
 pub record TookOne (old now : EpochsKept) (toff next : Option Pair) (packet : Packet) (bodies more : List Body) : Type 0 where
   pub told_it : (before : List Packet) → NotesStand old (notes_of before) → more ≡ bodies ++ told before packet
   pub stands : (before : List Packet) → NotesStand old (notes_of before) → NotesStand now (notes_of (before ++ packet ∷ []))

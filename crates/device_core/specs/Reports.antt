@@ -30,7 +30,7 @@ last_toff (body ∷ more) = option_or (last_toff more) (toff_in body)
 abbrev pub newer : Option Pair → Body → Option Pair
 newer toff body = option_or (toff_in body) toff
 
--- a packet, and what its note causes behind the notes before it
+-- a packet, and what its note causes after the notes before it
 abbrev pub told : List Packet → Packet → List Body
 told before packet = PacketBody packet ∷ beyond (reports (notes_of before)) (reports (notes_of (before ++ packet ∷ [])))
 

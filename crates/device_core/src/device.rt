@@ -1,5 +1,6 @@
 ghost use Rattle.std.specs.Prelude.{◌≡◌, ◌∷◌, ◌++◌, [], Some, None, true, List, IfOk, OnOk, OnErr, option_map, option_to_list, length, ◌+◌, ◌≤◌};
 ghost use Rattle.gps_report.specs.declared.edge.Symbol.{Symbol as SymbolValue};
+ghost use Rattle.packet_cut.specs.Packets.{most_pending};
 ghost use Rattle.device_core.specs.Stream.{piece};
 ghost use Rattle.device_core.specs.Reports.{Gains, GainsWithoutPackets, device_close};
 ghost use Rattle.device_core.specs.Standing.{StandsFor, with_nothing_running};
@@ -16,7 +17,7 @@ use std::alloc::Global;
 use std::marker::Model;
 use std::mem;
 
-/// One device: what its bytes and edges have come to.
+/// One device: what is kept of its bytes and edges.
 ///
 /// It keeps the bytes that are pending, the running epoch, the last assert edge and the last serial time. A call may be made as a draft,
 /// which changes the device and can be undone without memory until it is committed; each further call commits an open draft first.
@@ -84,7 +85,7 @@ impl Device {
     #[tactic(auto, using(crate::proofs::Devices::gains_fed, crate::proofs::Devices::stands_fed))]
     pub fn draft_feed(&mut self, at: Stamp, bytes: &[u8]) -> Result<Vec<Body>, NoMemory>
         ensures gains { IfOk result (λ out. (stream : List SymbolValue) → StandsFor self.old.now stream → Gains stream (piece at bytes.now) out.items) }
-        ensures few { IfOk result (λ out. length out.items ≤ 2055 + length bytes.now) }
+        ensures few { IfOk result (λ out. length out.items ≤ most_pending + length bytes.now) }
         ensures stands { OnOk result ((stream : List SymbolValue) → StandsFor self.old.now stream → StandsFor self.new.now (stream ++ piece at bytes.now)) }
         ensures back { OnOk result (self.new.back ≡ Some self.old.now) }
         ensures err { OnErr result (self.new ≡ record { now = self.old.now; back = None }) }
@@ -144,7 +145,7 @@ impl Device {
         }
     }
 
-    /// Takes an open draft back: the device is as it was before it. Takes no memory.
+    /// Undoes an open draft: the device is as it was before it. Takes no memory.
     pub fn undo(&mut self)
         ensures { self.new ≡ record { now = back_or self.old; back = None } }
     {
@@ -206,7 +207,7 @@ impl Device {
     /// causes, and at most 2,055 more than the bytes. A refusal leaves what the device keeps as it was.
     pub fn feed(&mut self, at: Stamp, bytes: &[u8]) -> Result<Vec<Body>, NoMemory>
         ensures gains { IfOk result (λ out. (stream : List SymbolValue) → StandsFor self.old.now stream → Gains stream (piece at bytes.now) out.items) }
-        ensures few { IfOk result (λ out. length out.items ≤ 2055 + length bytes.now) }
+        ensures few { IfOk result (λ out. length out.items ≤ most_pending + length bytes.now) }
         ensures stands { OnOk result ((stream : List SymbolValue) → StandsFor self.old.now stream → StandsFor self.new.now (stream ++ piece at bytes.now)) }
         ensures committed { self.new.back ≡ None }
         ensures err { OnErr result (self.new.now ≡ self.old.now) }
@@ -216,7 +217,7 @@ impl Device {
         Ok(out)
     }
 
-    /// As [`Device::feed`], without the packets: for those who want what packets cause alone. No packet is copied.
+    /// As [`Device::feed`], without the packets: for callers that need only what packets cause. No packet is copied.
     pub fn feed_without_packets(&mut self, at: Stamp, bytes: &[u8]) -> Result<Vec<Body>, NoMemory>
         ensures gains { IfOk result (λ out. (stream : List SymbolValue) → StandsFor self.old.now stream
             → GainsWithoutPackets stream (piece at bytes.now) out.items) }

@@ -6,12 +6,12 @@ ghost use Rattle.gps_report.specs.declared.report.Body.{Body};
 ghost use Rattle.device_core.specs.Reports.{device_close, device_gain, device_reports, reports_from};
 ghost use Rattle.device_core.specs.Standing.{DeviceKept, StandsFor};
 
-/// More of a stream takes no report away and changes none.
+/// More of a stream removes no report and changes none.
 pub fn reports_are_a_beginning()
     ensures { (stream more : List Symbol) → (gained : List Body) × (device_reports (stream ++ more) ≡ device_reports stream ++ gained) }
 {}
 
-/// What more of a stream adds, symbol by symbol behind the stream.
+/// What more of a stream adds, symbol by symbol.
 pub fn reports_go_on()
     ensures { (stream more : List Symbol) → device_reports (stream ++ more) ≡ device_reports stream ++ reports_from stream more }
 {}

@@ -25,7 +25,7 @@ fn note_of_bytes(alloc: Global, kind: PacketKind, bytes: &[u8]) -> Result<Note, 
     }
 }
 
-/// What a packet says.
+/// What a packet says. It only forwards: the prover then sees one packet in place of its parts.
 fn note_of_packet(alloc: Global, packet: &Packet) -> Result<Note, NoMemory>
     ensures note { IfOk result (λ note. note ≡ note_in packet.now.kind packet.now.bytes) }
     ensures fits { IfOk result Fits }
@@ -59,7 +59,7 @@ fn last_toff(bodies: &[Body], before: Option<Pair>) -> Option<Pair>
     toff
 }
 
-/// Adds a packet and what it causes behind the reports.
+/// Adds a packet and what it causes after the reports.
 fn add_told(out: &mut Vec<Body>, packet: Packet, mut caused: Vec<Body>) -> Result<(), NoMemory>
     ensures { OnOk result (out.new.items ≡ out.old.items ++ Body.Packet packet ∷ caused.items) }
 {
@@ -68,7 +68,7 @@ fn add_told(out: &mut Vec<Body>, packet: Packet, mut caused: Vec<Body>) -> Resul
     Ok(())
 }
 
-/// Takes a packet: it goes to the reports, and what its note causes behind it, at most five.
+/// Takes a packet: it goes to the reports, and what its note causes after it, at most five.
 #[tactic(auto, using(crate::proofs::Taking::took_one, crate::proofs::Taking::few_more))]
 fn take_packet(
     alloc: Global,
@@ -88,7 +88,7 @@ fn take_packet(
     Ok(next)
 }
 
-/// Takes packets in order, and gives their reports and the last serial time.
+/// Takes packets in order, and returns their reports and the last serial time.
 #[tactic(auto, using(crate::proofs::Taking::took_none, crate::proofs::Taking::took_more))]
 pub(crate) fn take_packets(
     alloc: Global,
@@ -109,7 +109,7 @@ pub(crate) fn take_packets(
     Ok((out, last))
 }
 
-/// Adds reports behind others. Most packets cause none, and mostly none stand before those that are caused: then their own list is kept.
+/// Adds reports after others. Most packets cause none, and mostly none come before those that are caused: then their own list is kept.
 #[tactic(auto, using(crate::proofs::Taking::none_behind, crate::proofs::Taking::none_before))]
 fn add_behind(out: &mut Vec<Body>, mut caused: Vec<Body>) -> Result<(), NoMemory>
     ensures { OnOk result (out.new.items ≡ out.old.items ++ caused.items) }

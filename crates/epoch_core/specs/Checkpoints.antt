@@ -1,4 +1,4 @@
--- A checkpoint, to which an Epochs can go back: where the running epoch stood, and that epoch itself if it has closed since.
+-- A checkpoint, to which an Epochs can go back: what the running epoch was, and that epoch itself if it has closed since.
 use Rattle.std.specs.Prelude.{◌≤◌, true, length, take, Option, None, Some, unwrap_or, ◌≡◌}
 use Rattle.gps_report.specs.Fits.{where_given}
 use Rattle.epoch_core.specs.declared.days.Days.{Days}
@@ -42,7 +42,7 @@ pub record IsSound (days : Days) (r : Ran) (checkpoint : Option Checkpoint) : Ty
   pub day : where_given is_known_day days.day ≡ true
   pub way_back : HoldsCheckpoint checkpoint r
 
--- the checkpoint after the running epoch was replaced: the old one stands aside, unless an older one does
+-- the checkpoint after the running epoch was replaced: the old one is set aside, unless an older one is
 abbrev pub moved_aside : Option Ran → Ran → Option Ran
 moved_aside None r = Some r
 moved_aside (Some old) r = Some old

@@ -114,7 +114,7 @@ abbrev pub closings : List (List Dated) → List Body
 closings [] = []
 closings (epoch ∷ earlier) = closings earlier ++ closing epoch
 
--- the notes of epochs, one epoch behind another
+-- the notes of epochs, one epoch after another
 abbrev pub all_notes : List (List Dated) → List Dated
 all_notes [] = []
 all_notes (epoch ∷ earlier) = epoch ++ all_notes earlier

@@ -1,4 +1,4 @@
--- Numbers that tell satellites, and used ids, apart: equal numbers for equal ones.
+-- Numbers that distinguish satellites, and used ids: equal numbers for equal ones.
 use Rattle.std.specs.Prelude.{ℕ, ◌+◌, ◌-◌, ◌*◌, ◌<◌, Bool, false, ◌&&◌, cond, List, Option, None, Some, nat_eq, nat_le, map, length, ◌≡◌}
 use Rattle.std.specs.List.{slice_get, IsDistinct}
 use Rattle.std.specs.Ordering.{nat_cmp}

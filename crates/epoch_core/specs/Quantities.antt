@@ -1,4 +1,4 @@
--- The quantities of an epoch: of each, what the last note that gives it says. An epoch is a past, its latest note first.
+-- The quantities of an epoch: each as the last note that has it says. An epoch is a past, its latest note first.
 -- This project's own; which message gives which quantity is after NMEA 0183 and the u-blox interface description.
 use Rattle.std.specs.Prelude.{ℕ, pos, Bool, true, false, not, List, Option, None, Some, nat_eq, option_map}
 use Rattle.std.specs.List.{list_any}

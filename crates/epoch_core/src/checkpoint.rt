@@ -5,7 +5,7 @@ use crate::days::Days;
 use crate::point::Point;
 use crate::running::Running;
 
-/// The way back: where the running epoch stood at the checkpoint, and that epoch itself if it has closed since.
+/// The way back: what the running epoch was at the checkpoint, and that epoch itself if it has closed since.
 #[derive(Debug, Drop)]
 pub struct Checkpoint {
     pub days: Days,
@@ -13,7 +13,7 @@ pub struct Checkpoint {
     pub aside: Option<Running>,
 }
 
-/// Keeps the epoch that stood at the checkpoint; a later one is dropped.
+/// Keeps the epoch that ran at the checkpoint; a later one is dropped.
 pub fn set_aside(checkpoint: &mut Option<Checkpoint>, old: Running)
     ensures { checkpoint.new ≡ put_aside checkpoint.old old }
 {

@@ -57,7 +57,7 @@ impl Epochs {
         }
     }
 
-    /// Puts a running epoch in the place of the one that ran; that one stands aside if there is a checkpoint.
+    /// Replaces the running epoch; the old one is set aside if there is a checkpoint.
     #[tactic(auto, using(crate::proofs::Renewed::back_stays, crate::proofs::Renewed::checkpoint_stays))]
     fn renew(&mut self, fresh: Running)
         ensures { self.new ≡ record { now = record self.old.now { ran = fresh }; back = self.old.back } }
@@ -66,7 +66,7 @@ impl Epochs {
         set_aside(&mut self.checkpoint, old);
     }
 
-    /// Notes the present state as the checkpoint, in place of an earlier one. Takes no memory.
+    /// Makes the present state the checkpoint, in place of an earlier one. Takes no memory.
     #[tactic(auto, unfolding(crate::specs::Checkpoints::back_from, crate::specs::Checkpoints::HoldsCheckpoint), using(crate::proofs::Grown::at_now, crate::proofs::Grown::within_now))]
     pub fn checkpoint(&mut self)
         ensures { self.new ≡ record { now = self.old.now; back = Some self.old.now } }
@@ -205,14 +205,19 @@ impl Epochs {
     /// stamp as well. A refusal changes nothing; the checkpoint stays.
     #[tactic(auto, using(crate::proofs::Told::gained))]
     pub fn take(&mut self, note: &Note, first: Stamp) -> Result<Vec<Body>, NoMemory>
+        // What the note adds, to the list of notes and to the reports.
         requires { Fits note.now }
         ensures gains { IfOk result (λ out. (notes : List Heard) → StandsFor self.old.now notes
             → Gains notes (record { note = note.now; first = first }) out.items) }
         ensures stands { OnOk result ((notes : List Heard) → StandsFor self.old.now notes
             → StandsFor self.new.now (notes ++ record { note = note.now; first = first } ∷ [])) }
+
+        // The checkpoint, and bounds of the reports.
         ensures checkpoint { OnOk result (self.new.back ≡ self.old.back) }
         ensures low { IfOk result (λ out. list_all leaves_a_second out.items ≡ true) }
         ensures few { IfOk result (λ out. length out.items ≤ 5) }
+
+        // What a refusal leaves.
         ensures err { OnErr result (self.new ≡ self.old) }
     {
         let out = self.step(note, first)?;

@@ -6,7 +6,7 @@ use crate::running::system_of;
 use crate::used_id::UsedId;
 use gps_report::{BEIDOU, GALILEO, GLONASS, GPS, Satellite};
 
-/// How many satellites sentences can tell apart: five systems, the absent one among them, 999 numbers and
+/// How many satellites sentences can distinguish: five systems, the absent one among them, 999 numbers and
 /// 17 signals.
 const OF_SENTENCES: u64 = 84_915;
 

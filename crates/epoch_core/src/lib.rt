@@ -1,6 +1,6 @@
-//! Epochs: the notes of one receiver, grouped into what it said of one moment, and the reports that come of it.
+//! Epochs: the notes of one receiver, grouped by the moment that they are about, and the reports of each group.
 //!
-//! A note begins an epoch if its time tag changes or an end of epoch stands before it (this project's own rules).
+//! A note begins an epoch if its time tag changes or an end of epoch comes before it (this project's own rules).
 //! An epoch gives its serial time, then a fix and a sky once it is closed.
 #![tactic(auto)]
 

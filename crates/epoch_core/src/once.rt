@@ -10,7 +10,7 @@ use std::alloc::Global;
 use std::collections::BTreeMap;
 use std::marker::Model;
 
-/// What is told from its like by a number.
+/// An element with a number that distinguishes it from others of its kind.
 pub trait Keyed: Copy {
     ghost key: { Self → ℕ };
 
@@ -18,7 +18,7 @@ pub trait Keyed: Copy {
         ensures { result ≡ key self.now };
 }
 
-/// The room that the first element takes.
+/// How many elements the first one allocates room for.
 const USUAL: usize = 16;
 
 /// A list of up to this length is searched one by one; a longer one has a map of its places.
@@ -26,7 +26,7 @@ const FEW: usize = 64;
 
 /// A list that takes each key once, in the order in which they came.
 ///
-/// The keys stand beside it, so that a search makes none anew. `places` may know keys that the list has lost again: a place counts only
+/// The keys are beside it, so that a search makes none again. `places` may know keys that the list has lost again: a place counts only
 /// if the list has that key.
 #[derive(Debug, Drop)]
 pub struct Once<T: Keyed> {
@@ -114,7 +114,7 @@ fn places_of<T: Keyed>(alloc: Global, items: &[T]) -> Result<BTreeMap<u64, usize
     Ok(places)
 }
 
-/// Makes the map ready for one more element with this key, if the list is long enough to want one.
+/// Makes the map ready for one more element with this key, if the list is long enough to need one.
 fn place_next<T: Keyed>(
     items: &[T],
     places: &mut BTreeMap<u64, usize>,

@@ -86,7 +86,7 @@ fn push_toff(
     }
 }
 
-/// Adds the satellites of a note. A refusal changes nothing.
+/// Adds the satellites of a note. A refusal changes nothing. It only forwards, for the prover: its contract speaks of the note.
 #[tactic(auto, using(crate::proofs::Sameness::sats_added, crate::proofs::Sameness::sats_fit))]
 fn add_satellites(sats: &mut Once<Satellite>, note: &Note) -> Result<(), NoMemory>
     requires kept { list_all is_satellite sats.old ≡ true }
@@ -139,13 +139,18 @@ fn add_lists(
     used_ids: &mut Once<UsedId>,
     note: &Note,
 ) -> Result<(), NoMemory>
+    // What the lists and the note have to satisfy.
     requires sats { list_all is_satellite sats.old ≡ true }
     requires used_ids { list_all is_used_id used_ids.old ≡ true }
     requires fits { Fits note.now }
+
+    // What the lists are after it.
     ensures sats { OnOk result (sats.new ≡ all_added same_satellite sats.old note.now.sats) }
     ensures used_ids { OnOk result (used_ids.new ≡ all_added same_used_id used_ids.old (used_ids_in note.now)) }
     ensures sats_fit { list_all is_satellite sats.new ≡ true }
     ensures used_ids_fit { list_all is_used_id used_ids.new ≡ true }
+
+    // What a refusal leaves.
     ensures sats_err { OnErr result (sats.new ≡ sats.old) }
     ensures used_ids_err { OnErr result (used_ids.new ≡ used_ids.old) }
 {
@@ -255,7 +260,7 @@ impl Running {
         self.push_sky(alloc, out)
     }
 
-    /// One more note of this epoch, and what it tells: a Toff, and the closing if the note ends the epoch.
+    /// One more note of this epoch, and what it gives: a Toff, and the closing if the note ends the epoch.
     /// A refusal changes nothing but `out`.
     #[tactic(auto, unfolding(crate::specs::Steps::ran_told))]
     pub fn tell(

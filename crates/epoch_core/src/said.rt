@@ -8,7 +8,7 @@ ghost use Rattle.epoch_core.specs.Steps.{retimed, said_grown};
 use gps_fixed::{Stamp, utc_of};
 use gps_report::{Note, NoteKind, Position, Tag};
 
-/// What the notes of an epoch said: of each quantity, what the last that gave it says.
+/// What the notes of an epoch said: each quantity as the last note that has it says.
 ///
 /// Units are those of a note. `first` is the stamp of the epoch's first packet, and `stamped` the serial time of the
 /// first note that had one.
@@ -82,7 +82,7 @@ pub fn is_sky_kind(kind: NoteKind) -> bool
     matches!(kind, NoteKind::Gsv | NoteKind::Sat)
 }
 
-/// The time of a note that has a time of day takes the place of an earlier one.
+/// The time of a note that has a time of day replaces an earlier one.
 fn retime(time: &mut Option<Stamp>, tod: Option<u64>, at: &Option<Stamp>)
     ensures { time.new ≡ retimed tod at.now time.old }
 {
@@ -91,7 +91,7 @@ fn retime(time: &mut Option<Stamp>, tod: Option<u64>, at: &Option<Stamp>)
     }
 }
 
-/// A quantity that is the first given stays.
+/// The first value that is given for a quantity stays.
 fn keep<T: Copy>(quantity: &mut Option<T>, given: &Option<T>)
     ensures { quantity.new ≡ option_or quantity.old given.now }
 {
@@ -100,7 +100,7 @@ fn keep<T: Copy>(quantity: &mut Option<T>, given: &Option<T>)
     }
 }
 
-/// A quantity that is given takes the place of an earlier one.
+/// A quantity that is given replaces an earlier one.
 fn renew<T: Copy>(quantity: &mut Option<T>, given: Option<T>)
     ensures { quantity.new ≡ option_or given quantity.old }
 {

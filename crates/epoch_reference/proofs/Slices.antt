@@ -44,7 +44,7 @@ left_out same y x true h false = ap (λ v. cond (not v) (x ∷ []) []) h
 left_out same y x false h true = refl
 left_out same y x false h false = ap (λ v. cond (not v) (x ∷ []) []) h
 
--- an element behind all others stands if none of them equals it
+-- an element after all others stays if none of them equals it
 one_more : {X : Type 0} (same : X → X → Bool) (xs : List X) (x : X)
     → firsts same (xs ++ x ∷ []) ≡ firsts same xs ++ cond (list_any (λ y. same y x) xs) [] (x ∷ [])
 one_more same [] x = refl

@@ -10,7 +10,7 @@ use gps_fixed::NoMemory;
 use gps_report::{Body, fits};
 use std::alloc::Global;
 
-/// What the notes of a whole list give.
+/// The reports of the notes of a whole list.
 #[derive(Debug, Drop)]
 pub struct Grouped {
     /// The reports, as they came.
@@ -19,7 +19,7 @@ pub struct Grouped {
     pub left: Vec<Body>,
 }
 
-/// Whether all notes of a list are ones that sentences and frames give.
+/// Whether all notes of a list can be those of sentences and frames.
 pub fn all_fit(notes: &[Heard]) -> bool
     ensures { IsTrue result ↔ All (λ h. Fits h.note) notes.now }
 {
@@ -84,7 +84,7 @@ fn group_known(alloc: Global, notes: &[DatedNote]) -> Result<Grouped, NoMemory>
 /// All reports of a list of notes, as they came, and those of the epoch that is not closed at its end.
 ///
 /// This looks at the whole list: each epoch is a part of it, and each quantity is looked for in the epoch's notes.
-/// It takes time with the square of the list; `Epochs` gives the same reports note by note.
+/// Its time grows with the square of the list; `Epochs` gives the same reports note by note.
 #[tactic(auto, unfolding(epoch_core::specs::Epochs::reports, epoch_core::specs::Epochs::left))]
 pub fn group_all(alloc: Global, notes: &[Heard]) -> Result<Grouped, NoMemory>
     requires { All (λ h. Fits h.note) notes.now }

@@ -20,7 +20,7 @@ use gps_fixed::{NoMemory, Stamp};
 use gps_report::{Body, Note, Pair, Satellite, Sats, Sky, Tag};
 use std::alloc::Global;
 
-/// What the last note that gives it gives.
+/// The value of the last note that has one.
 fn latest<'a, T: Copy, F: Fn(&DatedNote<'a>) -> Option<T>>(
     epoch: &[DatedNote<'a>],
     given: F,
@@ -37,7 +37,7 @@ fn latest<'a, T: Copy, F: Fn(&DatedNote<'a>) -> Option<T>>(
     None
 }
 
-/// What the first note that gives it gives.
+/// The value of the first note that has one.
 fn earliest<'a, T: Copy, F: Fn(&DatedNote<'a>) -> Option<T>>(
     epoch: &[DatedNote<'a>],
     given: F,
@@ -192,7 +192,7 @@ fn has_same(satellites: &[Satellite], satellite: &Satellite) -> bool
     satellites.iter().any(|s| is_same(s, satellite))
 }
 
-/// Adds a satellite, unless an equal one stands before it.
+/// Adds a satellite, unless an equal one comes before it.
 fn push_first(
     first: &mut Vec<Satellite>,
     before: &[Satellite],

@@ -7,7 +7,7 @@ use Rattle.json_line.specs.Names.{head_of}
 use Rattle.gps_client.specs.Objects.{begins, class_in}
 use Rattle.gps_client.specs.Texts.{Begins}
 
--- each head is found behind no other
+-- no head is found after another
 pub class_back : (c : Class) (rest : List ℕ) → class_in (head_of c ++ rest) ≡ Some c
 unfolding class_in head_of
 class_back class.Version rest = refl

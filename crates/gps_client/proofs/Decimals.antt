@@ -80,7 +80,7 @@ pub decimal_plain : (n : ℕ) → n < 10 ^ 19 → is_plain (decimal n) ≡ true
 decimal_plain zero h = plain_of 0 (decimal 0) (decimal_is 0 (omega arith)) (length-decimal-le 1 0 (omega arith) (omega arith) (omega arith))
 decimal_plain (suc n) h = plain_long (suc n) (decimal (suc n)) (omega arith) (decimal_is (suc n) (omega (arith, h))) (length-decimal-le 19 (suc n) (omega arith) h (omega arith))
 
--- one more digit behind the others
+-- one more digit after the others
 decimal_more : (n : ℕ) → n < 2 ^ 64 → 10 ≤ n → decimal n ≡ decimal (n / 10) ++ (48 + n % 10) ∷ []
 decimal_more n h ten =
     let some : 0 < n = omega (arith, ten) in
@@ -96,7 +96,7 @@ grows : (ds : List ℕ) (n : ℕ) → n ≤ fold step n ds
 grows [] n = omega arith
 grows (c ∷ ds) n = omega (arith, grows ds (n * 10 + (c - 48)))
 
--- digits behind a number above zero
+-- digits after a number above zero
 digits_behind : (ds : List ℕ) (a : ℕ) → 0 < a → list_all is_ascii_digit ds ≡ true → fold step a ds < 2 ^ 64 → decimal (fold step a ds) ≡ decimal a ++ ds
 digits_behind [] a some all h = sym (append-nil (decimal a))
 digits_behind (c ∷ ds) a some all h =
@@ -148,7 +148,7 @@ digits_pass zero n = refl
 digits_pass (suc k) n =
     and_from (is_ascii_digit (48 + n / 10 ^ k % 10)) (list_all is_ascii_digit (digits_in k n)) (digit_is (n / 10 ^ k % 10) (mod-lt (n / 10 ^ k) (omega arith))) (digits_pass k n)
 
--- digits behind a number
+-- digits after a number
 spread_behind : (k a n : ℕ) → fold step a (digits_in k n) ≡ a * 10 ^ k + n % 10 ^ k
 spread_behind zero a n = omega (arith, pow-zero 10)
 spread_behind (suc k) a n =
@@ -165,7 +165,7 @@ spread_behind (suc k) a n =
 pub digits_value : (k n : ℕ) → number (digits_in k n) ≡ n % 10 ^ k
 digits_value k n = spread_behind k 0 n ∙ (let e : 0 * 10 ^ k + n % 10 ^ k ≡ n % 10 ^ k = omega arith in e)
 
--- what stands before the last n digits
+-- what comes before the last n digits
 pub fold_value : (ds : List ℕ) (a : ℕ) → list_all is_ascii_digit ds ≡ true → (r : ℕ) × (fold step a ds ≡ a * 10 ^ length ds + r) × (r < 10 ^ length ds)
 fold_value [] a all = (0, omega (arith, pow-zero 10), omega (arith, pow-zero 10))
 fold_value (c ∷ ds) a all =
@@ -184,7 +184,7 @@ front_of ds a all =
     let v = fold_value ds a all in
     ap (λ n. n / 10 ^ length ds) v.1 ∙ div-mul-add a (10 ^ length ds) v.0 v.2
 
--- n digits are those of their number, whatever stands before them
+-- n digits are those of their number, whatever comes before them
 pub digits_of_all : (ds : List ℕ) (a : ℕ) → list_all is_ascii_digit ds ≡ true → digits_in (length ds) (fold step a ds) ≡ ds
 digits_of_all [] a all = refl
 digits_of_all (c ∷ ds) a all =

@@ -68,7 +68,7 @@ number_back k (negsuc n) some h =
       value_is = ap (λ m. neg_ℤ (pos m)) (sym (magnitude_is k (suc n) some h));
     })
 
--- the shape of the text behind any sign
+-- the shape of the text after its sign, if it has one
 abbrev shape : ℕ → List ℕ → Bool
 shape k u = is_plain (take (prefix_len is_ascii_digit u) u) && (length u == prefix_len is_ascii_digit u + 1 + k)
 

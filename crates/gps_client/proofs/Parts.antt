@@ -11,7 +11,7 @@ use Rattle.gps_client.proofs.Rows.{IsPart, IsRow, IsWhole, After, is_end, part, 
 abbrev pub Begins : List ℕ → Type 0
 Begins label = (t : List ℕ) → is_end (label ++ t) ≡ true
 
--- a value behind its label
+-- a value after its label
 labelled_sound : {X : Type 0} (R : X → Type 0) (text : X → List ℕ) (value : Reading X) (label : List ℕ)
     → ((b : List ℕ) (x : X) (rest : List ℕ) → value b ≡ Some (x, rest) → R x × (b ≡ text x ++ rest))
     → (b : List ℕ) (x : X) (rest : List ℕ) → labelled label value b ≡ Some (x, rest) → R x × (b ≡ (label ++ text x) ++ rest)
@@ -37,7 +37,7 @@ row_labelled {X} {labels} {R} {text} {value} label begins is = record {
       (after_label others label (text x ++ rest) (and_parts (list_all (λ l. part l label) others) (all_part others labels) away).0 (begins (text x ++ rest)));
 }
 
--- a value behind its label, or nothing
+-- a value after its label, or nothing
 abbrev pub optional_text : {X : Type 0} → List ℕ → (X → List ℕ) → Option X → List ℕ
 optional_text label text None = []
 optional_text label text (Some x) = label ++ text x
@@ -73,7 +73,7 @@ row_optional {X} {labels} {R} {text} {value} label begins is = record { is_part 
         subst (After others) (sym (append_assoc label (text x) rest))
         (after_label others label (text x ++ rest) (and_parts (list_all (λ l. part l label) others) (all_part others labels) away).0 (begins (text x ++ rest)))
 
--- what has an end of its own may stand before anything
+-- what has an end of its own may come before anything
 ended_whole : {X : Type 0} (R : X → Type 0) (text : X → List ℕ) (read : Reading X) (end : List ℕ) → ((b : List ℕ) (x : X) (rest : List ℕ) → read b ≡ Some (x, rest) → R x × (b ≡ text x ++ rest))
     → ((x : X) (rest : List ℕ) → R x → read (text x ++ (end ++ rest)) ≡ Some (x, end ++ rest)) → IsWhole R (λ x. text x ++ end) (ended end read)
 ended_whole {X} R text read end before behind_it = record { sound = sound; full = full }
@@ -124,7 +124,7 @@ commas-nil : {X : Type 0} (text : X → List ℕ) (rest : List ℕ) → behind_c
 unfolding behind_commas
 commas-nil text rest = refl
 
--- the items behind the first
+-- the items after the first
 abbrev AreItems : {X : Type 0} (R : X → Type 0) (text : X → List ℕ) → List ℕ → List X → List ℕ → Type 0
 AreItems R text b xs rest = AllByRecursion R xs × (b ≡ behind_commas text xs ++ (codes "]" ++ rest))
 

@@ -1,4 +1,4 @@
--- A text that is cut behind its end.
+-- A text that is cut after its end.
 use Rattle.std.proofs.Common.{◌≡◌, ℕ, ◌<◌, arith, List, [], length, take, drop, take_all, sym}
 use Rattle.std.proofs.lemmas.List.{drop_all}
 

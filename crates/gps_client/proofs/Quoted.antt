@@ -18,7 +18,7 @@ use Rattle.gps_client.proofs.Rows.{IsWhole, After, bind_some, pair_same, behind_
 use Rattle.gps_client.proofs.Stamps.{stamp_sound, stamp_full}
 use Rattle.gps_client.proofs.Whole.{run, chosen}
 
--- a word that must stand there
+-- a word that must be there
 pub word_sound : {X : Type 0} (word : List ℕ) (value x : X) (b rest : List ℕ) → word_at word value b ≡ Some (x, rest) → (value ≡ x) × (b ≡ word ++ rest)
 word_sound word value x b rest e =
     let a = bind_some (behind word b) (λ t. Some (value, t)) (x, rest) e in

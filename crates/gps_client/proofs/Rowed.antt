@@ -61,7 +61,7 @@ mode_value = part_as to from (λ n. refl) (part_such is_mode whole_value)
     from : (n : ℕ) → IsMode n → IsSmall n × (is_mode n ≡ true)
     from n r = (omega (arith, r.1), and_from (nat_le 1 n) (nat_le n 3) (grind (arith, nat_tests, r.0)) (grind (arith, nat_tests, r.1)))
 
--- a position, whose halves stand together
+-- a position, whose halves are together
 abbrev place_labels : List (List ℕ)
 place_labels = label_of key.Lat ∷ label_of key.Lon ∷ []
 

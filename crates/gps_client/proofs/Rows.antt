@@ -1,4 +1,4 @@
--- Readings that are exact, and how they are joined: what is read is in range and stands there, and what stands there is read.
+-- Readings that are exact, and how they are joined: what is read is in range and is there, and what is there is read.
 use Rattle.std.proofs.Common.{◌≡◌, ℕ, Bool, true, false, cond, not, ◌&&◌, List, [], ◌∷◌, ◌++◌, Option, Some, None, refl, sym, ap, ◌∙◌, subst, append_assoc, length, take, drop, take-append-drop}
 use Rattle.std.specs.Prelude.{◌==◌, if◌then◌else◌}
 use Rattle.std.specs.List.{list_all}
@@ -16,7 +16,7 @@ bind_some None f y e = absurd cc
 pub pair_same : {X : Type 0} (x y : X) (a b : List ℕ) → Path (Option (X × List ℕ)) (Some (x, a)) (Some (y, b)) → (x ≡ y) × (a ≡ b)
 pair_same {X} x y a b e = let same : Path (X × List ℕ) (x, a) (y, b) = cc in (ap (λ (p : X × List ℕ). p.0) same, ap (λ (p : X × List ℕ). p.1) same)
 
--- bytes that stand at the head
+-- bytes at the head
 pub behind_sound : (head text rest : List ℕ) → behind head text ≡ Some rest → text ≡ head ++ rest
 unfolding behind
 behind_sound head text rest e = by_test (bytes_eq (take (length head) text) head) refl e
@@ -34,7 +34,7 @@ behind_full head rest =
     let test : bytes_eq (take (length head) (head ++ rest)) head ≡ true = (bytes_decides (take (length head) (head ++ rest)) head).1 (take_at head rest (length head) refl) in
     cond-true (bytes_eq (take (length head) (head ++ rest)) head) (Some (drop (length head) (head ++ rest))) None test ∙ ap (λ t. Some t) (drop_at head rest (length head) refl)
 
--- what may stand behind a value: no byte of a number, and none of these labels
+-- what may follow a value: no byte of a number, and none of these labels
 abbrev pub is_end : List ℕ → Bool
 is_end [] = true
 is_end (c ∷ text) = not (is_number_byte c)
@@ -75,7 +75,7 @@ all_clear (l ∷ labels) m rest e =
     let parts = and_parts (part l m) (list_all (λ l. part l m) labels) e in
     (clear_of l m rest parts.0, all_clear labels m rest parts.1)
 
--- labels that part from a text are clear of it, whatever stands behind
+-- labels that part from a text are clear of it, whatever follows
 pub after_label : (labels : List (List ℕ)) (m rest : List ℕ) → list_all (λ l. part l m) labels ≡ true → is_end (m ++ rest) ≡ true → After labels (m ++ rest)
 after_label labels m rest apart end = (end, all_clear labels m rest apart)
 
@@ -100,7 +100,7 @@ pub record IsRow {X : Type 0} (labels : List (List ℕ)) (R : X → Type 0) (tex
   pub is_part : IsPart labels R text read
   pub keeps : (others : List (List ℕ)) → all_part others labels ≡ true → (x : X) (rest : List ℕ) → R x → After others rest → After others (text x ++ rest)
 
--- one that may stand before anything
+-- one that may come before anything
 pub record IsWhole {X : Type 0} (R : X → Type 0) (text : X → List ℕ) (read : Reading X) : Type 0 where
   pub sound : (b : List ℕ) (x : X) (rest : List ℕ) → read b ≡ Some (x, rest) → R x × (b ≡ text x ++ rest)
   pub full : (x : X) (rest : List ℕ) → R x → read (text x ++ rest) ≡ Some (x, rest)
@@ -108,7 +108,7 @@ pub record IsWhole {X : Type 0} (R : X → Type 0) (text : X → List ℕ) (read
 pub whole_part : {X : Type 0} {R : X → Type 0} {text : X → List ℕ} {read : Reading X} → IsWhole R text read → (labels : List (List ℕ)) → IsPart labels R text read
 whole_part w labels = record { sound = w.sound; full = λ x rest r after. w.full x rest r }
 
--- one behind another
+-- one after another
 pub part_then : {X Y : Type 0} {ks js : List (List ℕ)} {R : X → Type 0} {S : Y → Type 0} {t : X → List ℕ} {u : Y → List ℕ} {r : Reading X} {s : Reading Y}
     → IsPart ks R t r → IsRow js S u s → all_part ks js ≡ true → IsPart (ks ++ js) (λ (p : X × Y). R p.0 × S p.1) (λ (p : X × Y). t p.0 ++ u p.1) (r then s)
 part_then {X} {Y} {ks} {js} {R} {S} {t} {u} {r} {s} first second apart = record { sound = sound; full = full }

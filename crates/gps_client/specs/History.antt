@@ -1,4 +1,4 @@
--- What a report of a device is as the value of a line: the name of its device stands in it, and its times are cut to whole milliseconds, as they are written.
+-- What a report of a device is as the value of a line: the name of its device is in it, and its times are cut to whole milliseconds, as they are written.
 use Rattle.std.specs.Prelude.{ℕ, ◌<◌, List, Option, Some, None, option_map, IfSome}
 use Rattle.std.specs.List.{AllByRecursion}
 use Rattle.gps_fixed.specs.Iso.{in_milliseconds}

@@ -60,7 +60,7 @@ fix_at text =
 unfoldable pub tpv_at : Reading (List ℕ × Fix)
 tpv_at text = object_at (head_of class.Tpv) (member_at key.Device name_at then fix_at) text
 
--- the members of a satellite: its number stands first, without a label of its own
+-- the members of a satellite: its number comes first, without a label of its own
 unfoldable pub gnss_at : Reading (Option (ℕ × ℕ))
 gnss_at text = labelled_if (label_of key.Gnssid) (up_to 255 then member_at key.Svid (up_to 65_535)) text
 

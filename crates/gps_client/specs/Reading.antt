@@ -1,4 +1,4 @@
--- Reading from the head of a text: what stands there, and what stands behind it.
+-- Reading from the start of a text: what is there, and what follows it.
 use Rattle.std.specs.Prelude.{ℕ, zero, suc, ◌+◌, ◌*◌, ◌%◌, ◌^◌, slice_index, Bool, true, false, not, ◌&&◌, ◌||◌, ◌==◌, unsigned_abs, List, [], ◌∷◌, length, take, drop, Option, Some, None, nat_le, nat_lt, ℤ, pos, negsuc, neg_ℤ, codes, if◌then◌else◌}
 use Rattle.std.specs.Str.{bytes_eq}
 use Rattle.std.specs.List.{prefix_len}
@@ -39,11 +39,11 @@ such test r text = do
   x ← r text
   if test x.0 then Some x else None
 
--- what stands behind these bytes, if the text begins with them
+-- what follows these bytes, if the text begins with them
 unfoldable pub behind : List ℕ → List ℕ → Option (List ℕ)
 behind head text = if bytes_eq (take (length head) text) head then Some (drop (length head) text) else None
 
--- a value behind these bytes; if they do not stand there, no value
+-- a value after these bytes; if they are not there, no value
 abbrev pub labelled : {X : Type 0} → List ℕ → Reading X → Reading X
 labelled label value text = do
   rest ← behind label text
@@ -62,7 +62,7 @@ member_at key value text = labelled (label_of key) value text
 abbrev pub member_if_at : {X : Type 0} → Key → Reading X → Reading (Option X)
 member_if_at key value text = labelled_if (label_of key) value text
 
--- a value with these bytes behind it
+-- a value with these bytes after it
 abbrev pub ended : {X : Type 0} → List ℕ → Reading X → Reading X
 ended end value text = do
   x ← value text
@@ -83,7 +83,7 @@ whole_at text =
 abbrev pub up_to : ℕ → Reading ℕ
 up_to most text = such (λ n. nat_le n most) whole_at text
 
--- below zero behind a `-`
+-- below zero after a `-`
 abbrev pub negated_at : Option (List ℕ) → Reading ℤ
 negated_at (Some rest) text = made (λ n. neg_ℤ (pos n)) (such (λ n. nat_lt 0 n && nat_le n 2_147_483_648) whole_at) rest
 negated_at None text = made (λ n. pos n) (up_to 2_147_483_647) text
@@ -140,7 +140,7 @@ quote = codes "\""
 unfoldable pub time_at : Reading Moment
 time_at text = labelled quote (ended quote stamp_at) text
 
--- a name, up to the quote behind it
+-- a name, up to the quote after it
 abbrev pub is_no_quote : ℕ → Bool
 is_no_quote c = not (c == 34)
 
@@ -162,7 +162,7 @@ or_at None other text = other text
 unfoldable pub truth_at : Reading Bool
 truth_at text = or_at (word_at (codes "true") true text) (word_at (codes "false") false) text
 
--- at most n items, each behind a comma, and the bracket behind them
+-- at most n items, each after a comma, and the bracket after them
 abbrev pub next_at : {X : Type 0} → Option (List ℕ) → Reading X → Reading (List X) → Reading (List X)
 next_at (Some rest) item more text = made (λ p. p.0 ∷ p.1) (item then more) rest
 next_at None item more text = word_at (codes "]") [] text

@@ -24,7 +24,7 @@ named_sky s = sky s.0 s.1
 abbrev pub listed_device : List ℕ × Option Moment → List ℕ
 listed_device d = device d.0 d.1
 
--- the answer to a POLL, whose objects bring their names along
+-- the answer to a POLL, whose objects have their names in them
 unfoldable pub polled : Polled → List ℕ
 polled p =
     head_of class.Poll

@@ -4,7 +4,7 @@ ghost use Rattle.gps_client.specs.Reading.{behind};
 
 use std::marker::Model;
 
-/// A text that is read from its head.
+/// A text that is read from its start.
 #[derive(Drop)]
 pub struct Cursor<'a> {
     pub(crate) rest: &'a [u8],
@@ -18,7 +18,7 @@ impl<'a> Model for Cursor<'a> {
     ghost view = { λ c. c.rest.now };
 }
 
-/// What stands behind these bytes, if the text begins with them.
+/// What follows these bytes, if the text begins with them.
 #[tactic(auto, unfolding(crate::specs::Reading::behind))]
 fn behind<'a>(head: &[u8], text: &'a [u8]) -> Option<&'a [u8]>
     ensures { option_map (λ r. r.now) result ≡ behind head.now text.now }
@@ -33,14 +33,14 @@ impl<'a> Cursor<'a> {
         Cursor { rest: text }
     }
 
-    /// How many bytes stand here.
+    /// How many bytes are here.
     pub fn len(&self) -> usize
         ensures { result ≡ length self.now }
     {
         self.rest.len()
     }
 
-    /// Passes these bytes, if they stand here.
+    /// Passes these bytes, if they are here.
     pub fn pass(&mut self, head: &[u8]) -> bool
         ensures passed { behind head.now self.old ≡ if result then Some self.new else None }
         ensures stays { result ≡ false → self.new ≡ self.old }
@@ -54,14 +54,14 @@ impl<'a> Cursor<'a> {
         }
     }
 
-    /// Passes these bytes, which must stand here.
+    /// Passes these bytes, which must be here.
     pub fn need(&mut self, head: &[u8]) -> Option<()>
         ensures { option_map (λ _. self.new) result ≡ behind head.now self.old }
     {
         if self.pass(head) { Some(()) } else { None }
     }
 
-    /// Whether these bytes and no others stand here.
+    /// Whether these bytes and no others are here.
     pub fn stands_at(&self, text: &[u8]) -> bool
         ensures { result ≡ bytes_eq self.now text.now }
     {

@@ -11,7 +11,7 @@ ghost use Rattle.gps_client.specs.Polls.{polled_of};
 ghost use Rattle.gps_client.specs.Ranges.{IsName, IsStamp};
 ghost use Rattle.gps_client.specs.Texts.{polled};
 
-/// Law: each report of a device but its packets has a value in range, whose line is the report's: the device's name stands in it, and
+/// Law: each report of a device but its packets has a value in range, whose line is the report's: the device's name is in it, and
 /// the times are cut to whole milliseconds. So reading the report's line gives that value.
 ///
 /// It is said of the reports of every stream of bytes and edges, of those that its end gives, and of the report that a device is active or not.

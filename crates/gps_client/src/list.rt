@@ -19,7 +19,7 @@ pub trait Reads<T> {
         ensures { Gives (λ x. x) cursor.new result (Self.reading self.now cursor.old) };
 }
 
-/// The items behind the first, each behind a comma, up to the bracket that ends the list. There is a byte at least for each of them.
+/// The items after the first, each after a comma, up to the bracket that ends the list. Each of them has at least one byte.
 fn more_items<T: Drop, R: Reads<T>>(
     alloc: Global,
     cursor: &mut Cursor<'_>,

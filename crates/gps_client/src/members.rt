@@ -18,7 +18,7 @@ impl<'a> Cursor<'a> {
         self.whole()
     }
 
-    /// A whole number, at most so large, which must be there.
+    /// A whole number up to a given one, which must be there.
     pub fn up_to_member(&mut self, key: Key, most: u64) -> Option<u64>
         ensures is { option_map (λ x. (x, self.new)) result ≡ member_at key (up_to most) self.old }
         ensures small { IfSome result (λ n. n ≤ most) }

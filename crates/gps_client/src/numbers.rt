@@ -82,7 +82,7 @@ fn without_minus(token: &[u8]) -> &[u8]
     }
 }
 
-/// Whether the text of a value with the given number of decimals is written as it must be: no leading zero, every decimal, and no zero below zero.
+/// Whether the text of a value with the given number of decimals is written as it must be: no leading zero, every decimal, and no negative zero.
 #[tactic(auto, unfolding(crate::specs::Reading::is_written_so))]
 fn is_written_so(token: &[u8], decimals: u8, value: i64) -> bool
     ensures { result ≡ is_written_so decimals token.now value }

@@ -1,4 +1,4 @@
--- One more byte behind the input: what it ends, and what is kept then.
+-- One more byte of the input: what it ends, and what is kept then.
 use Rattle.std.proofs.Common.{◌≡◌, ◌<◌, ◌≤◌, ◌+◌, inl, inr, ℕ, zero, suc, Bool, true, false, ◌&&◌, ◌||◌, ◌==◌, List, [], ◌∷◌, ◌++◌, length, take, drop, cond, ap, sym, ◌∙◌, refl, arith}
 use Rattle.std.specs.List.{list_any}
 use Rattle.std.proofs.lemmas.Bool.{cases_Bool, cases_lt, cond-false, cond-true, le-ltb, lt-ltb}
@@ -100,7 +100,7 @@ case_line c b x g l f ih =
     (kept_long c (b ++ x ∷ []) g more ∙ cond-true _ _ _ any ∙ ap (λ k. kept_from k (b ++ x ∷ [])) same)
     (pushed x Long _ _ _ _ ih)
 
--- what is kept behind a line that the byte goes on with, or ends
+-- what is kept after a line that the byte goes on with, or ends
 long_kept : (b : List ℕ) (x : ℕ) (any : Bool) → any ≡ is_line_feed x → length b ≤ long_length b
     → cond any (kept_from (long_length b) b) kept_skipping ≡ cond (is_line_feed x) (kept_open []) kept_skipping
 long_kept b x any is past =

@@ -27,7 +27,7 @@ step_stays : (end : Bool) (n more m : ℕ) → (n < m → more ≡ n) → cond e
 step_stays true n more m same h = refl
 step_stays false n more m same h = ap suc (same (omega arith))
 
--- if there is an end, nothing behind it matters
+-- if there is an end, nothing after it matters
 pub open-stays : (quote : Quote) (b d : List ℕ) → open_length quote b < length b → open_length quote (b ++ d) ≡ open_length quote b
 unfolding open_length
 open-stays quote [] d h = absurd (omega arith)

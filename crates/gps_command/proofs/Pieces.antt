@@ -1,4 +1,4 @@
--- A piece behind the input: the requests that it ends, and what is kept then.
+-- One more piece of the input: the requests that it ends, and what is kept then.
 use Rattle.std.proofs.Common.{◌≡◌, ◌<◌, ◌≤◌, ◌+◌, ℕ, List, [], ◌∷◌, ◌++◌, length, drop, slice_index_or, ap, sym, ◌∙◌, refl, arith, subst, add-one, drop-cons, append_assoc}
 use Rattle.std.proofs.lemmas.List.{append-nil, drop_all}
 use Rattle.gps_command.specs.declared.cutter.Stand.{Stand}

@@ -27,7 +27,7 @@ step_front : (end : Bool) (n m k : ℕ) → (n ≤ m → n ≤ k) → suc n ≤ 
 step_front true n m k on h = absurd (omega arith)
 step_front false n m k on h = let step = on (omega arith) in omega arith
 
--- no byte of a front ends it, whatever stands behind the front
+-- no byte of a front ends it, whatever follows the front
 front : (quote : Quote) (bytes behind other : List ℕ) → length bytes ≤ open_length quote (bytes ++ behind) → length bytes ≤ open_length quote (bytes ++ other)
 unfolding open_length
 front quote [] behind other h = omega arith

@@ -1,4 +1,4 @@
--- What stands before a request's end, as a set of texts.
+-- What comes before a request's end, as a set of texts.
 use Rattle.std.proofs.Common.{◌≡◌, ◌<◌, ◌≤◌, ◌+◌, inl, inr, ℕ, zero, suc, Bool, true, false, not, ◌||◌, List, [], ◌∷◌, ◌++◌, length, take, get_or, nat_eq, ap, sym, ◌∙◌, refl, arith, subst, append_assoc}
 use Rattle.std.proofs.lemmas.Bool.{cases_Bool, cases_lt, cond-false, cond-true, eqb-true}
 use Rattle.std.proofs.lemmas.List.{length-append, length-take}
@@ -22,7 +22,7 @@ no_other : (a b : Bool) → (a || b) ≡ false → b ≡ false
 no_other true b h = absurd (cc)
 no_other false b h = h
 
--- ---- a text is read up to the end behind it
+-- ---- a text is read up to the end after it
 
 inside_passes : (inside d : List ℕ) → IsInside inside
     → open_length Inside (inside ++ 34 ∷ d) ≡ length inside + suc (open_length Outside d)
@@ -64,7 +64,7 @@ reads_requests (c ∷ t) rest end is e =
     ∙ ap (λ u. Words u ∷ requests_from (suc (length t)) (t ++ end ∷ rest)) (take-append_seam (c ∷ t) (end ∷ rest))
     ∙ ap (λ r. Words (c ∷ t) ∷ r) (past_end t rest end)
 
--- ---- what stands before an end is a text
+-- ---- what comes before an end is a text
 
 pub record IsRest (t : List ℕ) : Type 0 where
   pub front : List ℕ
@@ -79,7 +79,7 @@ pub record IsPairRest (t : List ℕ) : Type 0 where
   pub rest : IsRest back
   pub split : t ≡ byte ∷ back
 
--- what goes on outside a string, in one, or behind a backslash
+-- what goes on outside a string, in one, or after a backslash
 abbrev pub Reads : Quote → List ℕ → Type 0
 Reads Outside t = IsText t
 Reads Inside t = IsRest t

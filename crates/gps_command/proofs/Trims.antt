@@ -6,7 +6,7 @@ use Rattle.std.proofs.lemmas.Bool.{cond-false, cond-true}
 use Rattle.std.proofs.lemmas.List.{take_more}
 use Rattle.gps_command.specs.Commands.{is_trailing, trimmed}
 
--- a text is what stands before its last byte, and that byte
+-- a text is what comes before its last byte, and that byte
 split_last : (text : List ℕ) (d : ℕ) → 0 < length text
     → take (length text - 1) text ++ slice_index_or text (length text - 1) d ∷ [] ≡ text
 split_last text d some =

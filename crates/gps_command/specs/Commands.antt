@@ -35,11 +35,11 @@ abbrev pub watch_in : Option Data → Result Command CommandFault
 watch_in None = Err BadJson
 watch_in (Some value) = watch_by (change_in value)
 
--- what stands behind `?WATCH=`
+-- what follows `?WATCH=`
 abbrev pub object_text : List ℕ → Option (List ℕ)
 object_text text = if bytes_eq (take 7 text) (codes "?WATCH=") then Some (drop 7 text) else None
 
--- the request has something behind `?WATCH=`
+-- something follows `?WATCH=` in the request
 abbrev pub HasObject : RawCommand → Type 0
 HasObject (Words text) = (object : List ℕ) × (object_text (trimmed text) ≡ Some object) × (0 < length object)
 HasObject Long = ⊥

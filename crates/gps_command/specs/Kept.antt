@@ -13,7 +13,7 @@ pub record CommandCutterView : Type 0 where
   pub stand : Stand
   pub held : List ℕ
 
--- where the byte behind these stands
+-- where the byte after these is
 abbrev pub quote_of : List ℕ → Quote
 quote_of held = fold quote_after Outside held
 
@@ -40,6 +40,6 @@ kept_from zero (c ∷ bytes) =
 abbrev pub StandsFor : CommandCutterView → List ℕ → Type 0
 StandsFor kept bytes = kept ≡ kept_from 0 bytes
 
--- a piece behind these bytes ends these requests
+-- a piece after these bytes ends these requests
 abbrev pub Gains : List ℕ → List ℕ → List RawCommand → Type 0
 Gains bytes piece gained = requests (bytes ++ piece) ≡ requests bytes ++ gained

@@ -28,7 +28,7 @@ ends Outside c = is_end c
 ends Inside c = false
 ends Escaped c = false
 
--- how many bytes stand before the first end outside a string; all, if there is none
+-- how many bytes come before the first end outside a string; all, if there is none
 unfoldable pub open_length : Quote → List ℕ → ℕ
 open_length quote [] = 0
 open_length quote (c ∷ bytes) = if ends quote c then 0 else suc (open_length (quote_after quote c) bytes)
@@ -45,7 +45,7 @@ by_begin c bytes gap long ended begun =
     let n = open_length Outside (c ∷ bytes) in
     if is_gap c then gap else (if nat_lt 1024 n then long else (if nat_lt n (suc (length bytes)) then ended else begun))
 
--- behind the first byte of a request that is too long: 1,023 bytes, and the rest of the line that stands there
+-- after the first byte of a request that is too long: 1,023 bytes, and the rest of the line there
 abbrev pub long_length : List ℕ → ℕ
 long_length bytes = 1023 + line_length (drop 1023 bytes)
 

@@ -1,5 +1,5 @@
--- What one more byte does to what is kept, and the request that it ends, if any: the cutter's own step, of which
--- no public clause speaks.
+-- What one more byte does to what is kept, and the request that it ends, if any: the cutter's own step, which no
+-- public clause names.
 use Rattle.std.specs.Prelude.{ℕ, List, [], ◌∷◌, ◌++◌, ◌&&◌, ◌==◌, length, nat_lt, if◌then◌else◌}
 use Rattle.gps_command.specs.declared.cutter.Stand.{Stand}
 use Rattle.gps_command.specs.declared.cutter.Stand.TheVariants.{Open, Skipping}
@@ -10,11 +10,11 @@ use Rattle.gps_command.specs.declared.request.RawCommand.TheVariants.{Words, Lon
 use Rattle.gps_command.specs.Kept.{CommandCutterView}
 use Rattle.gps_command.specs.Requests.{ends, is_gap, is_line_feed, quote_after}
 
--- behind a byte of the line of a request that is too long
+-- after a byte of the line of a request that is too long
 abbrev pub after_long : ℕ → Stand
 after_long c = if is_line_feed c then Open Outside else Skipping
 
--- a byte that stands in a request, or before one if nothing is held
+-- a byte within a request, or before one if nothing is held
 abbrev pub by_open : {X : Type 0} → Quote → List ℕ → ℕ → X → X → X → X → X
 by_open quote held c gap ended longer long =
     if (length held == 0) && is_gap c then gap

@@ -14,7 +14,7 @@ is_plain c = not (nat_eq c 34 || is_end c)
 abbrev pub is_inner : ℕ → Bool
 is_inner c = not (nat_eq c 34 || nat_eq c 92)
 
--- what stands between the quotes of a string: bytes, and backslashes with the byte behind each
+-- what is between the quotes of a string: bytes, and backslashes with the byte after each
 pub data IsInside : List ℕ → Type 0 where
   empty_inside : IsInside []
   inner_byte : (c : ℕ) (inside : List ℕ) → is_inner c ≡ true → IsInside inside → IsInside (c ∷ inside)
@@ -37,7 +37,7 @@ AreRequests [] = Unit {0}
 AreRequests (Words text ∷ rest) = IsRequest text × AreRequests rest
 AreRequests (Long ∷ rest) = AreRequests rest
 
--- such a text and an end behind it are read as that request, and what follows as if it stood alone
+-- such a text and an end after it are read as that request, and what follows as if it came alone
 abbrev pub ReadsRequests : Type 0
 ReadsRequests = (text rest : List ℕ) (end : ℕ) → IsRequest text → is_end end ≡ true
     → requests (text ++ end ∷ rest) ≡ Words text ∷ requests rest
@@ -56,7 +56,7 @@ pub record IsLong (bytes : List ℕ) : Type 0 where
   pub goes_on : IsBeginning (take 1025 bytes)
   pub begins : is_gap (slice_index bytes 0) ≡ false
 
--- it is Long, and is skipped through the first line feed from its 1,025th byte on; what follows is read as if it stood alone
+-- it is Long, and is skipped through the first line feed from its 1,025th byte on; what follows is read as if it came alone
 abbrev pub SkipsLong : Type 0
 SkipsLong = (bytes : List ℕ) → IsLong bytes → requests bytes ≡ Long ∷ requests (drop_through 10 (drop 1024 bytes))
 

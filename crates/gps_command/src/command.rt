@@ -101,8 +101,8 @@ fn command_of_words(alloc: Global, text: &[u8]) -> Result<Command, ReadFault>
 /// What a request asks for. Each fault comes exactly by the bytes, and if several hold the first of these:
 /// `TooLong` for a request of more than 1,024 bytes; `Unknown` if it is none of `?VERSION`, `?DEVICES`,
 /// `?POLL` and `?WATCH` and does not begin with `?WATCH=`; `BadJson` if the rest is not one JSON text,
-/// nested at most 127 deep; `BadWatch` if its value is refused by [`change_of`]. Memory is taken only if
-/// something stands behind `?WATCH=`.
+/// nested at most 127 deep; `BadWatch` if its value is refused by [`change_of`]. It allocates only if
+/// something follows `?WATCH=`.
 pub fn command_of(alloc: Global, request: &RawCommand) -> Result<Command, ReadFault>
     ensures ok { IfOk result (λ command. command_in request.now ≡ Ok command) }
     ensures fault { (f : CommandFault) → result ≡ Err (ReadFault.Fault f) → command_in request.now ≡ Err f }

@@ -8,7 +8,7 @@ use gps_fixed::{Bytes, NoMemory};
 use std::alloc::Global;
 use std::marker::Model;
 
-/// Where the next byte of the input stands.
+/// Where the next byte of the input is.
 #[derive(Clone, Copy, Debug, PartialEq, Eq)]
 pub enum Stand {
     /// In a request whose bytes are held, or before one if none are.
@@ -104,7 +104,7 @@ impl CommandCutter {
         }
     }
 
-    /// What [`push`](CommandCutter::push) would give for a piece, and the cutter after it; this one stays.
+    /// What [`push`](CommandCutter::push) would return for a piece, and the cutter after it; this one stays.
     #[tactic(auto, using(crate::proofs::Pieces::begins))]
     pub fn cut(&self, piece: &[u8]) -> Result<RequestCut, NoMemory>
         ensures gains { IfOk result (λ cut. (bytes : List ℕ) → StandsFor self.now bytes
@@ -124,7 +124,7 @@ impl CommandCutter {
         Ok(RequestCut { requests, cutter })
     }
 
-    /// Puts in place what [`cut`](CommandCutter::cut) gave. Takes no memory.
+    /// Puts in place what [`cut`](CommandCutter::cut) returned. Takes no memory.
     pub fn put(&mut self, cut: RequestCut) -> Vec<RawCommand>
         ensures requests { result.items ≡ cut.requests.items }
         ensures cutter { self.new ≡ cut.cutter }

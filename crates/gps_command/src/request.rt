@@ -8,17 +8,17 @@ use gps_fixed::Bytes;
 pub enum RawCommand {
     /// The bytes of a request, without the byte that ended it: 1 to 1,024.
     Words(Bytes),
-    /// A request of more than 1,024 bytes, which were skipped through the line feed behind them.
+    /// A request of more than 1,024 bytes, which were skipped through the line feed after them.
     Long,
 }
 
-/// Where the next byte of a request stands.
+/// Where the next byte of a request is.
 #[derive(Clone, Copy, Debug, PartialEq, Eq)]
 pub enum Quote {
     Outside,
     /// In a string.
     Inside,
-    /// In a string, behind a backslash.
+    /// In a string, after a backslash.
     Escaped,
 }
 
@@ -40,7 +40,7 @@ impl Quote {
         }
     }
 
-    /// Where the byte behind this one stands.
+    /// Where the byte after this one is.
     pub(crate) fn after(self, byte: u8) -> Quote
         ensures { result ≡ quote_after self byte }
     {

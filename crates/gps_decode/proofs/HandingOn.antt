@@ -46,7 +46,7 @@ module _ (says : Texts) where
   flushed_part stream more kept waited waits before now after h part =
       (h.1.0, (h.1.1.0, waits_part (waited ++ texts_of says h.1.0) waits before now after h.1.1.1 part))
 
--- the lines of the last epoch, behind what waited, and nothing waits
+-- the lines of the last epoch, after what waited, and nothing waits
 pub closed : (lines waited waits : List ℕ) (before now after : Option (List ℕ))
     → Waits (waited ++ lines) waits before now → Goes (Appends waits) now after → Waits (waited ++ lines) [] before after
 closed lines waited waits before now after first wrote =

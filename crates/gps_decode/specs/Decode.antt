@@ -36,7 +36,7 @@ pub record Decoded (says : Texts) (outcome : CommandOutcome) (history : ℕ) (so
   pub ends : Ends outcome history (bytes_of readings) source source'
       (Wrote outcome (texts_so_far says (stream_of readings)) sink sink') (Wrote outcome (texts_to_end says (stream_of readings)) sink sink')
 
--- of what waited and the lines behind it a part was written and the rest waits; or the sink failed; or, out of memory, what waited was written
+-- a prefix of what waited and of the lines after it was written, and the rest waits; or the sink failed; or, out of memory, what waited was written
 abbrev pub Written : {X : Type 0} → Result X Fault → List ℕ → List ℕ → List ℕ → Option (List ℕ) → Option (List ℕ) → Type 0
 Written (Ok _) lines waited waits before after = Waits (waited ++ lines) waits before after
 Written (Err Sink) lines waited waits before after = Goes (AppendsPart (waited ++ lines)) before after
@@ -57,7 +57,7 @@ WriteCause (Ok _) before after = after ≡ before
 WriteCause (Err Sink) before after = Rose before after
 WriteCause (Err NoMemoryFault) before after = after ≡ before
 
--- the lines of what a stream gains by more of it were written or wait, behind what waited, and what is kept then is a summary of the longer stream;
+-- the lines of what a stream gains by more of it were written or wait, after what waited, and what is kept then is a summary of the longer stream;
 -- or the sink failed, and a prefix of them was written; or, out of memory, what waited was written
 abbrev pub HandsOn : {X : Type 0} → Texts → Result X Fault → List Symbol → List Symbol → DeviceKept → List ℕ → List ℕ → Option (List ℕ) → Option (List ℕ) → Type 0
 HandsOn says (Ok _) stream more kept waited waits before after =

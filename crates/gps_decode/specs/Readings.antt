@@ -1,6 +1,7 @@
 -- What a command read in a call: the bytes of each read, with the stamp that the clock gave after it.
 use Rattle.std.specs.Prelude.{◌≡◌, ℕ, ◌<◌, ◌≤◌, List, [], ◌∷◌, ◌++◌, length, map}
 use Rattle.std.specs.List.{flat_map}
+use Rattle.gps_fixed.specs.Limits.{longest_piece}
 use Rattle.gps_fixed.specs.Moment.{Moment}
 use Rattle.gps_report.specs.declared.edge.Symbol.{Symbol}
 use Rattle.device_core.specs.Stream.{piece}
@@ -19,9 +20,9 @@ stamps_of readings = map (λ reading. reading.at) readings
 abbrev pub stream_of : List Reading → List Symbol
 stream_of readings = flat_map (λ reading. piece reading.at reading.bytes) readings
 
--- what one read brought
+-- what one read returned
 abbrev pub IsPiece : Reading → Type 0
-IsPiece reading = (1 ≤ length reading.bytes) × (length reading.bytes ≤ 512)
+IsPiece reading = (1 ≤ length reading.bytes) × (length reading.bytes ≤ longest_piece)
 
 -- each reading has the bytes of one read, 1 to 512
 abbrev pub ArePieces : List Reading → Type 0
@@ -34,4 +35,4 @@ pub record PassHistory (readings : List Reading) : Type 0 where
   pub last : Reading
   pub all : readings ≡ front ++ last ∷ []
   pub pieces : ArePieces front
-  pub part : length last.bytes < 512
+  pub part : length last.bytes < longest_piece

@@ -100,7 +100,7 @@ fn close<K: Sink>(
 
 /// As [`decode`] and [`pseudo`], with a new device.
 ///
-/// Lines wait for further ones while more input stands ready, and never while the source may wait.
+/// Lines wait for further ones while more input is ready, and never while the source may wait.
 fn write_reports<S: Source, K: Sink, C: Clock>(
     alloc: Global,
     device: &mut Device,
@@ -110,11 +110,16 @@ fn write_reports<S: Source, K: Sink, C: Clock>(
     sink: &mut K,
     clock: &mut C,
 ) -> CommandOutcome
+    // The device is new, and the sink is open.
     requires fresh { StandsFor device.old.now [] }
     requires takes { K.takes sink.old }
+
+    // What is read, and what is written.
     ensures takes { K.takes sink.new }
     ensures decoded { Decoded (texts_by output.now) result history (S.content source.old) (S.content source.new)
         (C.stamps clock.old) (C.stamps clock.new) (K.written sink.old) (K.written sink.new) }
+
+    // The counts of faults and quiet reads show the cause of the outcome.
     ensures cause { HasLateCause result (source_call S.Source source.old source.new) (sink_call K.Sink sink.old sink.new) }
     ensures faults_stay { S.faults source.old ≤ S.faults source.new }
     ensures quiets_stay { S.quiets source.old ≤ S.quiets source.new }
@@ -123,7 +128,7 @@ fn write_reports<S: Source, K: Sink, C: Clock>(
     let mut draft = Draft::new(alloc);
     let mut intake = Intake::new(history);
     let mut buf = [0u8; 512];
-    'turns: loop {
+    'rounds: loop {
         if !draft.flush_unless_ready(&*source, sink) {
             return CommandOutcome::WriteFault;
         }
@@ -164,12 +169,12 @@ fn write_reports<S: Source, K: Sink, C: Clock>(
 /// Reads what one device sends to the source's end, or to a limit, and writes the JSON lines of its fixes and skies for the
 /// name `stdin`, in order, as epochs close.
 ///
-/// At most `history` bytes are taken, 1 to 512 in a read. After each read that gave bytes the clock is asked once, and its stamp
-/// is that of all of them. Lines wait for further ones while more input stands ready, and never while the source may wait.
+/// At most `history` bytes are read, 1 to 512 at a time. After each read that gave bytes the clock is asked once, and its stamp
+/// is that of all of them. Lines wait for further ones while more input is ready, and never while the source may wait.
 ///
 /// The outcome says what was read and written:
 /// - `Done`: all that the source had, and all lines, with those of the epoch that was open at its end;
-/// - `ReadFault`: a read failed; `TooQuiet`: it was the thousandth that brought nothing; `Full`: `history` bytes were taken, and
+/// - `ReadFault`: a read failed; `TooQuiet`: it was the thousandth quiet read; `Full`: `history` bytes were read, and
 ///   more came. The lines so far were written, without those of the open epoch;
 /// - `WriteFault`: a write failed; `NoMemory`: out of memory. A prefix of the lines was written.
 ///
@@ -183,10 +188,15 @@ pub fn decode<S: Source, K: Sink, C: Clock>(
     sink: &mut K,
     clock: &mut C,
 ) -> CommandOutcome
+    // The sink is open, and stays open.
     requires takes { K.takes sink.old }
     ensures takes { K.takes sink.new }
+
+    // What is read, and what is written.
     ensures decoded { Decoded line_of result history (S.content source.old) (S.content source.new)
         (C.stamps clock.old) (C.stamps clock.new) (K.written sink.old) (K.written sink.new) }
+
+    // The counts of faults and quiet reads show the cause of the outcome.
     ensures cause { HasLateCause result (source_call S.Source source.old source.new) (sink_call K.Sink sink.old sink.new) }
     ensures faults_stay { S.faults source.old ≤ S.faults source.new }
     ensures quiets_stay { S.quiets source.old ≤ S.quiets source.new }
@@ -213,10 +223,15 @@ pub fn pseudo<S: Source, K: Sink, C: Clock>(
     sink: &mut K,
     clock: &mut C,
 ) -> CommandOutcome
+    // The sink is open, and stays open.
     requires takes { K.takes sink.old }
     ensures takes { K.takes sink.new }
+
+    // What is read, and what is written.
     ensures decoded { Decoded sentences_of result history (S.content source.old) (S.content source.new)
         (C.stamps clock.old) (C.stamps clock.new) (K.written sink.old) (K.written sink.new) }
+
+    // The counts of faults and quiet reads show the cause of the outcome.
     ensures cause { HasLateCause result (source_call S.Source source.old source.new) (sink_call K.Sink sink.old sink.new) }
     ensures faults_stay { S.faults source.old ≤ S.faults source.new }
     ensures quiets_stay { S.quiets source.old ≤ S.quiets source.new }

@@ -19,7 +19,7 @@ use std::marker::Model;
 pub(crate) enum Output {
     /// The JSON lines of its fixes and skies, for the one device, named `stdin`.
     Lines,
-    /// The two sentences of each fix, for programs that read sentences alone.
+    /// The two sentences of each fix, for programs that read only sentences.
     Sentences,
 }
 
@@ -65,7 +65,7 @@ impl Output {
     }
 }
 
-/// Lines on their way to the sink: room to make those of one read in, and those that wait for further ones.
+/// Lines on their way to the sink: room to make those of one read, and those that wait for further ones.
 #[derive(Drop)]
 pub(crate) struct Draft {
     text: Bytes,
@@ -90,7 +90,7 @@ impl Draft {
         }
     }
 
-    /// Adds what is written of reports, once it is made whole.
+    /// Adds what is written of reports, once all of it is made.
     pub(crate) fn write<K: Sink>(
         &mut self,
         output: &Output,
@@ -135,11 +135,16 @@ impl Draft {
     ///
     /// False: the sink failed.
     pub(crate) fn flush<K: Sink>(&mut self, sink: &mut K) -> bool
+        // The sink is open, and stays open.
         requires takes { K.takes sink.old }
         ensures takes { K.takes sink.new }
+
+        // What is written, and that nothing waits any more.
         ensures bytes { WritesAll result self.old (K.written sink.old) (K.written sink.new) }
         ensures empty { self.new ≡ [] }
         ensures none { self.old ≡ [] → result ≡ true }
+
+        // A fault is counted exactly if the sink failed.
         ensures faults_stay { K.faults sink.old ≤ K.faults sink.new }
         ensures failed { result ≡ false → Rose (K.faults sink.old) (K.faults sink.new) }
         ensures fails_only { result ≡ true → K.faults sink.new ≡ K.faults sink.old }
@@ -147,7 +152,7 @@ impl Draft {
         self.outbox.flush(sink)
     }
 
-    /// Writes what waits, unless more bytes stand ready in the source.
+    /// Writes what waits, unless more bytes are ready in the source.
     ///
     /// False: the sink failed.
     pub(crate) fn flush_unless_ready<S: Source, K: Sink>(
@@ -155,10 +160,15 @@ impl Draft {
         source: &S,
         sink: &mut K,
     ) -> bool
+        // The sink is open, and stays open.
         requires takes { K.takes sink.old }
         ensures takes { K.takes sink.new }
+
+        // What is written, and what may still wait.
         ensures bytes { Sends result self.old self.new (K.written sink.old) (K.written sink.new) }
         ensures kept { result ≡ true → (self.new ≡ []) ⊎ S.keeps_at_fault source.now }
+
+        // A fault is counted exactly if the sink failed.
         ensures faults_stay { K.faults sink.old ≤ K.faults sink.new }
         ensures failed { result ≡ false → Rose (K.faults sink.old) (K.faults sink.new) }
         ensures fails_only { result ≡ true → K.faults sink.new ≡ K.faults sink.old }

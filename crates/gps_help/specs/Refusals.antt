@@ -28,6 +28,6 @@ abbrev pub command_in : List Text → Option CommandName
 command_in [] = None
 command_in (word ∷ words) = command_named word
 
--- the word that is named stands among the first n words
+-- the word that is named is among the first n words
 abbrev pub IsThere : Refusal → ℕ → Type 0
 IsThere refusal count = IfSome refusal.at (λ at. at < count)

@@ -21,7 +21,7 @@ pub enum Cause {
     BadValue(OptionName),
     /// The command lacks an option that it needs.
     Lacking(OptionName),
-    /// The command takes options alone, or `help` one command.
+    /// The command takes only options, or `help` one command.
     Stray,
     /// `serve` lacks a device.
     NoDevice,

@@ -1,4 +1,4 @@
-//! Why the words of the command line are refused, in words for a person, and the help. [`question_in`] reads words that ask for help or for the
+//! Why a command line is refused, in words for a person, and the help. [`question_in`] reads words that ask for help or for the
 //! version, and [`refused`] gives a reason exactly if no command and no daemon is asked for. The reason is true: the cause that it gives is one of
 //! the word that it names. This project's own.
 #![tactic(auto)]

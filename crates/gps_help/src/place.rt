@@ -17,7 +17,7 @@ pub(crate) fn word_at(words: &[String], at: usize) -> Option<&str>
     }
 }
 
-/// The place after the last word.
+/// The place after the last word. It only forwards, for the prover: its contract counts the words as texts.
 #[tactic(auto, using(crate::proofs::Places::count_text))]
 pub(crate) fn end_of(words: &[String]) -> usize
     ensures { result ≡ length (map string_bytes words.now) }
@@ -25,13 +25,14 @@ pub(crate) fn end_of(words: &[String]) -> usize
     words.len()
 }
 
+/// Where the first `--` is among the strings. It is apart from `stop_of` for the prover.
 fn stop_place(words: &[String]) -> Option<usize>
     ensures { result ≡ position (λ word. bytes_eq (string_bytes word) (codes "--")) words.now }
 {
     words.iter().position(|word| word.as_str() == "--")
 }
 
-/// Where the first `--` is, after which no word is an option.
+/// Where the first `--` is, after which no word is an option. The prover sees the words as texts here.
 #[tactic(auto, unfolding(crate::specs::Places::stop_of), using(crate::proofs::Places::position_text))]
 pub(crate) fn stop_of(words: &[String]) -> Option<usize>
     ensures { result ≡ stop_of (map string_bytes words.now) }

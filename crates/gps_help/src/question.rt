@@ -33,6 +33,7 @@ fn is_help_asked(words: &[String]) -> bool
     words.iter().any(|word| is_help_word(word.as_str()))
 }
 
+/// The same. It only forwards, for the prover: its contract sees the words as texts.
 fn has_help_word(words: &[String]) -> bool
     ensures { result ≡ list_any is_help_word (map string_bytes words.now) }
 {
@@ -53,7 +54,7 @@ pub(crate) fn asks_for_version(word: &str) -> bool
     word == "--version" || word == "version" || word == "-V"
 }
 
-/// What the words behind `help` ask for.
+/// What the words after `help` ask for.
 fn help_of(words: &[String]) -> Option<Question>
     ensures { result ≡ help_of (map string_bytes words.now) }
 {
@@ -67,8 +68,8 @@ fn help_of(words: &[String]) -> Option<Question>
     }
 }
 
-/// What the words, which stand without the program's name, ask of the program itself: `help`, `-h` or `--help`, also with a
-/// command behind it, a command with `-h` or `--help` among its words, or `--version`, `version` or `-V`.
+/// What the words, without the program's name, ask of the program itself: `help`, `-h` or `--help`, also with a
+/// command after it, a command with `-h` or `--help` among its words, or `--version`, `version` or `-V`.
 #[tactic(auto, unfolding(crate::specs::Questions::question_in))]
 pub fn question_in(words: &[String]) -> Option<Question>
     ensures { result ≡ question_in (map string_bytes words.now) }

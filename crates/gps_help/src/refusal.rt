@@ -307,7 +307,7 @@ fn reason(words: &[String]) -> Refusal
     Refusal { command, at, cause }
 }
 
-/// Why the words, which stand without the program's name, are refused: a reason comes exactly if they ask for no command and not
+/// Why the words, without the program's name, are refused: a reason comes exactly if they ask for no command and not
 /// for the daemon. The reason names the command that the words begin with, and a word only by its place among them. It is true: the
 /// cause is one of that word, or of the whole line if no word is named. Which of several causes it names is free.
 pub fn refused(alloc: Global, words: &[String]) -> Result<Option<Refusal>, NoMemory>

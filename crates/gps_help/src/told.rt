@@ -82,7 +82,7 @@ fn has_bad_port(text: &str) -> bool {
     }
 }
 
-/// What is wrong with a text that is no `HOST:PORT`, if that can be told.
+/// What is wrong with a text that is no `HOST:PORT`, if that can be said.
 fn address_hint(text: &str) -> Option<&'static str> {
     if text.contains('/') {
         None

@@ -1,4 +1,4 @@
--- Texts of whole lines, none of which is refused.
+-- Texts of whole lines that are all valid.
 use Rattle.std.proofs.Common.{◌≡◌, ℕ, Bool, true, false, List, [], ◌∷◌, ◌++◌, length, map, fold, cond, nat_lt, Option, Some, None, option_map, refl, sym, ◌∙◌, ap, subst, append-nil}
 use Rattle.std.proofs.lemmas.List.{map-append}
 use Rattle.std.proofs.lemmas.Grind.{fold-append}

@@ -6,4 +6,4 @@ pub mod Making
 pub mod Playable
 pub mod Printing
 pub mod Silent
-pub mod Turns
+pub mod Rounds

@@ -16,7 +16,7 @@ use Rattle.replay_script.specs.declared.event.ScriptEvent.TheVariants.{Edge, Fee
 use Rattle.replay_script.specs.Words.{HasNone, halves, nine_in, number_in, numbered, stamp_in, stamp_of, stamped, text_in}
 use Rattle.replay_script.specs.Events.{bytes_event, edge_at, event_in, feed_in, number_event}
 
--- what stands before the first such byte, and behind it
+-- what comes before the first such byte, and what follows it
 
 abbrev is_other : ℕ → ℕ → Bool
 is_other mark c = not (c == mark)

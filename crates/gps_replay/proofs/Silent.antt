@@ -8,12 +8,12 @@ use Rattle.replay_player.specs.States.{State}
 use Rattle.gps_replay.specs.Closings.{closing_rules, quietened, silent}
 use Rattle.gps_replay.specs.Run.{rules_of}
 
-pub silently : (turn : Result LineStep NoMemory) (queue : ℕ) (state : State) (text : List ℕ) (stands : State → Type 0) (unwritten unwritten' out : List ℕ)
-    → StepDone turn (rules_of queue) state text stands unwritten unwritten' → StepDone turn (closing_rules queue) state text stands out out
-silently (Ok Made) queue state text stands unwritten unwritten' out turns =
-    (silent turns.0, ap (option_map silent) turns.1, turns.2, sym (append-nil out))
-silently (Ok Refused) queue state text stands unwritten unwritten' out turns = (ap (option_map silent) turns.0, refl)
-silently (Err fault) queue state text stands unwritten unwritten' out turns = tt
+pub silently : (round : Result LineStep NoMemory) (queue : ℕ) (state : State) (text : List ℕ) (stands : State → Type 0) (unwritten unwritten' out : List ℕ)
+    → StepDone round (rules_of queue) state text stands unwritten unwritten' → StepDone round (closing_rules queue) state text stands out out
+silently (Ok Made) queue state text stands unwritten unwritten' out rounds =
+    (silent rounds.0, ap (option_map silent) rounds.1, rounds.2, sym (append-nil out))
+silently (Ok Refused) queue state text stands unwritten unwritten' out rounds = (ap (option_map silent) rounds.0, refl)
+silently (Err fault) queue state text stands unwritten unwritten' out rounds = tt
 
 pub rules_same : (a b : ℕ) → rules_of a ≡ rules_of b → closing_rules a ≡ closing_rules b
 rules_same a b same = ap quietened same

@@ -1,4 +1,4 @@
--- The closing lines of a script's run, alone.
+-- Only the closing lines of a script's run.
 use Rattle.std.specs.Prelude.{◌≡◌, ℕ, List, [], Option, option_map}
 use Rattle.line_player.specs.Rules.{Rules, Effect}
 use Rattle.line_player.specs.Courses.{output_of}

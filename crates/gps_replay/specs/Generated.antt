@@ -13,7 +13,7 @@ use Rattle.gps_replay.specs.Closings.{closing_rules, closings}
 abbrev pub default_queue : ℕ
 default_queue = 4_096
 
--- the made script, of which nothing was read
+-- the made script, before anything of it was read
 abbrev pub made : ℕ → ℕ → Stream
 made seed size = record { taken = []; left = workload_of seed size }
 

@@ -13,6 +13,6 @@ most_bytes = 1_073_741_824
 abbrev pub Replayed : CommandOutcome → ℕ → Option Stream → Option Stream → Option (List ℕ) → Option (List ℕ) → Type 0
 Replayed outcome queue source source' sink sink' = HasPlayed outcome (rules_of queue) most_bytes source source' sink sink'
 
--- the source tells that no more is left than a script may have, and that no line of it is refused
+-- the source's contents are modelled, no more is left than a script may have, and no line of it is refused
 abbrev pub IsScript : ℕ → Option Stream → Type 0
 IsScript queue source = IsWithin (rules_of queue) most_bytes source

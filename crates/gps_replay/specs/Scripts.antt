@@ -1,5 +1,6 @@
 -- A script that is being replayed, and the state that it stands for.
 use Rattle.std.specs.Prelude.{ℕ, ◌≤◌, Bool, true, false, List, Option, Some, None}
+use Rattle.gps_fixed.specs.Limits.{most_queue}
 use Rattle.line_player.specs.declared.plays_lines.EndStep.{EndStep}
 use Rattle.line_player.specs.declared.plays_lines.EndStep.TheVariants.{More, Last}
 use Rattle.replay_player.specs.declared.player.Player.{Player}
@@ -14,7 +15,7 @@ StillStands None state = ⊥
 
 -- an outlet that no line says more of keeps a number of items that one may keep
 abbrev pub IsReplaying : ℕ → Option Player → State → Type 0
-IsReplaying queue player state = (1 ≤ queue) × (queue ≤ 65_536) × StillStands player state
+IsReplaying queue player state = (1 ≤ queue) × (queue ≤ most_queue) × StillStands player state
 
 -- the script has ended, and this is left to write
 abbrev pub HasLeft : Option ScriptEndView → List ℕ → Type 0

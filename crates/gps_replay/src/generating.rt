@@ -46,15 +46,20 @@ fn play_made<K: Sink>(alloc: Global, script: Bytes, sink: &mut K) -> CommandOutc
     }
 }
 
-/// Makes the script of `size` seconds, plays it with the default history and queue, and writes its closing lines alone. No line
+/// Makes the script of `size` seconds, plays it with the default history and queue, and writes only its closing lines. No line
 /// of it is refused. The sink is open, and stays open; its faults rise exactly if the outcome is a write fault.
 #[tactic(auto, using(crate::proofs::Making::nothing_played))]
 pub fn generate<K: Sink>(alloc: Global, seed: u32, size: u32, sink: &mut K) -> CommandOutcome
+    // The sink is open, and the size is 1 to 10,000.
     requires takes { K.takes sink.old }
     requires from { 1 ≤ size }
     requires to { size ≤ 10000 }
+
+    // What is written.
     ensures takes { K.takes sink.new }
     ensures generated { Generated result seed size (K.written sink.old) (K.written sink.new) }
+
+    // The sink counts a fault exactly if a write failed.
     ensures cause { GeneratedCause result (sink_call K.Sink sink.old sink.new) }
     ensures faults_stay { K.faults sink.old ≤ K.faults sink.new }
 {

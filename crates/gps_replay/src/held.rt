@@ -43,9 +43,12 @@ impl Source for HeldScript {
     ghost content = { λ h. Some h };
 
     fn read(&mut self, buf: &mut [u8]) -> ReadStep
+        // What is read.
         requires { 0 < length buf.old }
         ensures fits { FitsBuffer result (length buf.old) }
         ensures bytes { Reads result buf.new (Some self.old) (Some self.new) }
+
+        // It never fails, and is never quiet.
         ensures failed { result ≡ ReadStep.Failed → Rose 0 0 }
         ensures quiet { result ≡ ReadStep.Quiet → Rose 0 0 }
         ensures fails_only { FailsOnly result 0 0 }

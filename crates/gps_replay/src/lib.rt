@@ -1,4 +1,4 @@
-//! Scripts: one is read line by line and played on a book in one thread, whatever a generation of the book may hold.
+//! Scripts: a script is read line by line and played on a book in one thread. How much a generation of the book holds changes nothing.
 #![tactic(auto)]
 
 mod generating;

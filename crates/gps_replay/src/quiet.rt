@@ -1,4 +1,5 @@
 ghost use Rattle.std.specs.Prelude.{◌≡◌, ◌≤◌};
+ghost use Rattle.gps_fixed.specs.Limits.{most_history, most_queue};
 ghost use Rattle.gps_replay.specs.Scripts.{IsReplaying};
 ghost use Rattle.replay_player.specs.States.{new_state};
 
@@ -7,7 +8,7 @@ use gps_fixed::{Bytes, NoMemory};
 use line_player::{EndStep, LineStep, PlaysLines};
 use std::alloc::Global;
 
-/// The lines of a script, of whose output the closing lines alone are written.
+/// The lines of a script. Of their output only the closing lines are written.
 #[derive(Drop)]
 pub(crate) struct Quiet {
     script: Script,
@@ -18,9 +19,9 @@ impl Quiet {
     /// No line was played. Takes no memory.
     pub(crate) fn new(alloc: Global, limit: u32, queue: u32) -> Quiet
         requires some { 1 ≤ limit }
-        requires most { limit ≤ 33554432 }
+        requires most { limit ≤ most_history }
         requires least { 1 ≤ queue }
-        requires within { queue ≤ 65536 }
+        requires within { queue ≤ most_queue }
         ensures queue { result.script.queue ≡ queue }
         ensures stands { IsReplaying result.script.queue result.script.player new_state }
     {
@@ -57,7 +58,7 @@ impl PlaysLines for Quiet {
         Ok(())
     }
 
-    /// The closing lines are few, and stand in one part.
+    /// The closing lines are few, and make one part.
     #[tactic(auto, using(crate::proofs::Endings::closing_state, crate::proofs::Endings::closed))]
     fn end_step(&mut self, out: &mut Bytes) -> Result<EndStep, NoMemory> {
         self.script.finish_quietly(out)?;

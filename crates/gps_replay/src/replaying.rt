@@ -1,4 +1,5 @@
 ghost use Rattle.std.specs.Prelude.{◌≡◌, ◌≤◌, ◌⊎◌};
+ghost use Rattle.gps_fixed.specs.Limits.{most_history, most_queue};
 ghost use Rattle.command_outcome.specs.declared.outcome.CommandOutcome.{CommandOutcome};
 ghost use Rattle.command_outcome.specs.Calls.{sink_call, source_call};
 ghost use Rattle.command_outcome.specs.Outcomes.{HasCause, NothingFails, status_of};
@@ -20,11 +21,11 @@ const MOST_BYTES: u32 = 1_073_741_824;
 /// Reads a script and writes the output of its run. A generation of its book holds at most `limit` entries, which changes
 /// nothing of the output; an outlet keeps `queue` items if no line says another number.
 ///
-/// A line is played as soon as its end was read, or so much of it that it is too long. At [`CommandOutcome::BadLine`] the line N
-/// was refused, and `bad line N` stands behind what those before it write.
+/// A line is played as soon as its end was read, or enough of it to be too long. At [`CommandOutcome::BadLine`] the line N
+/// was refused, and `bad line N` follows what those before it write.
 ///
 /// The sink is open, and stays open. The source's faults rise exactly if the outcome is a read fault, and the sink's exactly if it is a
-/// write fault; a play is too quiet exactly at the thousandth read that brings nothing.
+/// write fault; a play is too quiet exactly at the thousandth quiet read.
 pub fn replay<S: Source, K: Sink>(
     alloc: Global,
     source: &mut S,
@@ -32,17 +33,26 @@ pub fn replay<S: Source, K: Sink>(
     limit: u32,
     queue: u32,
 ) -> CommandOutcome
+    // The sink is open, and the two numbers are within the bounds of the command.
     requires takes { K.takes sink.old }
     requires some { 1 ≤ limit }
-    requires most { limit ≤ 33554432 }
+    requires most { limit ≤ most_history }
     requires least { 1 ≤ queue }
-    requires within { queue ≤ 65536 }
+    requires within { queue ≤ most_queue }
+
+    // What is read, and what is written.
     ensures takes { K.takes sink.new }
     ensures replayed { Replayed result queue (S.content source.old) (S.content source.new) (K.written sink.old) (K.written sink.new) }
+
+    // The counts of faults and quiet reads show the cause of the outcome.
     ensures cause { HasCause result (source_call S.Source source.old source.new) (sink_call K.Sink sink.old sink.new) }
+
+    // If nothing fails and memory suffices, a script within the limits is played whole.
     ensures complete { IsScript queue (S.content source.old)
         → NothingFails (source_call S.Source source.old source.new) (sink_call K.Sink sink.old sink.new)
         → (result ≡ CommandOutcome.Done) ⊎ (result ≡ CommandOutcome.NoMemory) }
+
+    // Counts never fall.
     ensures faults_stay { S.faults source.old ≤ S.faults source.new }
     ensures quiets_stay { S.quiets source.old ≤ S.quiets source.new }
     ensures sink_faults_stay { K.faults sink.old ≤ K.faults sink.new }
@@ -60,8 +70,8 @@ pub fn replay<S: Source, K: Sink>(
 
 /// As [`replay`], with its exit status.
 ///
-/// 0: the source was read to its end, and all was written. 3: the source failed, or nothing came a thousand times. 4: the
-/// sink failed. 5: more bytes came than a script may have. 6: a line was refused. 7: memory was wanted.
+/// 0: the source was read to its end, and all was written. 3: the source failed, or a thousand reads were quiet. 4: the
+/// sink failed. 5: more bytes came than a script may have. 6: a line was refused. 7: out of memory.
 pub fn replay_core<S: Source, K: Sink>(
     alloc: Global,
     source: &mut S,
@@ -69,18 +79,25 @@ pub fn replay_core<S: Source, K: Sink>(
     limit: u32,
     queue: u32,
 ) -> u8
+    // The sink is open, and the two numbers are within the bounds of the command.
     requires takes { K.takes sink.old }
     requires some { 1 ≤ limit }
-    requires most { limit ≤ 33554432 }
+    requires most { limit ≤ most_history }
     requires least { 1 ≤ queue }
-    requires within { queue ≤ 65536 }
+    requires within { queue ≤ most_queue }
+
+    // What is read, and what is written.
     ensures takes { K.takes sink.new }
     ensures replayed { (outcome : CommandOutcome) × (result ≡ status_of outcome)
         × HasCause outcome (source_call S.Source source.old source.new) (sink_call K.Sink sink.old sink.new)
         × Replayed outcome queue (S.content source.old) (S.content source.new) (K.written sink.old) (K.written sink.new) }
+
+    // If nothing fails and memory suffices, a script within the limits is played whole.
     ensures complete { IsScript queue (S.content source.old)
         → NothingFails (source_call S.Source source.old source.new) (sink_call K.Sink sink.old sink.new)
         → (result ≡ 0) ⊎ (result ≡ 7) }
+
+    // Counts never fall.
     ensures faults_stay { S.faults source.old ≤ S.faults source.new }
     ensures quiets_stay { S.quiets source.old ≤ S.quiets source.new }
     ensures sink_faults_stay { K.faults sink.old ≤ K.faults sink.new }

@@ -1,4 +1,5 @@
 ghost use Rattle.std.specs.Prelude.{◌≡◌, ◌≤◌, ◌++◌, Some, OnOk};
+ghost use Rattle.gps_fixed.specs.Limits.{most_history, most_queue};
 ghost use Rattle.gps_replay.specs.Scripts.{IsReplaying, end_step_of};
 ghost use Rattle.replay_player.specs.Ends.{closings_at_end};
 ghost use Rattle.replay_player.specs.States.{State, new_state};
@@ -14,7 +15,7 @@ use std::alloc::Global;
 pub(crate) struct Script {
     alloc: Global,
     queue: u32,
-    /// None once a line was refused, the script has ended, or memory was wanted.
+    /// None once a line was refused, the script has ended, or memory ran out.
     player: Option<Player>,
     /// What is left, once the script has ended.
     end: Option<ScriptEnd>,
@@ -43,9 +44,9 @@ impl Script {
     /// No line was played. Takes no memory.
     pub(crate) fn new(alloc: Global, limit: u32, queue: u32) -> Script
         requires some { 1 ≤ limit }
-        requires most { limit ≤ 33554432 }
+        requires most { limit ≤ most_history }
         requires least { 1 ≤ queue }
-        requires within { queue ≤ 65536 }
+        requires within { queue ≤ most_queue }
         ensures queue { result.queue ≡ queue }
         ensures stands { IsReplaying result.queue result.player new_state }
     {
@@ -85,7 +86,7 @@ impl PlaysLines for Script {
 
     ghost steps_left = { λ s. most_steps s.end };
 
-    #[tactic(auto, using(crate::proofs::Turns::no_event, crate::proofs::Turns::refused, crate::proofs::Turns::made))]
+    #[tactic(auto, using(crate::proofs::Rounds::no_event, crate::proofs::Rounds::refused, crate::proofs::Rounds::made))]
     fn line(&mut self, text: &[u8], out: &mut Bytes) -> Result<LineStep, NoMemory> {
         let Some(event) = event_of(self.alloc, text)? else {
             return Ok(LineStep::Refused);

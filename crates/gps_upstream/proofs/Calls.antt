@@ -1,4 +1,4 @@
--- What one read does, put together: the asking, and the reading behind it.
+-- What one read does, put together: the asking, and then the reading.
 use Rattle.std.proofs.Common.{◌≡◌, ◌≢◌, ℕ, ◌+◌, ◌≤◌, ◌⊎◌, inl, inr, List, [], ◌++◌, Option, Some, None, refl, sym, ap, ◌∙◌, subst, arith}
 use Rattle.std.proofs.lemmas.List.{append-nil}
 use Rattle.gps_outside.specs.declared.source.ReadStep.{ReadStep}
@@ -72,7 +72,7 @@ hands steps.End buffer = refl
 hands steps.Quiet buffer = refl
 hands steps.Failed buffer = refl
 
--- the facts of one reading of the head, and of what stands behind it
+-- the facts of one reading of the head, and of what follows it
 pub record ReadsOn (s : HeadStep) (room : ℕ) (buffer : List ℕ) (old new : Upward) : Type 0 where
   pub is_open : IsOpen old.head
   pub at : new.head ≡ head_at new.stand.stage

@@ -1,4 +1,4 @@
--- What is told of a head and of what stands behind it, if the source tells its bytes.
+-- What is known of a head and of what follows it, if the source has modelled contents.
 use Rattle.std.proofs.Common.{◌≡◌, ℕ, Bool, true, false, ◌&&◌, ◌==◌, if◌then◌else◌, ◌⊎◌, inl, inr, List, [], ◌++◌, take, Option, Some, None, refl, sym, ap, ◌∙◌, subst}
 use Rattle.std.proofs.lemmas.Bool.{and_from, and_parts, eq-eqb, eqb-true}
 use Rattle.std.proofs.lemmas.List.{append-nil}
@@ -90,11 +90,11 @@ left_from s bytes Inside e = refl
 left_from s bytes Behind e = refl
 left_from s bytes Nowhere e = sym (none_nowhere s bytes e)
 
--- if the head is bad, nothing stands behind it
+-- if the head is bad, nothing follows it
 pub left_is : (at : Head) (s : Stand) (bytes : List ℕ) → at ≡ head_at s.stage → left_by at (behind s bytes) ≡ behind s bytes
 left_is at s bytes e = subst (λ (h : Head). left_by h (behind s bytes) ≡ behind s bytes) (sym e) (left_from s bytes s.stage refl)
 
--- A read of a source by pieces, whose head stood at `old` before it and stands at `new` behind it.
+-- A read of a source by pieces, whose head is at `old` before it and at `new` after it.
 module _ (before after : Head) (old new : Stand) (is_open : IsOpen before) (is_after : after ≡ head_at new.stage) (raw : List ℕ) (stand : new ≡ taken old raw) where
   stand_is : (x y : Stream) → Took raw x y → old ≡ taken fresh x.taken → new ≡ taken fresh y.taken
   stand_is x y took e = stand ∙ ap (λ (s : Stand). taken s raw) e ∙ sym (taken_both fresh x.taken raw) ∙ ap (λ l. taken fresh l) (sym took)
@@ -165,7 +165,7 @@ module _ (before after : Head) (old new : Stand) (is_open : IsOpen before) (is_a
     },
   )
 
--- what a step of the reading says of what is told
+-- what a step of the reading says of modelled contents
 pub reads : (step : HeadStep) (buffer : List ℕ) (before after : Head) (old new : Stand) (c d : Option Stream)
     → IsOpen before → after ≡ head_at new.stage
     → Gives step buffer old new c d

@@ -23,7 +23,7 @@ pub taken_nowhere : (s : Stand) (bytes : List ℕ) → s.stage ≡ Nowhere → t
 taken_nowhere s [] e = refl
 taken_nowhere s (byte ∷ bytes) e = ap (λ t. taken t bytes) (step_nowhere s byte e) ∙ taken_nowhere s bytes e
 
--- behind the head all is handed on; if there is no head, nothing is
+-- after the head all is handed on; if there is no head, nothing is
 pub all_behind : (s : Stand) (bytes : List ℕ) → s.stage ≡ Behind → behind s bytes ≡ bytes
 all_behind s [] e = refl
 all_behind s (byte ∷ bytes) e = ap (λ t. handed_by t (byte ∷ bytes) (behind (step s byte) bytes)) e
@@ -35,7 +35,7 @@ none_nowhere s (byte ∷ bytes) e = ap (λ t. handed_by t (byte ∷ bytes) (behi
 pub more_inside : (s : Stand) (byte : ℕ) (bytes : List ℕ) → s.stage ≡ Inside → behind s (byte ∷ bytes) ≡ behind (step s byte) bytes
 more_inside s byte bytes e = ap (λ t. handed_by t (byte ∷ bytes) (behind (step s byte) bytes)) e
 
--- one piece behind another
+-- one piece after another
 pub taken_both : (s : Stand) (a b : List ℕ) → taken s (a ++ b) ≡ taken (taken s a) b
 taken_both s [] b = refl
 taken_both s (byte ∷ a) b = taken_both (step s byte) a b

@@ -1,5 +1,5 @@
 pub mod Calls
 pub mod Contents
 pub mod Heads
-pub mod Turns
+pub mod Rounds
 pub mod Views

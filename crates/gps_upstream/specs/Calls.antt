@@ -19,7 +19,7 @@ pub record IsAsked (old new : Upward) : Type 0 where
   pub started : new.head ≢ heads.Start
   pub sent : new.head ≢ heads.Unsent
 
--- The sink failed in this call: a part of the request was written, from its beginning. Nothing was read.
+-- The sink failed in this call: a prefix of the request was written. Nothing was read.
 pub record IsUnsent (old new : Upward) : Type 0 where
   pub part : Goes (AppendsPart (request old.device)) old.written new.written
   pub unsent : new.head ≡ heads.Unsent
@@ -45,7 +45,7 @@ AsksBy heads.Unsent old new = LeavesSink old new
 abbrev pub Asks : Upward → Upward → Type 0
 Asks old new = AsksBy old.head old new
 
--- what a sink tells that had these bytes before the first read
+-- the contents of a sink that had these bytes before the first read
 abbrev pub GivenBy : Head → List ℕ → List ℕ → Option (List ℕ) → Type 0
 GivenBy heads.Start asked first written = written ≡ Some first
 GivenBy heads.Reading asked first written = written ≡ Some (first ++ asked)
@@ -63,18 +63,18 @@ got_of answers.End buffer = []
 got_of answers.Quiet buffer = []
 got_of answers.Failed buffer = []
 
--- these bytes were taken from a source
+-- these bytes were read from a source
 abbrev pub Took : List ℕ → Stream → Stream → Type 0
 Took raw before after = after.taken ≡ before.taken ++ raw
 
--- Some bytes were taken from the source. What stands behind the head of them was handed on.
+-- Some bytes were read from the source. Those after the head were handed on.
 pub record HandsOn (result : ReadStep) (buffer : List ℕ) (old new : Upward) : Type 0 where
   pub raw : List ℕ
   pub took : Goes (Took raw) old.source new.source
   pub stand : new.stand ≡ taken old.stand raw
   pub handed : behind old.stand raw ≡ got_of result buffer
 
--- bytes are handed on only behind the whole head, which is sent to one that asked
+-- bytes are handed on only after the whole head, which is sent to one that asked
 abbrev pub IfGot : ReadStep → Type 0 → Type 0
 IfGot (answers.Got n) P = P
 IfGot answers.End P = Unit {0}

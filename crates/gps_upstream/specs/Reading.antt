@@ -1,4 +1,4 @@
--- What the reading of a head, and of what stands behind it, says of the bytes that it takes from its source.
+-- What the reading of a head, and of what follows it, says of the bytes that it reads from its source.
 use Rattle.std.specs.Prelude.{◌≡◌, ◌≢◌, ℕ, ◌<◌, ◌≤◌, List, [], take, Option}
 use Rattle.gps_outside.specs.Counts.{one_more}
 use Rattle.gps_outside.specs.Told.{Stream, Goes, Passes}
@@ -9,7 +9,7 @@ use Rattle.upstream_laws.specs.Head.{Stand, taken, behind, most}
 use Rattle.gps_upstream.specs.declared.reading.HeadStep.{HeadStep}
 use Rattle.gps_upstream.specs.declared.reading.HeadStep.TheVariants.{Got, Bad, End, Quiet, Failed}
 
--- bytes that were got are some, and no more than the buffer has room for
+-- bytes that were read are some, and no more than the buffer has room for
 abbrev pub FitsBuffer : HeadStep → ℕ → Type 0
 FitsBuffer (Got n) room = (1 ≤ n) × (n ≤ room)
 FitsBuffer Bad room = Unit {0}
@@ -25,7 +25,7 @@ FailsOnly End before after = after ≡ before
 FailsOnly Quiet before after = after ≡ before
 FailsOnly Failed before after = Unit {0}
 
--- the source counts one quiet if nothing came, and none else
+-- the source counts one quiet if the read was quiet, and none else
 abbrev pub CountsQuiet : HeadStep → ℕ → ℕ → Type 0
 CountsQuiet (Got n) before after = after ≡ before
 CountsQuiet Bad before after = after ≡ before
@@ -41,7 +41,7 @@ handed_on End buffer = []
 handed_on Quiet buffer = []
 handed_on Failed buffer = []
 
--- where the head stands then
+-- how much of the head was read then
 abbrev pub StandsAt : HeadStep → Stage → Type 0
 StandsAt (Got n) stage = stage ≡ Behind
 StandsAt Bad stage = stage ≡ Nowhere
@@ -49,7 +49,7 @@ StandsAt End stage = stage ≢ Nowhere
 StandsAt Quiet stage = stage ≢ Nowhere
 StandsAt Failed stage = stage ≢ Nowhere
 
--- what happens to the source's content, if these bytes are taken from it
+-- what happens to the source's content, if these bytes are read from it
 abbrev pub Moves : HeadStep → List ℕ → Stream → Stream → Type 0
 Moves (Got n) raw before after = Passes raw before after
 Moves Bad raw before after = Passes raw before after
@@ -57,7 +57,7 @@ Moves End raw before after = TakesAll raw before after
 Moves Quiet raw before after = Passes raw before after
 Moves Failed raw before after = TakesSome raw before after
 
--- Some bytes are taken from the source. Those of them that stand behind the head are handed on.
+-- Some bytes are read from the source. Those after the head are handed on.
 pub record Gives (step : HeadStep) (buffer : List ℕ) (old new : Stand) (before after : Option Stream) : Type 0 where
   pub raw : List ℕ
   pub moved : Goes (Moves step raw) before after
@@ -65,7 +65,7 @@ pub record Gives (step : HeadStep) (buffer : List ℕ) (old new : Stand) (before
   pub handed : behind old raw ≡ handed_on step buffer
   pub stage : StandsAt step new.stage
 
--- some bytes are taken from the source, and all of them belong to the head
+-- some bytes are read from the source, and all of them belong to the head
 pub record HeadGoesOn (old new : Stand) (before after : Option Stream) : Type 0 where
   pub raw : List ℕ
   pub moved : Goes (Passes raw) before after

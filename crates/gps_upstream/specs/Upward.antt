@@ -10,7 +10,7 @@ use Rattle.gps_upstream.specs.declared.head.Head.TheVariants as heads
 use Rattle.gps_upstream.specs.declared.upstream.Asked.{Asked}
 use Rattle.gps_upstream.specs.declared.upstream.Asked.TheVariants as askings
 
--- The device that is asked for; how far the head was taken; the content and the counts of the source, and those of the sink.
+-- The device that is asked for; how much of the head was read; the content and the counts of the source, and those of the sink.
 pub record Upward : Type 0 where
   pub device : Option (List ℕ)
   pub head : Head
@@ -56,7 +56,7 @@ same_stage stages.Nowhere stages.Nowhere = true
 unfoldable pub same_stand : Stand → Stand → Bool
 same_stand a b = same_stage a.stage b.stage && bytes_eq a.begin b.begin && (a.count == b.count)
 
--- nothing is left if the request could not be written; if the head is bad, nothing stands behind it
+-- nothing is left if the request could not be written; if the head is bad, nothing follows it
 abbrev pub left_by : Head → List ℕ → List ℕ
 left_by heads.Start bytes = bytes
 left_by heads.Reading bytes = bytes
@@ -64,11 +64,11 @@ left_by heads.Done bytes = bytes
 left_by heads.Bad bytes = []
 left_by heads.Unsent bytes = []
 
--- what was handed on of the bytes that were taken from the source, and what will be of those that are left in it
+-- what was handed on of the bytes that were read from the source, and what will be of those that are left in it
 abbrev pub handed : Head → Stand → Stream → Stream
 handed at stand s = record { taken = behind fresh s.taken; left = left_by at (behind stand s.left) }
 
--- It is told if the source tells its bytes, and the head was taken of all that were taken from it: the source was new.
+-- It is known if the source has modelled contents, and the head was cut of all bytes that were read from it: the source was new.
 abbrev pub content_by : Head → Stand → Option Stream → Option Stream
 content_by at stand None = None
 content_by at stand (Some s) = if same_stand stand (taken fresh s.taken) then Some (handed at stand s) else None
@@ -94,7 +94,7 @@ seen device is_asked stand source source_faults quiets written sink_faults =
 abbrev pub opened : Option (List ℕ) → Option Stream → ℕ → ℕ → Option (List ℕ) → ℕ → Upward
 opened device source source_faults quiets written sink_faults = seen device askings.NotYet fresh source source_faults quiets written sink_faults
 
--- how the head stands to the bytes that were taken of it
+-- how the head relates to the bytes that were read of it
 abbrev pub StandsBy : Head → Stand → Type 0
 StandsBy heads.Start stand = stand ≡ fresh
 StandsBy heads.Reading stand = stand.stage ≡ stages.Inside

@@ -9,7 +9,7 @@ use gps_report::Name;
 /// The longest request has 94 bytes.
 const ROOM: usize = 96;
 
-/// Puts a text behind the first `at` bytes of a buffer: how many bytes stand there then.
+/// Puts a text after the first `at` bytes of a buffer, and returns how many bytes are there then.
 fn put(buf: &mut [u8], at: usize, text: &[u8]) -> usize
     requires { at + length text.now ≤ length buf.old }
     ensures len { result ≡ at + length text.now }
@@ -35,7 +35,7 @@ fn put_request(buf: &mut [u8; ROOM], device: &Option<Name>) -> usize
     }
 }
 
-/// Asks another daemon for the packets of a device, or of all. False: a part of the request was written, from its beginning.
+/// Asks another daemon for the packets of a device, or of all. False: a prefix of the request was written.
 pub(crate) fn ask<K: Sink>(sink: &mut K, device: &Option<Name>) -> bool
     requires takes { K.takes sink.old }
     ensures takes { K.takes sink.new }

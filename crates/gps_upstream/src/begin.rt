@@ -3,10 +3,10 @@ ghost use Rattle.upstream_laws.specs.Head.{longer};
 
 use std::marker::Model;
 
-/// How many bytes of a line tell its class.
+/// How many bytes of a line show its class.
 const ENOUGH: usize = 18;
 
-/// How an open line begins: at most as many bytes as tell its class.
+/// How an open line begins: at most as many bytes as show its class.
 #[derive(Drop)]
 pub(crate) struct Begin {
     bytes: [u8; 18],

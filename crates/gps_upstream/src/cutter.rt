@@ -1,7 +1,7 @@
 ghost use Rattle.std.specs.Prelude.{◌≡◌, ◌≢◌, ◌+◌, ◌<◌, ◌≤◌, [], length, drop, true, false};
 ghost use Rattle.json_line.specs.declared.names.Class.{Class};
 ghost use Rattle.upstream_laws.specs.declared.stage.Stage.{Stage};
-ghost use Rattle.upstream_laws.specs.Head.{fresh, can_be, can_begin, behind_line, within_line, bounded, more_head, taken, behind};
+ghost use Rattle.upstream_laws.specs.Head.{fresh, can_be, can_begin, behind_line, within_line, bounded, more_head, most, taken, behind};
 
 use crate::begin::Begin;
 use gps_client::{Class, class_of};
@@ -36,13 +36,13 @@ pub(crate) struct HeadCutter {
 impl Model for HeadCutter {
     ghost use Rattle.std.specs.Prelude.{◌≡◌, ◌<◌, ◌≤◌};
     ghost use Rattle.upstream_laws.specs.declared.stage.Stage.{Stage};
-    ghost use Rattle.upstream_laws.specs.Head.{Stand};
+    ghost use Rattle.upstream_laws.specs.Head.{Stand, most};
 
     ghost Value = { Stand };
 
     ghost view = { λ c. record { stage = c.stage; begin = c.begin; count = c.count } };
 
-    ghost invariant = { λ c. (c.count ≤ 1048576) × (c.stage ≡ Stage.Inside → c.count < 1048576) };
+    ghost invariant = { λ c. (c.count ≤ most) × (c.stage ≡ Stage.Inside → c.count < most) };
 }
 
 /// Whether an object of this class begins so, or with more bytes.
@@ -60,7 +60,7 @@ fn can_begin(begin: &[u8]) -> bool
     CLASSES.iter().any(|class| can_be(begin, *class))
 }
 
-/// Where a head stands behind one of its lines.
+/// The stage of a head after one of its lines.
 fn behind_line(class: Option<Class>) -> Stage
     ensures { result ≡ behind_line class }
 {
@@ -71,10 +71,10 @@ fn behind_line(class: Option<Class>) -> Stage
     }
 }
 
-/// Where a head of this many bytes stands that would stand at `stage` if there were no limit.
+/// The stage of a head of this many bytes, which would be `stage` if there were no limit.
 fn bounded(count: u32, stage: Stage) -> Stage
     ensures value { result ≡ bounded count stage }
-    ensures few { result ≡ Stage.Inside → count < 1048576 }
+    ensures few { result ≡ Stage.Inside → count < most }
 {
     match stage {
         Stage::Inside if count < MOST => Stage::Inside,
@@ -98,7 +98,7 @@ impl HeadCutter {
 
     pub(crate) fn stage(&self) -> Stage
         ensures stage { result ≡ self.now.stage }
-        ensures count { self.now.count ≤ 1048576 }
+        ensures count { self.now.count ≤ most }
     {
         self.stage
     }

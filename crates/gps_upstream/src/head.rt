@@ -1,4 +1,4 @@
-/// How far the head of what another daemon sends was taken.
+/// How much of the head of what another daemon sends was read.
 #[derive(Clone, Copy, Debug, PartialEq, Eq)]
 pub enum Head {
     /// The daemon was not asked yet.

@@ -61,7 +61,7 @@ fn head_at(stage: Stage) -> Head
 }
 
 impl<S: Source, K: Sink> Upstream<S, K> {
-    /// Over a new connection nothing was taken from it. Takes no memory and writes nothing.
+    /// Over a new connection, from which nothing was read. Takes no memory and writes nothing.
     pub fn new(source: S, sink: K, device: Option<Name>) -> Upstream<S, K>
         requires open { K.takes sink }
         ensures opened { result ≡ opened device (S.content source) (S.faults source) (S.quiets source) (K.written sink) (K.faults sink) }
@@ -79,7 +79,7 @@ impl<S: Source, K: Sink> Upstream<S, K> {
         }
     }
 
-    /// How far the head was taken.
+    /// How much of the head was read.
     pub fn head(&self) -> Head
         ensures head { result ≡ self.now.head }
         ensures stand { StandsBy result self.now.stand }
@@ -91,7 +91,7 @@ impl<S: Source, K: Sink> Upstream<S, K> {
         }
     }
 
-    /// Reads after the request was written.
+    /// Reads after the request was written. It only forwards, for the prover: its contract is of the upstream as a whole.
     fn read_on(&mut self, buf: &mut [u8]) -> ReadStep
         requires room { 0 < length buf.old }
         requires head { IsOpen self.old.head }
@@ -128,11 +128,12 @@ impl<S: Source, K: Sink> Source for Upstream<S, K> {
 
     ghost content = { λ u. content_of u };
 
-    /// The first read writes the request, and no other writes. Then the head is taken off; what stands behind it is handed on.
+    /// The first read writes the request, and no other writes. Then the head is taken off; what follows it is handed on.
     ///
     /// Failed: the sink failed (the head is Unsent), the source failed, or the head was found bad. After a bad head, and if
     /// the request could not be written, nothing is left.
     fn read(&mut self, buf: &mut [u8]) -> ReadStep
+        // What each source promises.
         requires { 0 < length buf.old }
         ensures fits { FitsBuffer result (length buf.old) }
         ensures bytes { Reads result buf.new (content_of self.old) (content_of self.new) }
@@ -142,10 +143,14 @@ impl<S: Source, K: Sink> Source for Upstream<S, K> {
         ensures quiet { result ≡ ReadStep.Quiet → Rose self.old.quiets self.new.quiets }
         ensures fails_only { FailsOnly result (faults_of self.old) (faults_of self.new) }
         ensures counts_quiet { CountsQuiet result self.old.quiets self.new.quiets }
+
+        // What is asked of the other daemon, and how the head is taken off.
         ensures device { self.new.device ≡ self.old.device }
         ensures asked { Asks self.old self.new }
         ensures given { (first : List ℕ) → IsGiven first self.old → IsGiven first self.new }
         ensures got { IfGot result (self.new.head ≡ Head.Done) }
+
+        // Why it failed or ended, and what is handed on.
         ensures cause { result ≡ ReadStep.Failed → HasFault self.old self.new }
         ensures ended { result ≡ ReadStep.End → HasEnded self.old self.new }
         ensures handed { HandsOn result buf.new self.old self.new }

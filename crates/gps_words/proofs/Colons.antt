@@ -39,7 +39,7 @@ passed (d ∷ front) c other =
     ap (λ b. cond b (later (last_colon (front ++ c ∷ []))) (first_if (is_colon d))) (any_passed front c other)
     ∙ ap (λ p. cond (list_any is_colon front) (later p) (first_if (is_colon d))) (passed front c other)
 
--- a text is what stands before its last byte, and that byte
+-- a text is what comes before its last byte, and that byte
 split_last : (text : List ℕ) (d : ℕ) → 0 < length text
     → take (length text - 1) text ++ slice_index_or text (length text - 1) d ∷ [] ≡ text
 split_last text d some =

@@ -12,11 +12,11 @@ use Rattle.gps_words.specs.declared.device.Target.TheVariants.{Device, Edges}
 use Rattle.gps_words.specs.declared.device.DeviceWord.{DeviceWord}
 use Rattle.gps_words.specs.declared.devices.Devices.{Devices}
 
--- what stands before the first such byte, and what stands behind it
+-- what comes before the first such byte, and what follows it
 unfoldable pub halves : ℕ → List ℕ → Option (List ℕ × List ℕ)
 halves mark text = option_map (λ k. (take k text, drop (k + 1) text)) (position (λ c. c == mark) text)
 
--- where the last `:` of a text stands
+-- where the last `:` of a text is
 abbrev pub later : Option ℕ → Option ℕ
 later None = None
 later (Some place) = Some (place + 1)
@@ -51,7 +51,7 @@ address_in text = if is_address text then Some text else None
 abbrev pub path_in : List ℕ → Option (List ℕ)
 path_in text = if nat_lt 0 (length text) then Some text else None
 
--- what the kind says of the text behind its `:`
+-- what the kind says of the text after its `:`
 unfoldable pub target_of : List ℕ → List ℕ → Option Target
 target_of kind text =
     if bytes_eq kind (codes "file") then option_map (λ path. Device (File path)) (path_in text)
@@ -130,8 +130,8 @@ edges_for name (word ∷ words) = edges_or name word.name word.target (edges_for
 abbrev pub edges_of : List DeviceWord → List (List ℕ) → List (Option (List ℕ))
 edges_of words names = map (λ name. edges_for name words) names
 
--- The words name devices: no two words say where the bytes of one come from, one says where those of each named device do, and its edges stand
--- behind that, once.
+-- The words name devices: no two words say where the bytes of one come from, one says where those of each named device do, and its edges come
+-- after that, once.
 abbrev pub are_devices : List DeviceWord → Bool
 are_devices words = are_names (names_of words) && all_devices words && edges_end_names words
 

@@ -5,7 +5,7 @@ use Rattle.std.specs.List.{list_all}
 abbrev pub is_digit : ℕ → Bool
 is_digit c = nat_le 48 c && nat_le c 57
 
--- the number that decimal digits write, behind those of n
+-- the number that decimal digits write after those of n
 unfoldable pub digits_after : ℕ → List ℕ → ℕ
 digits_after n [] = n
 digits_after n (digit ∷ text) = digits_after (10 * n + (digit - 48)) text

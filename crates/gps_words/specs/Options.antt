@@ -18,7 +18,7 @@ option_rule name = record (new_rule name) {
   action = Some Set;
 }
 
--- words that stand for themselves, any number of them among the options
+-- positional words, any number of them among the options
 abbrev pub list_rule : Text → Rule
 list_rule name = record (new_rule name) { action = Some Append }
 

@@ -11,7 +11,7 @@ use Rattle.gps_words.specs.Replay.{history_in, queue_in}
 use Rattle.gps_words.specs.declared.serve.ServeNumbers.{ServeNumbers}
 use Rattle.gps_words.specs.declared.serve.ServeOptions.{ServeOptions}
 
--- all that the words ask for; the devices are told by three lists of one length
+-- all that the words ask for; the devices are given by three lists of one length
 pub record Serve : Type 0 where
   pub devices : Lists
   pub listen : Text
@@ -53,7 +53,7 @@ numbers_in rows =
     record { queue = queue; history = history; wait = wait; monitor = monitor; reopen = reopen })
     (reopen_in rows)) (monitor_in rows)) (wait_in rows)) (history_in rows)) (queue_in rows)
 
--- `--listen`: where links are taken
+-- `--listen`: where clients connect
 abbrev pub listen_in : List Row → Text
 listen_in rows = unwrap_or (first_of (codes "listen") rows) (codes "127.0.0.1:2947")
 

@@ -1,5 +1,6 @@
 -- The ranges of what the words ask for.
 use Rattle.std.specs.Prelude.{◌≡◌, ℕ, ◌≤◌, ◌<◌, ◌⊎◌, List, IfSome, length}
+use Rattle.gps_fixed.specs.Limits.{most_history, most_queue}
 use Rattle.gps_words.specs.Serve.{Serve}
 use Rattle.gps_words.specs.declared.command.CommandLine.{CommandLine}
 use Rattle.gps_words.specs.declared.command.CommandLine.TheVariants.{Decode, Pseudo, Replay, Generate, Lines}
@@ -17,23 +18,23 @@ pub record IsWithin (s : Serve) : Type 0 where
   pub inputs : length s.devices.inputs ≡ length s.devices.names
   pub edges : length s.devices.edges ≡ length s.devices.names
   pub queue_low : 1 ≤ s.numbers.queue
-  pub queue_high : s.numbers.queue ≤ 65_536
+  pub queue_high : s.numbers.queue ≤ most_queue
   pub history_low : 1 ≤ s.numbers.history
-  pub history_high : s.numbers.history ≤ 33_554_432
+  pub history_high : s.numbers.history ≤ most_history
   pub wait : s.numbers.wait ≤ 64
   pub monitor : s.numbers.monitor ≤ 1_000_000
   pub reopen : IfSome s.numbers.reopen IsSeconds
   pub stop : IfSome s.stop IsPath
 
 abbrev pub IsHistory : ℕ → Type 0
-IsHistory history = (1 ≤ history) × (history ≤ 33_554_432)
+IsHistory history = (1 ≤ history) × (history ≤ most_history)
 
 -- how many bytes are read at most: a number in its range, or all that any input has
 abbrev pub IsBytes : ℕ → Type 0
 IsBytes n = IsHistory n ⊎ (n ≡ 9_223_372_036_854_775_807)
 
 abbrev pub IsQueue : ℕ → Type 0
-IsQueue queue = (1 ≤ queue) × (queue ≤ 65_536)
+IsQueue queue = (1 ≤ queue) × (queue ≤ most_queue)
 
 -- each number of a command lies in its range
 abbrev pub IsInRange : CommandLine → Type 0

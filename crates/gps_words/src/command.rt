@@ -15,7 +15,7 @@ pub enum CommandLine {
     Lines,
 }
 
-/// Why words ask for no command.
+/// Why the words are no command.
 #[derive(Clone, Copy, Debug, PartialEq, Eq)]
 pub enum WordsFault {
     /// The first word is no command or is missing, `clap` finds a fault in the words, or the text of a

@@ -38,7 +38,7 @@ fn place_of(text: &[u8], mark: u8) -> Option<usize>
     text.iter().position(|byte| *byte == mark)
 }
 
-/// What stands before the first such byte, and what stands behind it.
+/// What comes before the first such byte, and what follows it.
 #[tactic(auto, unfolding(crate::specs::Devices::halves))]
 fn halves(text: &[u8], mark: u8) -> Option<(&[u8], &[u8])>
     ensures { option_map (λ p. (p.0.now, p.1.now)) result ≡ halves mark text.entry.now }

@@ -1,4 +1,4 @@
-//! The words that the program is called with, without its own name: which command they ask for, with which
+//! The command line, without the program's name: which command it asks for, with which
 //! options. `clap` reads the words of each command, and numbers are 1 to 10 decimal digits in a range.
 #![tactic(auto)]
 

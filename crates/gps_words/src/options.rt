@@ -28,7 +28,7 @@ pub(crate) fn with_option<'a>(
     command.arg(option)
 }
 
-/// The command with words that stand for themselves.
+/// The command with positional words.
 pub(crate) fn with_list<'a>(
     command: Command<'a>,
     alloc: Global,
@@ -40,7 +40,7 @@ pub(crate) fn with_list<'a>(
     command.arg(list)
 }
 
-/// What clap reads from a command's words, the first of which is the command's name.
+/// What clap reads from a command's words; the first is the command's name.
 pub(crate) fn matches_in<'a>(
     command: Command<'a>,
     words: &'a [String],

@@ -31,14 +31,14 @@ pub struct ServeNumbers {
     pub reopen: Option<u32>,
 }
 
-/// The options of `serve`. The devices stand in three lists of one length, in the order of their numbers.
+/// The options of `serve`. The devices are in three lists of one length, in the order of their numbers.
 #[derive(Drop)]
 pub struct ServeOptions {
     pub names: Names,
     pub inputs: Vec<Input>,
     /// For each device the path of a file with its edges, if there is one.
     pub edges: Vec<Option<Bytes>>,
-    /// Where links are taken: `HOST:PORT`.
+    /// Where clients connect: `HOST:PORT`.
     pub listen: Bytes,
     pub numbers: ServeNumbers,
     /// The path of the file whose first byte or end ends the daemon, if there is one.
@@ -84,7 +84,7 @@ fn numbers(matches: &ArgMatches) -> Option<ServeNumbers>
     })
 }
 
-/// Where links are taken.
+/// Where clients connect.
 #[tactic(auto, using(crate::proofs::Given::first_of_rows))]
 fn listen<'a>(matches: &ArgMatches<'a>) -> &'a str
     ensures { result.now ≡ listen_in (rows_of (found_of matches.now)) }
@@ -229,7 +229,7 @@ fn asked_for(alloc: Global, words: &[String]) -> Result<ServeOptions, WordsFault
 /// The options of `serve` that the words ask for. `Refused` comes exactly if the first word is another or is missing, if
 /// `clap` finds a fault in the words or a number's text is none in its range, if the path of `--stop` is empty, if the text of
 /// `--listen` is no `HOST:PORT`, or if there are not 1 to 16 device words, which name at most 8 devices: each name has one word that says
-/// where its bytes come from, and at most one with its edges, behind that.
+/// where its bytes come from, and at most one with its edges, after that.
 pub fn serve_asked(alloc: Global, words: &[String]) -> Result<ServeOptions, WordsFault>
     ensures ok { IfOk result (λ options. serve_asked_of (map string_bytes words.now) ≡ Some (shown options)) }
     ensures within { IfOk result (λ options. IsWithin (shown options)) }

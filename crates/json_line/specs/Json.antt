@@ -38,7 +38,7 @@ hundredths n = scaled_text 2 (pos n)
 unfoldable pub time : Moment → List ℕ
 time at = codes "\"" ++ iso_of at ++ codes "\""
 
--- the texts of a list, each but the first behind a comma
+-- the texts of a list, each but the first after a comma
 unfoldable pub behind_commas : {X : Type 0} → (X → List ℕ) → List X → List ℕ
 behind_commas text items = flat_map (λ x. codes "," ++ text x) items
 

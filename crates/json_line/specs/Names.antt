@@ -5,7 +5,7 @@ use Rattle.json_line.specs.declared.names.Class.TheVariants as class
 use Rattle.json_line.specs.declared.names.Key.{Key}
 use Rattle.json_line.specs.declared.names.Key.TheVariants as key
 
--- how an object begins: its class stands first
+-- how an object begins: its class comes first
 unfoldable pub head_of : Class → List ℕ
 head_of class.Version = codes "{\"class\":\"VERSION\""
 head_of class.Devices = codes "{\"class\":\"DEVICES\""
@@ -18,7 +18,7 @@ head_of class.Toff = codes "{\"class\":\"TOFF\""
 head_of class.Pps = codes "{\"class\":\"PPS\""
 head_of class.Error = codes "{\"class\":\"ERROR\""
 
--- what stands before the value of any other member: a comma, the name in quotes and a colon
+-- what comes before the value of any other member: a comma, the name in quotes and a colon
 unfoldable pub label_of : Key → List ℕ
 label_of key.Activated = codes ",\"activated\":"
 label_of key.Active = codes ",\"active\":"
@@ -66,6 +66,6 @@ label_of key.USat = codes ",\"uSat\":"
 label_of key.Used = codes ",\"used\":"
 label_of key.Vdop = codes ",\"vdop\":"
 
--- a satellite has no class; its number stands first
+-- a satellite has no class; its number comes first
 unfoldable pub satellite_head : List ℕ
 satellite_head = codes "{\"PRN\":"

@@ -56,7 +56,7 @@ pub fn push_truth(out: &mut Bytes, key: Key, value: bool) -> Result<(), NoMemory
     }
 }
 
-/// As many bytes as a label and a number have at most, and more. They are put together on the stack, so that a member asks for memory once.
+/// Room for a label and a number, and more. They are put together on the stack, so that a member allocates once.
 const ROOM: usize = 48;
 
 #[inline(always)]

@@ -18,7 +18,7 @@ pub enum Class {
     Error,
 }
 
-/// The members of JSON objects, but for `class` and `PRN`, which stand first.
+/// The members of JSON objects, but for `class` and `PRN`, which come first.
 #[derive(Clone, Copy, Debug, PartialEq, Eq)]
 pub enum Key {
     Activated,
@@ -87,7 +87,7 @@ pub fn head(class: Class) -> &'static [u8]
     }
 }
 
-/// What stands before the value of a member.
+/// What comes before the value of a member.
 #[tactic(auto, unfolding(crate::specs::Names::label_of))]
 pub fn label(key: Key) -> &'static [u8]
     ensures { result.now ≡ label_of key }
@@ -148,7 +148,7 @@ pub fn push_head(out: &mut Bytes, class: Class) -> Result<(), NoMemory>
     out.extend_from_slice(head(class))
 }
 
-/// What stands before the value of a member: a comma, the name in quotes and a colon.
+/// What comes before the value of a member: a comma, the name in quotes and a colon.
 #[inline(always)]
 pub fn push_label(out: &mut Bytes, key: Key) -> Result<(), NoMemory>
     ensures { OnOk result (out.new ≡ out.old ++ label_of key) }

@@ -1,4 +1,4 @@
-//! Pieces of a text that are written into an array of bytes, so that no piece asks for memory. Each function gives the place behind its piece.
+//! Pieces of a text that are written into an array of bytes, so that no piece needs memory. Each function returns the place after its piece.
 
 ghost use Rattle.std.specs.Prelude.{◌≡◌, ◌<◌, ◌≤◌, ◌+◌, ◌/◌, ◌%◌, ◌^◌, ◌∷◌, ◌++◌, [], length, take};
 ghost use Rattle.std.specs.Fmt.{decimal};
@@ -222,7 +222,7 @@ pub fn place_scaled(room: &mut [u8], at: usize, value: i64, decimals: u8) -> usi
     }
 }
 
-/// What stands before the value of a member.
+/// What comes before the value of a member.
 #[inline(always)]
 pub fn place_label(room: &mut [u8], at: usize, key: Key) -> usize
     requires { at + length (label_of key) ≤ length room.old }

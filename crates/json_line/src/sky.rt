@@ -91,7 +91,7 @@ fn place_satellite(room: &mut [u8], s: &Satellite) -> usize
     place_byte(room, at, b'}')
 }
 
-/// The object is made on the stack, so that its members ask for no memory one by one.
+/// The object is made on the stack, so that its members do not allocate one by one.
 fn push_satellite(out: &mut Bytes, s: &Satellite) -> Result<(), NoMemory>
     ensures { OnOk result (out.new ≡ out.old ++ satellite s.now) }
 {

@@ -128,7 +128,7 @@ fitting_ended limit bytes part is b long =
     go true = refl
     go false = refl
 
--- behind a line's end nothing is held
+-- after a line's end nothing is held
 stands_ended : (limit : Limit) (bytes part : List ℕ) → IsLine part → StandsFor (holding limit false []) (bytes ++ part)
 stands_ended limit bytes part is =
     let opens : open_line (bytes ++ part) ≡ [] = (ended bytes part is).opens in
@@ -174,7 +174,7 @@ end_line old new piece part n line ends front short spelled is bytes stands =
       fitting = fitting_ended old.limit bytes (take n piece) ends.is false whole ∙ ap (λ t. fitting_lines old.limit bytes ++ t ∷ []) (sym same);
     }
 
--- Of bytes behind which no line ends.
+-- Of bytes after which no line ends.
 record Open (bytes piece : List ℕ) : Type 0 where
   none : lines (open_line bytes ++ piece) ≡ []
   lines_are : lines (bytes ++ piece) ≡ lines bytes

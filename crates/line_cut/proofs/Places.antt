@@ -1,4 +1,4 @@
--- Where the first line feed stands, from what a search for it answers.
+-- Where the first line feed is, from what a search for it answers.
 use Rattle.std.proofs.Common.{◌≡◌, ◌<◌, ◌+◌, ℕ, zero, suc, Bool, true, false, ◌||◌, List, [], ◌∷◌, ◌++◌, length, take, Some, None, slice_index, refl, sym, ap, ◌∙◌, arith, eqb-true}
 use Rattle.std.proofs.lemmas.List.{take_all, take_more}
 use Rattle.memchr.specs.Find.{IsFirstByte, is_byte}

@@ -126,7 +126,7 @@ are_lines (c ∷ bytes) = go (is_feed c) refl (are_lines bytes)
     go true is behind = (record { text = []; plain = refl; spelled = ap (λ d. d ∷ []) (eqb-true c 10 is) }, behind)
     go false is behind = longer_first c (lines bytes) is behind
 
--- one line and bytes behind it
+-- one line, and bytes after it
 pub line_lines : (text rest : List ℕ) → has_feed text ≡ false → lines ((text ++ 10 ∷ []) ++ rest) ≡ (text ++ 10 ∷ []) ∷ lines rest
 unfolding lines
 line_lines [] rest plain = refl

@@ -10,7 +10,7 @@ is_feed c = c == 10
 abbrev pub has_feed : List ℕ → Bool
 has_feed bytes = list_any is_feed bytes
 
--- a line: bytes without a line feed, and one behind them
+-- a line: bytes without a line feed, and one after them
 pub record IsLine (line : List ℕ) : Type 0 where
   pub text : List ℕ
   pub plain : has_feed text ≡ false
@@ -30,12 +30,12 @@ unfoldable pub lines : List ℕ → List (List ℕ)
 lines [] = []
 lines (c ∷ bytes) = if is_feed c then (c ∷ []) ∷ lines bytes else with_first c (lines bytes)
 
--- what stands behind the last line feed
+-- what follows the last line feed
 unfoldable pub open_line : List ℕ → List ℕ
 open_line [] = []
 open_line (c ∷ bytes) = if has_feed (c ∷ bytes) then open_line bytes else c ∷ bytes
 
--- A line without its line end, LF or CR LF. Of a line whose LF was not read yet a CR at its end is left out too:
+-- A line without its line end, LF or CR LF. A CR at the end of a line whose LF was not read yet is left out too:
 -- it may be the beginning of the line end.
 abbrev pub text_of : List ℕ → List ℕ
 text_of line = strip_last 13 (strip_last 10 line)

@@ -43,13 +43,13 @@ IsWithin piece (next.Line line n) = (0 < n) × (n ≤ length piece)
 IsWithin piece (next.TooLong n) = (0 < n) × (n ≤ length piece)
 IsWithin piece next.Used = Unit {0}
 
--- the line that a step hands on
+-- the line that a step returns
 abbrev pub gained : Next → List (List ℕ)
 gained (next.Line line n) = spelling line ∷ []
 gained (next.TooLong n) = []
 gained next.Used = []
 
--- behind these bytes, the first n of the piece end this line, and it is not too long
+-- after these bytes, the first n of the piece end this line, and it is not too long
 pub record GivesLine (limit : Limit) (bytes piece line : List ℕ) (n : ℕ) : Type 0 where
   pub some : 0 < n
   pub inside : n ≤ length piece
@@ -58,7 +58,7 @@ pub record GivesLine (limit : Limit) (bytes piece line : List ℕ) (n : ℕ) : T
   pub opens : open_line (bytes ++ take n piece) ≡ []
   pub fits : is_too_long limit line ≡ false
 
--- Behind these bytes, the first n of the piece belong to a line that is too long: it ends with them, or they are
+-- After these bytes, the first n of the piece belong to a line that is too long: it ends with them, or they are
 -- the whole piece and it is still open.
 pub record GivesTooLong (limit : Limit) (bytes piece : List ℕ) (n : ℕ) : Type 0 where
   pub some : 0 < n
@@ -68,7 +68,7 @@ pub record GivesTooLong (limit : Limit) (bytes piece : List ℕ) (n : ℕ) : Typ
       ((lines (bytes ++ take n piece) ≡ lines bytes ++ (open_line bytes ++ take n piece) ∷ []) × (open_line (bytes ++ take n piece) ≡ []))
       ⊎ ((n ≡ length piece) × (lines (bytes ++ take n piece) ≡ lines bytes) × (open_line (bytes ++ take n piece) ≡ open_line bytes ++ take n piece))
 
--- behind these bytes, the piece ends no line, and the open line is not too long
+-- after these bytes, the piece ends no line, and the open line is not too long
 pub record GivesNone (limit : Limit) (bytes piece : List ℕ) : Type 0 where
   pub lines : lines (bytes ++ piece) ≡ lines bytes
   pub opens : open_line (bytes ++ piece) ≡ open_line bytes ++ piece
@@ -79,7 +79,7 @@ IsNext limit bytes piece (next.Line line n) = GivesLine limit bytes piece (spell
 IsNext limit bytes piece (next.TooLong n) = GivesTooLong limit bytes piece n
 IsNext limit bytes piece next.Used = GivesNone limit bytes piece
 
--- one step of a cutter behind these bytes
+-- one step of a cutter after these bytes
 pub record IsStep (old new : LineCutterView) (bytes piece : List ℕ) (next : Next) : Type 0 where
   pub gives : IsNext old.limit bytes piece next
   pub stands : StandsFor new (bytes ++ take (used piece next) piece)

@@ -10,7 +10,7 @@ use std::alloc::Global;
 use std::marker::Model;
 use std::mem;
 
-/// Cuts bytes into lines, as their pieces come. It keeps the open line alone, and of one that is too long only
+/// Cuts bytes into lines, as their pieces come. It keeps only the open line, and of one that is too long only
 /// that it is.
 #[derive(Drop)]
 pub struct LineCutter {
@@ -46,7 +46,7 @@ impl LineCutter {
         }
     }
 
-    /// What a piece holds next. The caller goes on with what is left of the piece, until it is used. Takes memory
+    /// What a piece holds next. The caller calls again with what is left of the piece, until it is used. Takes memory
     /// only for a line that the piece does not hold whole. A refusal leaves the cutter as it was.
     pub fn next<'p>(&mut self, piece: &'p [u8]) -> Result<Next<'p>, NoMemory>
         ensures steps { IfOk result (λ next. Steps self.old self.new piece.now next) }

@@ -6,7 +6,7 @@ ghost use Rattle.line_cut.specs.declared.limit.Limit.{Limit};
 ghost use Rattle.line_cut.specs.Lines.{AreLines, has_feed, lines, open_line};
 ghost use Rattle.line_cut.specs.Limits.{fitting_lines, is_too_long};
 
-/// The lines and the open line are the bytes, cut behind each line feed; and no others are.
+/// The lines and the open line are the bytes, cut after each line feed; and no others are.
 pub fn lines_are_the_split()
     ensures joined { (bytes : List ℕ) → concat (lines bytes) ++ open_line bytes ≡ bytes }
     ensures lines { (bytes : List ℕ) → AreLines (lines bytes) }
@@ -15,7 +15,7 @@ pub fn lines_are_the_split()
         → (lines (concat split ++ rest) ≡ split) × (open_line (concat split ++ rest) ≡ rest) }
 {}
 
-/// More bytes take no line away: they go on from the open line.
+/// More bytes remove no line: they go on from the open line.
 pub fn lines_go_on()
     ensures lines { (bytes more : List ℕ) → lines (bytes ++ more) ≡ lines bytes ++ lines (open_line bytes ++ more) }
     ensures opens { (bytes more : List ℕ) → open_line (bytes ++ more) ≡ open_line (open_line bytes ++ more) }

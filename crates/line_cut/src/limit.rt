@@ -21,7 +21,7 @@ impl Limit {
         }
     }
 
-    /// Whether a line, or the beginning of one, has too many bytes. It stands in two parts.
+    /// Whether a line, or the beginning of one, has too many bytes. It is in two parts.
     pub(crate) fn is_passed(self, held: &[u8], part: &[u8]) -> bool
         requires { 0 < length part.now }
         ensures { result ≡ is_too_long self (held.now ++ part.now) }
@@ -48,7 +48,7 @@ fn text_len(held: &[u8], part: &[u8]) -> usize
     }
 }
 
-/// A line without its line end, LF or CR LF. Of a line that has no LF yet a CR at its end is left out too.
+/// A line without its line end, LF or CR LF. A CR at the end of a line that has no LF yet is left out too.
 pub fn text_of(line: &[u8]) -> &[u8]
     ensures { result.now ≡ text_of line.now }
 {

@@ -6,7 +6,7 @@ use gps_fixed::Bytes;
 /// A line with its LF.
 #[derive(Drop)]
 pub enum WholeLine<'p> {
-    /// It stands in the piece.
+    /// It is in the piece.
     InPiece(&'p [u8]),
     /// It began before the piece.
     Joined(Bytes),

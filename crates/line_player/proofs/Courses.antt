@@ -60,7 +60,7 @@ ended_next rules bytes onward line is =
 pub ended_same : {X : Type 0} (rules : Rules X) (bytes onward : List ℕ) → lines onward ≡ lines bytes → ended_course rules onward ≡ ended_course rules bytes
 ended_same rules bytes onward is = ap (λ l. course_of rules (map (text_in rules.limit) l)) is
 
--- what is known of more bytes, as the lines behind those that these bytes ended
+-- what is known of more bytes, as the lines after those that these bytes ended
 pub so_far_on : {X : Type 0} (rules : Rules X) (bytes more : List ℕ)
     → course_so_far rules (bytes ++ more)
     ≡ fold (with_line rules) (ended_course rules bytes) (ended_texts rules (open_line bytes ++ more) ++ long_texts rules (open_line (bytes ++ more)))
@@ -71,7 +71,7 @@ so_far_on rules bytes more =
     ∙ ap (course_of rules) (append_assoc (ended_texts rules bytes) (ended_texts rules (open_line bytes ++ more)) long)
     ∙ course_on rules (ended_texts rules bytes) (ended_texts rules (open_line bytes ++ more) ++ long)
 
--- a refused line decides what is known of all bytes behind it
+-- a refused line decides what is known of all bytes after it
 pub refused_on : {X : Type 0} (rules : Rules X) (bytes more : List ℕ) (number : ℕ) → (ended_course rules bytes).refused ≡ Some number
     → course_so_far rules (bytes ++ more) ≡ ended_course rules bytes
 refused_on rules bytes more number refused =

@@ -1,4 +1,4 @@
--- What is due behind what was written: of a piece, and of the text's end.
+-- What is due after what was written: of a piece, and of the text's end.
 use Rattle.std.proofs.Common.{◌≡◌, ◌≢◌, ℕ, ◌+◌, ◌≤◌, ◌<◌, List, [], ◌∷◌, ◌++◌, length, cond, Option, Some, None, Result, Ok, Err, refl, sym, ◌∙◌, ap, subst, append_assoc, arith}
 use Rattle.std.proofs.lemmas.List.{append-nil}
 use Rattle.gps_fixed.specs.declared.no_memory.NoMemory.{NoMemory}
@@ -89,9 +89,9 @@ pub last_line : {X : Type 0} (result : Result LineStep NoMemory) (rules : Rules 
     → (line ≡ open_line bytes) × (0 < length line) × (length line ≤ most cutter.limit)
     → ((state : X) → stands state → StepDone result rules state line stands' due due')
     → RunsLast result rules bytes count stands' due due'
-last_line (Ok Made) rules bytes line cutter count stands stands' due due' at is turn =
+last_line (Ok Made) rules bytes line cutter count stands stands' due due' at is round =
     let c : Course _ = ended_course rules bytes in
-    let t : StepDone (Ok Made) rules c.state line stands' due due' = turn c.state at.made in
+    let t : StepDone (Ok Made) rules c.state line stands' due due' = round c.state at.made in
     let within : length line ≤ most rules.limit = subst (λ l. length line ≤ most l) at.limit is.2 in
     let made : whole_course rules bytes ≡ gone_on c (Some t.0) =
     whole_on rules bytes (subst (λ l. 0 < length l) is.0 is.1)
@@ -101,16 +101,16 @@ last_line (Ok Made) rules bytes line cutter count stands stands' due due' at is 
       subst stands' (ap (λ x. x.state) (sym made)) t.2,
       (t.0.written, t.3, ap (λ x. x.written) made),
     )
-last_line (Ok Refused) rules bytes line cutter count stands stands' due due' at is turn =
+last_line (Ok Refused) rules bytes line cutter count stands stands' due due' at is round =
     let c : Course _ = ended_course rules bytes in
-    let t : StepDone (Ok Refused) rules c.state line stands' due due' = turn c.state at.made in
+    let t : StepDone (Ok Refused) rules c.state line stands' due due' = round c.state at.made in
     let within : length line ≤ most rules.limit = subst (λ l. length line ≤ most l) at.limit is.2 in
     let made : whole_course rules bytes ≡ gone_on c None =
     whole_on rules bytes (subst (λ l. 0 < length l) is.0 is.1)
     ∙ ap (with_line rules c) (sym is.0)
     ∙ next_line rules c line None at.none (effect_is rules c.state line within ∙ t.0) in
     (ap (λ x. x.refused) made ∙ ap (λ k. Some (k + 1)) at.number, t.1, ap (λ x. x.written) made)
-last_line (Err fault) rules bytes line cutter count stands stands' due due' at is turn = tt
+last_line (Err fault) rules bytes line cutter count stands stands' due due' at is round = tt
 
 pub last_long : {X : Type 0} (rules : Rules X) (bytes : List ℕ) (cutter : LineCutterView) (count : ℕ) (stands : X → Type 0) (due : List ℕ)
     → IsAt rules bytes cutter count stands → most cutter.limit < length (open_line bytes)

@@ -12,7 +12,7 @@ use Rattle.line_player.specs.declared.fault.Fault.{Fault}
 use Rattle.line_player.specs.declared.fault.Fault.TheVariants.{BadLine, Sink, NoMemory as NoMemoryFault}
 use Rattle.line_player.specs.LineSteps.{EndBreaks, EndPart, IsDueAtEnd, WritesAtEnd, WritesEnd, WritesPart, Written}
 
--- parts stand behind one another in the buffer
+-- parts follow one another in the buffer
 
 pub no_part : (left : List ℕ) (ends : List ℕ → Type 0) (due : List ℕ) → ends left → EndPart (Ok More) left ends due due
 no_part left ends due is = ([], left, refl, is, sym (append-nil due))

@@ -15,7 +15,7 @@ use Rattle.line_player.specs.Courses.{Course, course_so_far, gone_on, with_line}
 use Rattle.line_player.specs.LineSteps.{IsAt, RunsLines, StepDone, ended_course}
 use Rattle.line_player.proofs.Courses.{effect_long, effect_short, ended_next, ended_same, next_line, not_more, refused_on, so_far_long}
 
--- So far this part of the piece was used, and what its lines write stands behind what the buffer held.
+-- So far this part of the piece was used, and what its lines write follows what the buffer held.
 pub record UnderWay {X : Type 0} (rules : Rules X) (bytes piece rest : List ℕ) (cutter : LineCutterView) (count : ℕ) (stands : X → Type 0) (out out' : List ℕ) : Type 0 where
   pub used : List ℕ
   pub split : piece ≡ used ++ rest
@@ -39,11 +39,11 @@ pub none_long : (limit : Limit) → is_too_long limit [] ≡ false
 none_long (Text n) = not_more n 0 (omega arith)
 none_long (Whole n) = not_more n 0 (omega arith)
 
--- the rest behind the first n bytes, as a slice shows it
+-- the rest after the first n bytes, as a slice shows it
 rest_is : (n : ℕ) (rest : List ℕ) → rest ≡ take n rest ++ take (length rest - n) (drop n rest)
 rest_is n rest = sym (rw take_rest (take-append-drop n rest))
 
--- the bytes so far, behind n bytes of the rest
+-- the bytes so far, and n bytes of the rest after them
 whole_is : {X : Type 0} (rules : Rules X) (bytes piece rest : List ℕ) (cutter : LineCutterView) (count : ℕ) (stands : X → Type 0) (out out' : List ℕ) (n : ℕ)
     → (u : UnderWay rules bytes piece rest cutter count stands out out')
     → bytes ++ piece ≡ ((bytes ++ u.used) ++ take n rest) ++ drop n rest
@@ -59,13 +59,13 @@ pub line_made : {X : Type 0} (rules other : Rules X) (bytes piece rest text : Li
     → other ≡ rules → text ≡ text_in rules.limit (spelling line)
     → ((state : X) → stands state → StepDone (Ok became) other state text stands' out' out'') → became ≡ Made
     → UnderWay rules bytes piece (take (length rest - n) (drop n rest)) cutter' (count + 1) stands' out out''
-line_made rules other bytes piece rest text cutter cutter' count stands stands' out out' out'' line n became u steps stays same is turn made_so =
+line_made rules other bytes piece rest text cutter cutter' count stands stands' out out' out'' line n became u steps stays same is round made_so =
     let b : List ℕ = bytes ++ u.used in
     let step : IsStep cutter cutter' b rest (next.Line line n) = steps b u.at.cut in
     let g : GivesLine rules.limit b rest (spelling line) n = subst (λ l. GivesLine l b rest (spelling line) n) u.at.limit step.gives in
     let c : Course _ = ended_course rules b in
     let t : StepDone (Ok Made) rules c.state text stands' out' out'' =
-    subst (λ t. StepDone (Ok t) rules c.state text stands' out' out'') made_so (subst (λ r. StepDone (Ok became) r c.state text stands' out' out'') same (turn c.state u.at.made)) in
+    subst (λ t. StepDone (Ok t) rules c.state text stands' out' out'') made_so (subst (λ r. StepDone (Ok became) r c.state text stands' out' out'') same (round c.state u.at.made)) in
     let made : ended_course rules (b ++ take n rest) ≡ gone_on c (Some t.0) =
     ended_next rules b (b ++ take n rest) (spelling line) g.lines
     ∙ next_line rules c (text_in rules.limit (spelling line)) (Some t.0) u.at.none
@@ -114,13 +114,13 @@ pub line_refused : {X : Type 0} (rules other : Rules X) (bytes piece rest text :
     → other ≡ rules → text ≡ text_in rules.limit (spelling line)
     → ((state : X) → stands state → StepDone (Ok became) other state text stands' out' out'') → became ≡ Refused
     → RunsLines (Ok Refused) rules bytes piece cutter' count stands' out out''
-line_refused rules other bytes piece rest text cutter cutter' count stands stands' out out' out'' line n became u steps same is turn refused_so =
+line_refused rules other bytes piece rest text cutter cutter' count stands stands' out out' out'' line n became u steps same is round refused_so =
     let b : List ℕ = bytes ++ u.used in
     let step : IsStep cutter cutter' b rest (next.Line line n) = steps b u.at.cut in
     let g : GivesLine rules.limit b rest (spelling line) n = subst (λ l. GivesLine l b rest (spelling line) n) u.at.limit step.gives in
     let c : Course _ = ended_course rules b in
     let t : StepDone (Ok Refused) rules c.state text stands' out' out'' =
-    subst (λ t. StepDone (Ok t) rules c.state text stands' out' out'') refused_so (subst (λ r. StepDone (Ok became) r c.state text stands' out' out'') same (turn c.state u.at.made)) in
+    subst (λ t. StepDone (Ok t) rules c.state text stands' out' out'') refused_so (subst (λ r. StepDone (Ok became) r c.state text stands' out' out'') same (round c.state u.at.made)) in
     refused_there rules bytes piece rest cutter count stands stands' out out' out'' cutter' u
     (ap (course_so_far rules) (whole_is rules bytes piece rest cutter count stands out out' n u)
     ∙ ended_refused rules b (b ++ take n rest) (drop n rest) (spelling line) g.lines u.at.none

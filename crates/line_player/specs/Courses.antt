@@ -5,7 +5,7 @@ use Rattle.line_cut.specs.Limits.{is_too_long}
 use Rattle.line_cut.specs.Lines.{last_lines, lines, open_line}
 use Rattle.line_player.specs.Rules.{Effect, Rules, effect_within, text_in}
 
--- a run so far: the state and what was written behind the lines before the first refused one, their number, and the number of that one, counted from 1
+-- a run so far: the state and the output after the lines before the first refused one, their number, and the number of that one, counted from 1
 pub record Course (X : Type 0) : Type 0 where
   pub state : X
   pub written : List ℕ
@@ -19,7 +19,7 @@ abbrev pub gone_on : {X : Type 0} → Course X → Option (Effect X) → Course 
 gone_on course (Some effect) = record { state = effect.state; written = course.written ++ effect.written; count = course.count + 1; refused = None }
 gone_on course None = record { state = course.state; written = course.written; count = course.count; refused = Some (course.count + 1) }
 
--- the lines behind a refused one do nothing
+-- the lines after a refused one do nothing
 abbrev pub unless : {X : Type 0} → Option ℕ → Course X → Course X → Course X
 unless None next course = next
 unless (Some line) next course = course
@@ -52,7 +52,7 @@ ended_texts rules bytes = map (text_in rules.limit) (lines bytes)
 abbrev pub long_texts : {X : Type 0} → Rules X → List ℕ → List (List ℕ)
 long_texts rules line = cond (is_too_long rules.limit line) (text_in rules.limit line ∷ []) []
 
--- the lines that are known of bytes behind which more may come
+-- the lines that are known of bytes to which more may be added
 abbrev pub course_so_far : {X : Type 0} → Rules X → List ℕ → Course X
 course_so_far rules bytes = course_of rules (ended_texts rules bytes ++ long_texts rules (open_line bytes))
 

@@ -1,4 +1,4 @@
--- What a player's line does, and what the parts of a play say: where it stands, what is due, and what was written.
+-- What a player's line does, and what the parts of a play say: how far it is, what is due, and what was written.
 use Rattle.std.specs.Prelude.{◌≡◌, ◌≢◌, ◌⊎◌, ℕ, ◌+◌, false, List, ◌++◌, Option, Some, None, Result, Ok, Err}
 use Rattle.gps_fixed.specs.declared.no_memory.NoMemory.{NoMemory}
 use Rattle.gps_outside.specs.Counts.{Rose}
@@ -15,14 +15,14 @@ use Rattle.line_player.specs.declared.fault.Fault.TheVariants.{BadLine, Sink, No
 use Rattle.line_player.specs.Rules.{Effect, Rules}
 use Rattle.line_player.specs.Courses.{Course, course_of, course_so_far, ended_texts, whole_course}
 
--- The line did what it does, and what it writes stands behind what the buffer held; or it was refused, and nothing was done. After want of
--- memory nothing is known.
+-- The line did what it does, and what it writes follows what the buffer held; or it was refused, and nothing was done. Out of
+-- memory, nothing is known.
 abbrev pub StepDone : {X : Type 0} → Result LineStep NoMemory → Rules X → X → List ℕ → (X → Type 0) → List ℕ → List ℕ → Type 0
 StepDone (Ok Made) rules state text stands out out' = (e : Effect _) × (rules.effect state text ≡ Some e) × stands e.state × (out' ≡ out ++ e.written)
 StepDone (Ok Refused) rules state text stands out out' = (rules.effect state text ≡ None) × (out' ≡ out)
 StepDone (Err _) rules state text stands out out' = Unit {0}
 
--- The next part of what the end writes stands behind what the buffer held, and the rest is left; or all of it stands there. Out of memory,
+-- The next part of what the end writes follows what the buffer held, and the rest is left; or all of it is there. Out of memory,
 -- nothing is known.
 abbrev pub EndPart : Result EndStep NoMemory → List ℕ → (List ℕ → Type 0) → List ℕ → List ℕ → Type 0
 EndPart (Ok More) left ends out out' = (part : List ℕ) × (rest : List ℕ) × (left ≡ part ++ rest) × ends rest × (out' ≡ out ++ part)
@@ -33,7 +33,7 @@ EndPart (Err _) left ends out out' = Unit {0}
 abbrev pub ended_course : {X : Type 0} → Rules X → List ℕ → Course X
 ended_course rules bytes = course_of rules (ended_texts rules bytes)
 
--- A cutter, a number of lines and what a player stands for, behind these bytes, of which no line is refused.
+-- A cutter, a number of lines and what a player stands for, after these bytes, none of whose lines is refused.
 pub record IsAt {X : Type 0} (rules : Rules X) (bytes : List ℕ) (cutter : LineCutterView) (count : ℕ) (stands : X → Type 0) : Type 0 where
   pub limit : cutter.limit ≡ rules.limit
   pub cut : StandsFor cutter bytes
@@ -42,8 +42,8 @@ pub record IsAt {X : Type 0} (rules : Rules X) (bytes : List ℕ) (cutter : Line
   pub number : (ended_course rules bytes).count ≡ count
   pub made : stands (ended_course rules bytes).state
 
--- The lines that a piece makes known were run, and what they write stands behind what the buffer held; or one was refused, and what
--- those before it write stands there.
+-- The lines that a piece makes known were run, and what they write follows what the buffer held; or one was refused, and what
+-- those before it write is there.
 abbrev pub RunsLines : {X : Type 0} → Result LineStep NoMemory → Rules X → List ℕ → List ℕ → LineCutterView → ℕ → (X → Type 0) → List ℕ → List ℕ → Type 0
 RunsLines (Ok Made) rules bytes piece cutter count stands out out' =
     IsAt rules (bytes ++ piece) cutter count stands
@@ -53,7 +53,7 @@ RunsLines (Ok Refused) rules bytes piece cutter count stands out out' =
     × ((more : List ℕ) × (out' ≡ out ++ more) × ((course_so_far rules (bytes ++ piece)).written ≡ (ended_course rules bytes).written ++ more))
 RunsLines (Err _) rules bytes piece cutter count stands out out' = Unit {0}
 
--- The line that the end makes known was run, and what it writes stands behind what the buffer held; or it was refused; or there is none.
+-- The line that the end makes known was run, and what it writes follows what the buffer held; or it was refused; or there is none.
 abbrev pub RunsLast : {X : Type 0} → Result LineStep NoMemory → Rules X → List ℕ → ℕ → (X → Type 0) → List ℕ → List ℕ → Type 0
 RunsLast (Ok Made) rules bytes count stands out out' =
     ((whole_course rules bytes).refused ≡ None) × stands (whole_course rules bytes).state
@@ -62,7 +62,7 @@ RunsLast (Ok Refused) rules bytes count stands out out' =
     ((whole_course rules bytes).refused ≡ Some (count + 1)) × (out' ≡ out) × ((whole_course rules bytes).written ≡ (ended_course rules bytes).written)
 RunsLast (Err _) rules bytes count stands out out' = Unit {0}
 
--- the buffer holds what is due behind this, if a line is refused or none
+-- the buffer holds what is due after this, whether a line is refused or not
 abbrev pub IsDue : Result LineStep NoMemory → Option ℕ → List ℕ → List ℕ → List ℕ → Type 0
 IsDue (Ok Made) refused before due out = (refused ≡ None) × (due ≡ before ++ out)
 IsDue (Ok Refused) refused before due out = (refused ≢ None) × (due ≡ before ++ out)
@@ -74,13 +74,13 @@ IsDueAtEnd (Ok Made) refused before due ends out = (refused ≡ None) × ((left 
 IsDueAtEnd (Ok Refused) refused before due ends out = (refused ≢ None) × (due ≡ before ++ out)
 IsDueAtEnd (Err _) refused before due ends out = Unit {0}
 
--- what is due behind this, some bytes more
+-- what is due after this, some bytes more
 pub record Written (P : List ℕ → List ℕ → List ℕ → Type 0) (before due : List ℕ) (sink sink' : Option (List ℕ)) : Type 0 where
   pub more : List ℕ
   pub is : due ≡ before ++ more
   pub wrote : Goes (P more) sink sink'
 
--- what was due behind this was written, or a part of it, or nothing
+-- what was due after this was written, or a prefix of it, or nothing
 abbrev pub Writes : {X : Type 0} → Result X Fault → Option ℕ → List ℕ → List ℕ → Option (List ℕ) → Option (List ℕ) → Type 0
 Writes (Ok _) refused before due sink sink' = (refused ≡ None) × Written Appends before due sink sink'
 Writes (Err BadLine) refused before due sink sink' = (refused ≢ None) × Written Appends before due sink sink'
@@ -100,7 +100,7 @@ EndBreaks BadLine all sink sink' = ⊥
 EndBreaks Sink all sink sink' = Goes (AppendsPart all) sink sink'
 EndBreaks NoMemoryFault all sink sink' = Goes (AppendsPart all) sink sink'
 
--- The front of what is left at an end was written, and behind it this is due and the rest is left; or all was written.
+-- A prefix of what is left at an end was written, and after it this is due and the rest is left; or all was written.
 abbrev pub WritesPart : Result EndStep Fault → List ℕ → (List ℕ → Type 0) → List ℕ → Option (List ℕ) → Option (List ℕ) → Type 0
 WritesPart (Ok More) all ends due sink sink' =
     (front : List ℕ) × (rest : List ℕ) × (all ≡ front ++ (due ++ rest)) × ends rest × Goes (Appends front) sink sink'

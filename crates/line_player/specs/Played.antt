@@ -36,7 +36,7 @@ pub record HasPlayed {X : Type 0} (outcome : CommandOutcome) (rules : Rules X) (
   pub bytes : List ℕ
   pub ends : EndsPlay outcome rules most bytes source source' sink sink'
 
--- the source tells that no more is left than may be taken, and that no line of it is refused
+-- the source's contents are modelled, no more is left than may be read, and no line of it is refused
 abbrev pub IsWithin : {X : Type 0} → Rules X → ℕ → Option Stream → Type 0
 IsWithin rules most None = ⊥
 IsWithin rules most (Some stream) = (length stream.left ≤ most) × ((whole_course rules stream.left).refused ≡ None)

@@ -5,7 +5,7 @@ use Rattle.line_cut.specs.declared.limit.Limit.TheVariants.{Text, Whole}
 use Rattle.line_cut.specs.Limits.{most}
 use Rattle.line_cut.specs.Lines.{text_of}
 
--- what a line does: the state behind it, and what it writes
+-- what a line does: the state after it, and what it writes
 pub record Effect (X : Type 0) : Type 0 where
   pub state : X
   pub written : List ℕ

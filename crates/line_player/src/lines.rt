@@ -11,7 +11,7 @@ use gps_fixed::{Bytes, NoMemory, push_decimal};
 use line_cut::{Last, Limit, LineCutter, Next, WholeLine, text_of};
 use std::alloc::Global;
 
-/// At the end this many bytes are written before more are made due.
+/// At the end this many bytes are written before more are added.
 const ENOUGH_DUE: usize = 65_536;
 
 /// The lines of a text as its pieces come: how many were run, and what is due and not yet written.
@@ -23,7 +23,7 @@ pub(crate) struct Lines {
     due: Bytes,
 }
 
-/// What of a line is run.
+/// The part of a line that is run.
 fn text_in(limit: Limit, line: &[u8]) -> &[u8]
     ensures { result.now ≡ text_in limit line.now }
 {
@@ -33,7 +33,7 @@ fn text_in(limit: Limit, line: &[u8]) -> &[u8]
     }
 }
 
-/// Runs an ended line.
+/// Runs an ended line. It only forwards, for the prover: its contract says all of it by one relation.
 fn run_line<P: PlaysLines>(
     limit: Limit,
     player: &mut P,
@@ -41,7 +41,7 @@ fn run_line<P: PlaysLines>(
     due: &mut Bytes,
 ) -> Result<LineStep, NoMemory>
     requires known { (state : P.State) × P.stands player.old state }
-    ensures turns { (state : P.State) → P.stands player.old state
+    ensures rounds { (state : P.State) → P.stands player.old state
         → StepDone result (P.rules player.old) state (text_in limit (spelling line.entry)) (P.stands player.new) due.old due.new }
     ensures rules_stay { P.rules player.new ≡ P.rules player.old }
 {
@@ -89,11 +89,16 @@ impl Lines {
     /// Runs the lines that a piece makes known, up to the first refused one.
     #[tactic(auto)]
     fn run<P: PlaysLines>(&mut self, player: &mut P, piece: &[u8]) -> Result<LineStep, NoMemory>
+        // The count has room, and the player has run the lines that were read before.
         requires room { self.old.count + length piece.now < 2 ^ 64 - 1 }
         requires limit { self.old.limit ≡ (P.rules player.old).limit }
         requires known { (bytes : List ℕ) × IsAt (P.rules player.old) bytes self.old.cutter self.old.count (P.stands player.old) }
+
+        // What the piece adds.
         ensures runs { (bytes : List ℕ) → IsAt (P.rules player.old) bytes self.old.cutter self.old.count (P.stands player.old)
             → RunsLines result (P.rules player.old) bytes piece.now self.new.cutter self.new.count (P.stands player.new) self.old.due self.new.due }
+
+        // The count rises by at most the length of the piece. The limit and the rules stay.
         ensures number { self.new.count ≤ self.old.count + length piece.now }
         ensures limit_stays { self.new.limit ≡ self.old.limit }
         ensures rules_stay { P.rules player.new ≡ P.rules player.old }
@@ -116,10 +121,10 @@ impl Lines {
         }
     }
 
-    /// Makes it due that the next line is refused.
+    /// Adds the refusal of the next line to what is due.
     fn refuse(&mut self) -> Result<LineStep, NoMemory>
         requires room { self.old.count < 2 ^ 64 - 1 }
-        ensures refused { IfOk result (λ turn. turn ≡ LineStep.Refused) }
+        ensures refused { IfOk result (λ round. round ≡ LineStep.Refused) }
         ensures due { OnOk result (self.new.due ≡ self.old.due ++ bad_line (self.old.count + 1)) }
         ensures cutter { self.new.cutter ≡ self.old.cutter }
         ensures count { self.new.count ≡ self.old.count }
@@ -129,20 +134,25 @@ impl Lines {
         Ok(LineStep::Refused)
     }
 
-    /// Makes what a piece makes due.
+    /// Adds what the lines of a piece write to what is due.
     pub(crate) fn take<P: PlaysLines>(
         &mut self,
         player: &mut P,
         piece: &[u8],
     ) -> Result<LineStep, NoMemory>
+        // The count has room, and the player has run the lines that were read before.
         requires room { self.old.count + length piece.now < 2 ^ 64 - 1 }
         requires limit { self.old.limit ≡ (P.rules player.old).limit }
         requires known { (bytes : List ℕ) × IsAt (P.rules player.old) bytes self.old.cutter self.old.count (P.stands player.old) }
+
+        // What is due after the piece, and how far the player is.
         ensures due { (bytes : List ℕ) → IsAt (P.rules player.old) bytes self.old.cutter self.old.count (P.stands player.old)
             → IsDue result (course_so_far (P.rules player.old) (bytes ++ piece.now)).refused
             (written_so_far (P.rules player.old) bytes) (written_so_far (P.rules player.old) (bytes ++ piece.now)) self.new.due }
         ensures at { (bytes : List ℕ) → IsAt (P.rules player.old) bytes self.old.cutter self.old.count (P.stands player.old)
             → result ≡ Ok LineStep.Made → IsAt (P.rules player.old) (bytes ++ piece.now) self.new.cutter self.new.count (P.stands player.new) }
+
+        // The count rises by at most the length of the piece. The limit and the rules stay.
         ensures number { self.new.count ≤ self.old.count + length piece.now }
         ensures limit_stays { self.new.limit ≡ self.old.limit }
         ensures rules_stay { P.rules player.new ≡ P.rules player.old }
@@ -169,7 +179,7 @@ impl Lines {
         }
     }
 
-    /// Makes what the last line writes due, and ends the lines.
+    /// Adds what the last line writes to what is due, and ends the lines.
     pub(crate) fn finish<P: PlaysLines>(&mut self, player: &mut P) -> Result<LineStep, NoMemory>
         requires room { self.old.count < 2 ^ 64 - 1 }
         requires known { (bytes : List ℕ) × IsAt (P.rules player.old) bytes self.old.cutter self.old.count (P.stands player.old) }
@@ -187,7 +197,7 @@ impl Lines {
         }
     }
 
-    /// Makes what the end writes due, up to its last byte or to enough for one write.
+    /// Adds what the end writes to what is due, up to its last byte or to enough for one write.
     pub(crate) fn add_end<P: PlaysLines>(&mut self, player: &mut P) -> Result<EndStep, NoMemory>
         requires known { (left : List ℕ) × P.ends player.old left }
         ensures part { (left : List ℕ) → P.ends player.old left → EndPart result left (P.ends player.new) self.old.due self.new.due }

@@ -1,15 +1,15 @@
 use gps_fixed::{Bytes, NoMemory};
 
-/// What became of a line.
+/// What running a line did.
 #[derive(Clone, Copy, Debug, PartialEq, Eq)]
 pub enum LineStep {
-    /// It did what it does.
+    /// The line was run.
     Made,
-    /// It may not stand there, and nothing was done.
+    /// It is not allowed there, and nothing was done.
     Refused,
 }
 
-/// How far what the end of the lines writes has come.
+/// How much of what the end of the lines writes was added.
 #[derive(Clone, Copy, Debug, PartialEq, Eq)]
 pub enum EndStep {
     /// A part of it was added, and more may follow.
@@ -18,7 +18,7 @@ pub enum EndStep {
     Last,
 }
 
-/// What runs the lines of a text, one after the other.
+/// Runs the lines of a text, one after the other.
 pub trait PlaysLines: Drop {
     ghost use Rattle.std.specs.Prelude.{◌≡◌, ◌<◌, ℕ, List, Ok, OnOk};
     ghost use Rattle.line_player.specs.declared.plays_lines.EndStep.{EndStep};
@@ -28,17 +28,17 @@ pub trait PlaysLines: Drop {
     /// What the lines so far have made.
     ghost State: { Type 0 };
 
-    /// What a line does, and the end; no line changes that.
+    /// What a line does, and what the end does; no line changes that.
     ghost rules: { Self → Rules State };
 
-    /// That the lines so far have made this state.
+    /// Whether the lines so far have made this state.
     ghost stands: { Self → State → Type 0 };
 
     /// Runs a line, without its line end if the limit does not count that, and adds what it writes to `out`. After
     /// `NoMemory` the player is of no use, and whatever was added is no part of the output.
     fn line(&mut self, text: &[u8], out: &mut Bytes) -> Result<LineStep, NoMemory>
         requires known { (state : State) × stands self.old state }
-        ensures turns { (state : State) → stands self.old state
+        ensures rounds { (state : State) → stands self.old state
             → StepDone result (rules self.old) state text.now (stands self.new) out.old out.new }
         ensures rules_stay { rules self.new ≡ rules self.old };
 

@@ -1,4 +1,4 @@
--- A first field of two or three digits, from the first bytes of a text, and what stands behind it.
+-- A first field of two or three digits, from the first bytes of a text, and what follows it.
 use Rattle.std.proofs.Common.{◌≡◌, ℕ, ◌+◌, ◌*◌, ◌-◌, ◌≤◌, refl, sym, ap, ◌∙◌, subst, arith, Bool, true, false, ◌||◌, List, [], ◌∷◌, length, length-drop, take, take_all, drop, Some, pos, slice_index, eqb-true}
 use Rattle.std.specs.Char.{is_ascii_digit}
 use Rattle.gps_fixed.specs.Scaled.{scaled}
@@ -17,11 +17,11 @@ digit_plain c digit = go (is_comma c) refl
     go true is = absurd (cc (subst (λ d. is_ascii_digit d ≡ true) (eqb-true c 44 is) digit))
     go false is = refl
 
--- the slice behind the first bytes is all that stands there
+-- the slice after the first bytes is all that is there
 pub all_behind : (n : ℕ) (text : List ℕ) → take (length text - n) (drop n text) ≡ drop n text
 all_behind n text = take_all (length text - n) (drop n text) (let long = length-drop n text in omega arith)
 
--- the number of a field, and what stands behind it
+-- the number of a field, and what follows it
 pub record IsNext (text rest : List ℕ) (n : ℕ) : Type 0 where
   pub number : scaled 0 (field text) ≡ Some (pos n)
   pub behind_is : rest ≡ behind text

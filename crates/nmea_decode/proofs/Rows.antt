@@ -4,7 +4,7 @@ use Rattle.std.proofs.lemmas.List.{take-append-drop, take_all}
 use Rattle.std.proofs.lemmas.List.Sums.{sum_by-append}
 use Rattle.nmea_decode.specs.Fields.{is_comma}
 
--- n commas stand before a place
+-- n commas come before a place
 pub record Counted (text : List ℕ) (at commas : ℕ) : Type 0 where
   pub within : at ≤ length text
   pub few : commas ≤ at

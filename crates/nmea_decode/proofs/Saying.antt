@@ -6,7 +6,7 @@ use Rattle.gps_report.specs.Note.{empty_note}
 use Rattle.nmea_decode.specs.Kinds.{is_address}
 use Rattle.nmea_decode.specs.Notes.{plainly, said_at, said_by}
 
--- the slice behind the talker is all that stands there
+-- the slice after the talker is all that is there
 rest_is : (address : List ℕ) → take (length address - 2) (drop 2 address) ≡ drop 2 address
 rest_is address = take_all (length address - 2) (drop 2 address) (let long = length-drop 2 address in omega arith)
 

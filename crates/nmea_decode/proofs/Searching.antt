@@ -1,4 +1,4 @@
--- Where a byte stands first, from what a search for it answers.
+-- The first place of a byte, from what a search for it answers.
 use Rattle.std.proofs.Common.{◌≡◌, ℕ, refl, arith, Bool, true, false, List, length, Some, None, slice_index}
 use Rattle.std.specs.List.{position_or_len}
 use Rattle.std.proofs.lemmas.List.Sums.{position_or_len_is}

@@ -9,7 +9,7 @@ abbrev pub Begins : List ℕ → Type 0
 Begins [] = Unit {0}
 Begins (c ∷ text) = is_comma c ≡ true
 
--- what stands from the first comma on
+-- what is there from the first comma on
 abbrev pub rest : List ℕ → List ℕ
 rest text = drop (position_or_len is_comma text) text
 
@@ -172,7 +172,7 @@ only_split address fields plain fields_plain = (
       ∙ walk_joined fields fields_plain,
 )
 
--- ---- behind the first n
+-- ---- after the first n
 drop_walk : (k n : ℕ) (text : List ℕ) → drop k (walk n text) ≡ walk (n - k) (skipped k text)
 drop_walk zero n text =
     let all : n - 0 ≡ n = omega arith in
@@ -198,7 +198,7 @@ fields_behind body k =
     ∙ sym (drop_walk k (field_count (rest body)) (rest body))
     ∙ ap (drop k) (sym (list_is (rest body)))
 
--- ---- behind the last
+-- ---- after the last
 none_left : (k : ℕ) (text : List ℕ) → Begins text → field_count text ≤ k → skipped k text ≡ []
 unfolding behind
 none_left zero [] begins few = refl

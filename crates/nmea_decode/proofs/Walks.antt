@@ -47,7 +47,7 @@ unfolding satellites_in
 groups_all n groups system signal rest sats all done so =
     sym (append-nil sats) ∙ ap (λ j. sats ++ satellites_in j system signal rest) (sym done) ∙ so.read
 
--- the ids that were read and those that are still to be read are all, and what stands behind them is the rest
+-- the ids that were read and those that are still to be read are all, and what follows them is the rest
 pub record IdsSoFar (left : ℕ) (rest ids all behind_all : List ℕ) : Type 0 where
   pub read : ids ++ ids_in left rest ≡ all
   pub skips : skipped left rest ≡ behind_all

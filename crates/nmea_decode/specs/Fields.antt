@@ -1,4 +1,4 @@
--- The fields of a sentence: what stands between the commas of its body. The first is the address, and the others are numbered from 1.
+-- The fields of a sentence: what is between the commas of its body. The first is the address, and the others are numbered from 1.
 -- A text of fields is empty, or begins with the comma before its first field. NMEA 0183.
 use Rattle.std.specs.Prelude.{ℕ, zero, suc, ◌-◌, ◌==◌, Bool, true, List, [], ◌∷◌, drop, count_by, map}
 use Rattle.std.specs.List.{before_first, flat_map, list_any, position_or_len, range_with_len}
@@ -11,17 +11,17 @@ unfoldable pub field : List ℕ → List ℕ
 field [] = []
 field (comma ∷ text) = before_first is_comma text
 
--- the fields behind the first
+-- the fields after the first
 unfoldable pub behind : List ℕ → List ℕ
 behind [] = []
 behind (comma ∷ text) = drop (position_or_len is_comma text) text
 
--- behind a field stands nothing, or the comma before the next
+-- a field is followed by nothing, or by the comma before the next
 abbrev pub is_field_end : List ℕ → Bool
 is_field_end [] = true
 is_field_end (c ∷ text) = is_comma c
 
--- the fields behind the first k
+-- the fields after the first k
 abbrev pub skipped : ℕ → List ℕ → List ℕ
 skipped zero text = text
 skipped (suc k) text = skipped k (behind text)

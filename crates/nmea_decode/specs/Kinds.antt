@@ -8,7 +8,7 @@ use Rattle.gps_report.specs.Systems.{gps, galileo, beidou, glonass}
 abbrev pub is_upper : ℕ → Bool
 is_upper c = nat_le 65 c && nat_le c 90
 
--- five upper-case letters, the first of which is no P, with which a maker's own address begins
+-- five upper-case letters that do not begin with P, as a maker's own address does
 abbrev pub is_address : List ℕ → Bool
 is_address text = (length text == 5) && list_all is_upper text && not (slice_index text 0 == 80)
 

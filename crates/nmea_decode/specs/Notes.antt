@@ -132,7 +132,7 @@ gsa text = record (empty_note Gsa) {
   system = stated_system (field_at 18 text);
 }
 
--- the groups stand behind three fields: the messages, this message, and the satellites in view
+-- the groups follow three fields: the messages, this message, and the satellites in view
 unfoldable pub gsv : List ℕ → List ℕ → Note
 gsv talker text = record (empty_note Gsv) { sats = satellites_of (talker_system talker) (skipped 3 text) }
 

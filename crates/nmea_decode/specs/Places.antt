@@ -9,7 +9,7 @@ use Rattle.gps_report.specs.declared.note.Position.{Position}
 abbrev pub nanodegrees : ℕ → ℕ
 nanodegrees n = (n / 10 ^ 9) * 10 ^ 9 + (10 * (n % 10 ^ 9) + 3) / 6
 
--- n is the degrees and then the minutes in units of 1e-7, of which a degree has 60 * 10^7; at most the given number of degrees
+-- n is the degrees and then the minutes in units of 1e-7, with 60 * 10^7 of them to a degree; at most the given number of degrees
 abbrev pub angle : ℕ → ℕ → Option ℕ
 angle most n = if nat_lt (n % 10 ^ 9) (60 * 10 ^ 7) && nat_le (nanodegrees n) (most * 10 ^ 9) then Some (nanodegrees n) else None
 

@@ -78,7 +78,7 @@ abbrev pub later_by : ℕ → ℤ → ℤ
 later_by days (pos day) = pos (day + days)
 later_by days (negsuc day) = negsuc day
 
--- the day of a date that stands beside a time
+-- the day of a date that comes with a time
 abbrev pub day_with : Option ℕ → Option ℤ → Option ℤ
 day_with time day = option_map (later_by (days_passed time)) day
 

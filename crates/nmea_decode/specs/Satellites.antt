@@ -1,4 +1,4 @@
--- The satellites of a GSV, in groups of four fields, and the ids of a GSA. NMEA 0183; that one hexadecimal digit behind the groups is a
+-- The satellites of a GSV, in groups of four fields, and the ids of a GSA. NMEA 0183; that one hexadecimal digit after the groups is a
 -- signal id, and that the id that was sent is the number within the talker's system, are this project's own.
 use Rattle.std.specs.Prelude.{ℕ, zero, suc, ◌/◌, ◌%◌, ◌*◌, ◌==◌, List, [], ◌∷◌, ◌++◌, Option, None, false, if◌then◌else◌}
 use Rattle.std.specs.Option.{option_map, option_to_list}
@@ -30,7 +30,7 @@ abbrev pub signal_in : List ℕ → Option ℕ
 signal_in (c ∷ []) = hex_value c
 signal_in _ = None
 
--- it is there if exactly one field is left behind the whole groups
+-- it is there if exactly one field is left after the whole groups
 unfoldable pub signal_of : List ℕ → Option ℕ
 signal_of text = if field_count text % 4 == 1 then signal_in (field (skipped (field_count text / 4 * 4) text)) else None
 

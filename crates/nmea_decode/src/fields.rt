@@ -49,7 +49,7 @@ fn place_in_short_row(row: u8x8) -> usize
     }
 }
 
-/// Where the first comma of a text stands. Mostly only its last bytes come here: out of line, so that the walks over fields stay short.
+/// Where the first comma of a text is. Mostly only its last bytes come here: out of line, so that the walks over fields stay short.
 #[inline(never)]
 fn place_by_bytes(text: &[u8]) -> usize
     ensures place { result ≡ position_or_len is_comma text.now }
@@ -99,7 +99,7 @@ pub(crate) fn split_address(body: &[u8]) -> (&[u8], &[u8])
     body.split_at(comma_place(body))
 }
 
-/// The first field, and the text of those behind it.
+/// The first field, and the text of those after it.
 #[tactic(auto, unfolding(crate::specs::Fields::field, crate::specs::Fields::behind))]
 pub(crate) fn next(text: &[u8]) -> (&[u8], &[u8])
     ensures field { result.0.now ≡ field text.now }
@@ -111,7 +111,7 @@ pub(crate) fn next(text: &[u8]) -> (&[u8], &[u8])
     }
 }
 
-/// The text of the fields behind the first `count`.
+/// The text of the fields after the first `count`.
 #[tactic(auto, using(crate::proofs::Walks::skipped_turn, crate::proofs::Walks::skipped_all))]
 pub(crate) fn skip(text: &[u8], count: usize) -> &[u8]
     ensures { result.now ≡ skipped count text.now }

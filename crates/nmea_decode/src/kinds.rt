@@ -10,7 +10,7 @@ fn is_upper_case(text: &[u8]) -> bool
     text.iter().all(|c| b'A' <= *c && *c <= b'Z')
 }
 
-/// Whether sentences with this address are read: five upper-case letters, the first of which is no `P` of a maker's own.
+/// Whether sentences with this address are read: five upper-case letters that do not begin with the `P` of a maker's own.
 pub(crate) fn is_read(address: &[u8]) -> bool
     ensures { result ≡ is_address address.now }
 {

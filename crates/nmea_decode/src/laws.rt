@@ -5,7 +5,7 @@ ghost use Rattle.std.specs.List.{list_any};
 ghost use Rattle.nmea_decode.specs.Fields.{address_of, field_at, field_count, fields_of, has_comma, joined, list_of_fields, skipped};
 
 /// A body is its address and then its fields, a comma before each. None of them holds a comma, and no others that hold none are joined to
-/// the same body. To skip leaves the fields behind the first n, and a field beyond the last is empty.
+/// the same body. To skip leaves the fields after the first n, and a field beyond the last is empty.
 pub fn bodies_are_split_at_commas()
     ensures joined { (body : List ℕ) → body ≡ address_of body ++ joined (list_of_fields (fields_of body)) }
     ensures address { (body : List ℕ) → has_comma (address_of body) ≡ false }

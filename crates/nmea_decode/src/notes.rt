@@ -17,7 +17,7 @@ use gps_report::{Ids, Note, NoteKind, Tag};
 use memchr::memchr;
 use std::alloc::Global;
 
-/// Gives a note a kind and a time, which is its tag.
+/// Sets a note's kind, and its time, which is its tag.
 #[tactic(auto, unfolding(crate::specs::Notes::timed))]
 fn begin(note: &mut Note, kind: NoteKind, time: Option<u64>)
     requires { note.old ≡ empty_note NoteKind.Other }
@@ -273,7 +273,7 @@ fn star_place(text: &[u8]) -> usize
     }
 }
 
-/// What stands between the `$` and the `*` of a sentence.
+/// What is between the `$` and the `*` of a sentence.
 fn body(sentence: &[u8]) -> &[u8]
     ensures { result.now ≡ body_of sentence.now }
 {
@@ -288,8 +288,8 @@ fn body(sentence: &[u8]) -> &[u8]
 
 /// What a sentence says. A sentence of a kind that is not read gives a note of kind `Other` with nothing in it.
 ///
-/// The `$`, the checksum and the line's end are the framer's to look at: of bytes that are no sentence, what stands up to the first `*` is
-/// read in the same way. The tables of fields are those of NMEA 0183. Every note keeps the ranges that the grouping into epochs asks for.
+/// The `$`, the checksum and the line's end are checked by the framer: of bytes that are no sentence, what comes up to the first `*` is
+/// read in the same way. The tables of fields are those of NMEA 0183. Every note is within the ranges that the grouping into epochs requires.
 ///
 /// Takes memory only for a GSA with at least one readable id and for a GSV with at least one whole group of four fields: `NoMemory` comes
 /// if there is none for these, and for no other sentence.

@@ -90,7 +90,7 @@ fn is_field_end(text: &[u8]) -> bool
     }
 }
 
-/// A first field of two or three digits, as most fields of a satellite are, and the text behind it. No comma is looked for.
+/// A first field of two or three digits, as most fields of a satellite are, and the text after it. No comma is looked for.
 #[inline(always)]
 fn few_digits_next(text: &[u8]) -> Option<(u32, &[u8])>
     ensures number { IfSome result (λ r. scaled 0 (field text.now) ≡ Some (pos r.0)) }
@@ -110,7 +110,7 @@ fn few_digits_next(text: &[u8]) -> Option<(u32, &[u8])>
     }
 }
 
-/// Any first field, and the text behind it.
+/// Any first field, and the text after it.
 #[inline(never)]
 fn integer_next(text: &[u8]) -> (Option<i64>, &[u8])
     ensures number { result.0 ≡ scaled 0 (field text.now) }
@@ -120,7 +120,7 @@ fn integer_next(text: &[u8]) -> (Option<i64>, &[u8])
     (integer(first), rest)
 }
 
-/// The first field as a number without its decimals, and the text behind it.
+/// The first field as a number without its decimals, and the text after it.
 #[inline(always)]
 fn next_integer(text: &[u8]) -> (Option<i64>, &[u8])
     ensures number { result.0 ≡ scaled 0 (field text.now) }
@@ -155,7 +155,7 @@ fn above_nought(n: Option<u32>) -> Option<u32>
     }
 }
 
-/// The id of a satellite, 1..=999, and the text behind its field.
+/// The id of a satellite, 1..=999, and the text after its field.
 #[inline(always)]
 #[tactic(auto, unfolding(crate::specs::Readings::id_of))]
 pub(crate) fn next_id(text: &[u8]) -> (Option<u32>, &[u8])
@@ -176,7 +176,7 @@ fn within_right_angle(n: Option<i64>) -> Option<i32>
     }
 }
 
-/// Degrees above the horizon, -90..=90, and the text behind their field.
+/// Degrees above the horizon, -90..=90, and the text after their field.
 #[inline(always)]
 #[tactic(auto, unfolding(crate::specs::Readings::elevation_of))]
 pub(crate) fn next_elevation(text: &[u8]) -> (Option<i32>, &[u8])
@@ -187,7 +187,7 @@ pub(crate) fn next_elevation(text: &[u8]) -> (Option<i32>, &[u8])
     (within_right_angle(n), rest)
 }
 
-/// Degrees from true north, 0..=360, and the text behind their field.
+/// Degrees from true north, 0..=360, and the text after their field.
 #[inline(always)]
 pub(crate) fn next_azimuth(text: &[u8]) -> (Option<u32>, &[u8])
     ensures azimuth { result.0 ≡ azimuth_of (field text.now) }
@@ -196,7 +196,7 @@ pub(crate) fn next_azimuth(text: &[u8]) -> (Option<u32>, &[u8])
     next_whole(text, 360)
 }
 
-/// Signal strength in dBHz, 0..=99, and the text behind its field.
+/// Signal strength in dBHz, 0..=99, and the text after its field.
 #[inline(always)]
 pub(crate) fn next_strength(text: &[u8]) -> (Option<u32>, &[u8])
     ensures strength { result.0 ≡ strength_of (field text.now) }
@@ -303,7 +303,7 @@ pub(crate) fn tod(time: Option<u64>) -> Option<u64>
     }
 }
 
-/// The day of a date that stands beside a time.
+/// The day of a date that comes with a time.
 pub(crate) fn day_beside(time: Option<u64>, day: Option<i32>) -> Option<i32>
     requires time { IfSome time (λ t. t < 2 * day_ns) }
     requires day { IfSome day IsOfCentury }

@@ -13,7 +13,7 @@ use std::alloc::Global;
 /// How many ids a GSA has room for.
 const MOST_IDS: usize = 12;
 
-/// The satellite of a group of four fields, if its id is readable, and the text behind the group.
+/// The satellite of a group of four fields, if its id is readable, and the text after the group.
 #[tactic(auto, unfolding(crate::specs::Satellites::satellite_of))]
 fn satellite(text: &[u8], system: Option<u8>, signal: Option<u8>) -> (Option<Satellite>, &[u8])
     ensures satellite { result.0 ≡ satellite_of system signal text.now }
@@ -106,7 +106,7 @@ fn signal(text: &[u8], fields: usize) -> Option<u8>
     }
 }
 
-/// The satellites of a GSV, from the fields behind its first three.
+/// The satellites of a GSV, from the fields after its first three.
 #[tactic(auto, unfolding(crate::specs::Satellites::satellites_of))]
 pub(crate) fn satellites(alloc: Global, text: &[u8], system: Option<u8>) -> Result<Sats, NoMemory>
     ensures satellites { IfOk result (λ sats. sats ≡ satellites_of system text.now) }
@@ -117,7 +117,7 @@ pub(crate) fn satellites(alloc: Global, text: &[u8], system: Option<u8>) -> Resu
     Ok(Sats::from_vec(sats))
 }
 
-/// Adds an id at the end. The first one takes the room of all that a sentence may have.
+/// Adds an id at the end. The first one allocates room for all that a sentence may have.
 fn push_id(ids: &mut Vec<u32>, id: Option<u32>) -> Result<(), NoMemory>
     ensures ids { OnOk result (ids.new.items ≡ ids.old.items ++ option_to_list id) }
     ensures memory { OnErr result (0 < length (option_to_list id)) }
@@ -131,7 +131,7 @@ fn push_id(ids: &mut Vec<u32>, id: Option<u32>) -> Result<(), NoMemory>
     Ok(())
 }
 
-/// Adds the readable ids of the first fields, and gives the text behind these.
+/// Adds the readable ids of the first fields, and returns the text after these.
 pub(crate) fn push_ids<'a>(
     ids: &mut Vec<u32>,
     text: &'a [u8],

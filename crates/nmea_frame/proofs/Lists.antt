@@ -14,7 +14,7 @@ both true true e = (refl, refl)
 both true false e = cc
 both false b e = cc
 
--- two ways to cut one list: the first cut lies before the second, or behind it
+-- two ways to cut one list: the first cut is before the second, or after it
 pub aligned : (x y a b : List ℕ) → x ++ y ≡ a ++ b →
     ((s : List ℕ) × ((a ≡ x ++ s) × (y ≡ s ++ b))) ⊎ ((s : List ℕ) × ((x ≡ a ++ s) × (b ≡ s ++ y)))
 aligned [] y a b e = inl (a, (refl, e))

@@ -46,7 +46,7 @@ pending_short b e =
 shorter : (b c : List ℕ) → IsProperPrefix (b ++ c) → IsProperPrefix b
 shorter b c h = (c ++ h.0, (omega (arith, h.1.0, length-append c (h.0)), (h.1.1.0, (h.1.1.1.0, sym (append_assoc b c (h.0)) ∙ h.1.1.1.1))))
 
--- a sentence that ends behind the list makes the list a beginning
+-- a sentence that ends after the list makes the list a beginning
 begun : (b c : List ℕ) (n : ℕ) → length b < n → (n ≤ length (b ++ c)) × IsSentence (take n (b ++ c)) → IsProperPrefix b
 begun b c n behind h =
     let k : ℕ = n - length b in

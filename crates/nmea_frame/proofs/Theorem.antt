@@ -13,7 +13,7 @@ use Rattle.nmea_frame.specs.declared.sentence.Shape.TheVariants.{Whole, Pending,
 use Rattle.nmea_frame.proofs.Lists.{chosen, both, aligned, prefix_len-body, prefix_len-all, list_all-prefix}
 use Rattle.nmea_frame.proofs.Tails.{tail_of, Fits, Ends, Begins, tail_whole, tail_found, tail_lacks, tail_pending}
 
--- the bytes behind `$` are a body, its `*`, and a tail
+-- the bytes after `$` are a body, its `*`, and a tail
 record Split (text : List ℕ) : Type 0 where
   body : List ℕ
   tail : List ℕ
@@ -23,7 +23,7 @@ record Split (text : List ℕ) : Type 0 where
   short : length body ≤ 123
   then : after_dollar text ≡ after_star body tail
 
--- the bytes behind `$` are all of a body
+-- the bytes after `$` are all of a body
 record Plain (text : List ℕ) : Type 0 where
   printable : list_all is_body_byte text ≡ true
   short : length text ≤ 123

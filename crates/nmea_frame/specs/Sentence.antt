@@ -67,6 +67,6 @@ IsSentence bytes = (p : Parts) × (AreParts p × IsRight p × (bytes ≡ spellin
 abbrev pub IsProperPrefix : List ℕ → Type 0
 IsProperPrefix bytes = (more : List ℕ) × ((0 < length more) × IsShape (bytes ++ more))
 
--- the body of a sentence: what stands between its `$` and its `*`
+-- the body of a sentence: what is between its `$` and its `*`
 abbrev pub body_of : List ℕ → List ℕ
 body_of sentence = before_first (λ c. c == 42) (drop 1 sentence)

@@ -6,7 +6,7 @@ ghost use Rattle.nmea_frame.specs.Scan.{shape_of};
 
 use crate::sentence::Shape;
 
-/// A sentence stays one under more bytes, and a head that is none stays none. A sentence lies inside the
+/// A sentence stays one under more bytes, and a head that is none stays none. A sentence is within the
 /// list and has 6 to 128 bytes, and a list that is pending has fewer than 128.
 pub fn shapes_are_stable()
     ensures whole_stays { (bytes more : List ℕ) (n : ℕ) → shape_of bytes ≡ Shape.Whole n → shape_of (bytes ++ more) ≡ Shape.Whole n }
@@ -16,7 +16,7 @@ pub fn shapes_are_stable()
     ensures pending_short { (bytes : List ℕ) → shape_of bytes ≡ Shape.Pending → length bytes < 128 }
 {}
 
-/// The body of a sentence is what stands between its `$` and its first `*`.
+/// The body of a sentence is what is between its `$` and its first `*`.
 pub fn body_is_read()
     ensures { (p : Parts) → AreParts p → body_of (spelling p) ≡ p.body }
 {}

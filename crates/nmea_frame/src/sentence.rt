@@ -135,7 +135,7 @@ fn read_sum(high: u8, low: u8) -> Option<u8>
     }
 }
 
-/// The sum that stands behind the `*`: the bytes of the body, joined by exclusive or.
+/// The sum that follows the `*`: the bytes of the body, joined by exclusive or.
 pub fn checksum(body: &[u8]) -> u8
     ensures { result ≡ sum_of body.now }
 {

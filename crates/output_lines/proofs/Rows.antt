@@ -25,7 +25,7 @@ unmarked q f row lanes long bytes lanes_are agree none =
     (λ k within. agree_below_at (λ x. not (top 7 (f x))) q 256 (get_or row k 0) agree (Each1-get_or (λ x. x < 256) row k 0 within bytes)) in
     sym same ∙ (leading_from_mask_l (λ x. top 7 (f x)) row (sym mask ∙ none) ∙ long)
 
--- a row that passes is behind what was passed
+-- a row that passes is after what was passed
 pub row_passed : (p : ℕ → Bool) (text : List ℕ) (at : ℕ) → at + 16 ≤ length text → prefix_len p (chunk at 16 text) ≡ 16
     → prefix_len p text ≡ at + prefix_len p (drop at text) → prefix_len p text ≡ (at + 16) + prefix_len p (drop (at + 16) text)
 row_passed p text at room whole so_far =

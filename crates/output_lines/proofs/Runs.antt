@@ -5,7 +5,7 @@ use Rattle.std.specs.List.{prefix_len, flat_map}
 use Rattle.gps_fixed.specs.Hexadecimal.{lower_digit}
 use Rattle.output_lines.specs.Items.{escaped, escaped_text, is_plain}
 
--- the first byte of a text, and the run behind it
+-- the first byte of a text, and the run after it
 by_first : (b : Bool) (x n : ℕ) (xs : List ℕ) → is_plain x ≡ b → flat_map escaped xs ≡ take n xs ++ flat_map escaped (drop n xs)
     → flat_map escaped (x ∷ xs) ≡ take (cond b (1 + n) 0) (x ∷ xs) ++ flat_map escaped (drop (cond b (1 + n) 0) (x ∷ xs))
 by_first true x n xs plain rest =
@@ -20,7 +20,7 @@ run_first : (text : List ℕ) → flat_map escaped text ≡ take (prefix_len is_
 run_first [] = refl
 run_first (x ∷ xs) = by_first (is_plain x) x (prefix_len is_plain xs) xs refl (run_first xs)
 
--- what is added while a run and what is behind it are still to be added
+-- what is added while a run and what follows it are still to be added
 begun : (out text run behind : List ℕ) (n : ℕ) → n ≡ prefix_len is_plain text → run ≡ take n text → behind ≡ drop n text
     → (out ++ run) ++ flat_map escaped behind ≡ out ++ flat_map escaped text
 begun out text run behind n is front back =
@@ -30,7 +30,7 @@ begun out text run behind n is front back =
     ∙ ap (λ k. out ++ (take k text ++ flat_map escaped (drop k text))) is
     ∙ ap (λ l. out ++ l) (sym (run_first text))
 
--- a byte behind a run is added
+-- a byte after a run is added
 by_byte : (first behind : List ℕ) → 1 ≤ length behind
     → (first ++ escaped (slice_index behind 0)) ++ flat_map escaped (take (length behind - 1) (drop 1 behind)) ≡ first ++ flat_map escaped behind
 by_byte first [] some = absurd (omega (arith, some))
@@ -42,7 +42,7 @@ none_behind : (first behind : List ℕ) → length behind < 1 → first ≡ firs
 none_behind first [] none = sym (append-nil first)
 none_behind first (byte ∷ rest) none = absurd (omega (arith, none))
 
--- a run and the byte behind it are added
+-- a run and the byte after it are added
 pub run_passed : (out text run behind first added whole : List ℕ) (n : ℕ) → n ≡ prefix_len is_plain text → run ≡ take n text → behind ≡ drop n text
     → 1 ≤ length behind → first ≡ out ++ run → added ≡ first ++ escaped (slice_index behind 0) → out ++ escaped_text text ≡ whole
     → added ++ escaped_text (take (length behind - 1) (drop 1 behind)) ≡ whole

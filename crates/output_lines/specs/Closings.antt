@@ -21,7 +21,7 @@ cause_word TooManyRequests = codes "toomany"
 cause_word Overrun = codes "overrun"
 cause_word NoMemory = codes "nomemory"
 
--- sS drained WHY N, if N items were put
+-- sS drained WHY N, if N items were pushed
 unfoldable pub closing_line : ℕ → SessionEnd → Close → ℕ → List ℕ
 closing_line session end why items =
     numbered (codes "s") session ++ codes " " ++ end_word end ++ codes " " ++ cause_word why ++ numbered (codes " ") items ++ line_end

@@ -8,7 +8,7 @@ use Rattle.output_lines.specs.Words.{line_end, numbered}
 abbrev pub is_plain : ℕ → Bool
 is_plain byte = nat_le 32 byte && nat_le byte 126 && not (byte == 92)
 
--- a plain byte stands for itself, and each other as `\x` and two digits
+-- a plain byte is written as itself, and each other as `\x` and two digits
 abbrev pub escaped : ℕ → List ℕ
 escaped byte = if is_plain byte then byte ∷ [] else 92 ∷ 120 ∷ lower_digit (byte / 16) ∷ lower_digit (byte % 16) ∷ []
 

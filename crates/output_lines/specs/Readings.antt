@@ -17,7 +17,7 @@ stamp_text at = decimal (unsigned_abs at.sec) ++ codes "." ++ digits_in 9 at.nse
 unfoldable pub sample_text : Sample → List ℕ
 sample_text sample = stamp_text sample.reference ++ codes " " ++ stamp_text sample.host ++ codes " " ++ signed_decimal sample.precision
 
--- two numbers behind a word
+-- two numbers after a word
 unfoldable pub two_numbers : List ℕ → ℕ → ℕ → List ℕ
 two_numbers word first second = numbered word first ++ numbered (codes " ") second
 

@@ -5,6 +5,6 @@ use Rattle.std.specs.Fmt.{decimal}
 abbrev pub line_end : List ℕ
 line_end = 10 ∷ []
 
--- a word, and a number right behind it
+-- a word, directly followed by a number
 unfoldable pub numbered : List ℕ → ℕ → List ℕ
 numbered word n = word ++ decimal n

@@ -37,7 +37,7 @@ fn cause_word(why: Close) -> &'static [u8]
     }
 }
 
-/// Adds the closing line of a session to which this many items were put.
+/// Adds the closing line of a session to which this many items were pushed.
 #[tactic(auto, unfolding(crate::specs::Closings::closing_line))]
 pub fn push_closing_line(
     out: &mut Bytes,

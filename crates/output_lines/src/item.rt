@@ -79,7 +79,7 @@ fn push_escaped_text(out: &mut Bytes, bytes: &[u8]) -> Result<(), NoMemory>
     }
 }
 
-/// Adds the line of an item that was sent to this session: each byte outside printable ASCII, and the backslash, stands as
+/// Adds the line of an item that was sent to this session: each byte outside printable ASCII, and the backslash, is written as
 /// `\x` and two hexadecimal digits.
 #[tactic(auto, unfolding(crate::specs::Items::item_line))]
 pub fn push_item_line(out: &mut Bytes, session: u32, item: &[u8]) -> Result<(), NoMemory>

@@ -3,7 +3,7 @@ ghost use Rattle.output_lines.specs.Words.{numbered};
 
 use gps_fixed::{Bytes, NoMemory, push_decimal};
 
-/// A word, and a number right behind it.
+/// A word, directly followed by a number.
 #[tactic(auto, unfolding(crate::specs::Words::numbered))]
 pub(crate) fn push_numbered(out: &mut Bytes, word: &[u8], n: u64) -> Result<(), NoMemory>
     ensures { OnOk result (out.new ≡ out.old ++ numbered word.now n) }

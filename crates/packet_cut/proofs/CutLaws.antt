@@ -16,7 +16,7 @@ use Rattle.packet_cut.specs.Standing.{StandsFor, Gains, Shift, applied, IsCut, I
 use Rattle.packet_cut.proofs.StreamLaws.{bytes_of-append, length-bytes_of, bytes_of-stamped, length-stamped, packets_gain, packets_few, rest_gain, rest_of_short}
 use Rattle.packet_cut.proofs.Steps.{pending_parts, pending_rest}
 
--- a list of which one was told that its rest is the kept bytes gains what the cut says
+-- a list whose rest is known to be the kept bytes gains what the cut says
 pub cut_gains : (kept : List Stamped) (at : Moment) (piece : List ℕ) (packets : List PacketRecord) (shift : Shift) → IsCut kept at piece packets shift →
     (stream : List Stamped) → StandsFor kept stream → Gains stream (stamped at piece) packets × StandsFor (applied shift kept) (stream ++ stamped at piece)
 cut_gains kept at piece packets shift cut stream stands = (

@@ -36,7 +36,7 @@ take_taken zero bytes = refl
 take_taken (suc n) [] = refl
 take_taken (suc n) (b ∷ bytes) = ap (λ t. b ∷ t) (take_taken n bytes)
 
--- one packet, behind what was before
+-- one packet, after what was before
 found_here : (done : List Stamped) (byte : Stamped) (stream : List Stamped) (kind : PacketKind) (n : ℕ) →
     packet (part_at head_of_stream byte stream (length done) kind n)
     ≡ found_packet (done ++ byte ∷ stream) (found (part_at head_of byte.1 (bytes_of stream) (length done) kind n))

@@ -164,7 +164,7 @@ found_end bytes done place start up next =
     junk_to bytes place start (next.before) ∙ pending_parts head_of start (drop start bytes) (next.head) in
     sym (append-nil done) ∙ ap (λ t. done ++ map found t) (sym none) ∙ up.all
 
--- the same for a stream of which the list is the bytes: its packets before a place are cut
+-- the same for a stream whose bytes are the list: its packets before a place are cut
 pub record CutUpTo (stream : List Stamped) (done : List PacketRecord) (place : ℕ) : Type 0 where
   pub inside : place ≤ length (bytes_of stream)
   pub all : done ++ map packet (parts_from head_of_stream place 0 (drop place stream)) ≡ packets_of stream
@@ -190,7 +190,7 @@ stream_to stream place start before =
       junk_rest head_of_stream stream count place (stream_junk stream place start before) ∙ ap (λ p. rest_from head_of_stream 0 (drop p stream)) whole,
     )
 
--- a packet at a place of a stream, and what is behind it
+-- a packet at a place of a stream, and what follows it
 record StreamPacket (stream : List Stamped) (start len : ℕ) (kind : PacketKind) (at : Moment) : Type 0 where
   parts : map packet (parts_from head_of_stream start 0 (drop start stream))
       ≡ record { kind = kind; at = at; bytes = take len (drop start (bytes_of stream)) } ∷ map packet (parts_from head_of_stream (start + len) 0 (drop (start + len) stream))

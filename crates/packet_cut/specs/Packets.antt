@@ -1,6 +1,6 @@
 -- The packets of a list of bytes, and its rest, which is pending. At the head of the list: a packet is the next one,
--- and the rule goes on behind it; the beginning of a packet is the rest; else the first byte is junk, and the rule
--- goes on behind it. (This project's own: gpsd does not look again into the bytes of a bad frame.)
+-- and the rule goes on after it; the beginning of a packet is the rest; else the first byte is junk, and the rule
+-- goes on after it. (This project's own: gpsd does not look again into the bytes of a bad frame.)
 use Rattle.std.specs.Prelude.{ℕ, zero, suc, ◌+◌, ◌-◌, List, [], ◌∷◌, map, length, take, drop, Option, Some, None, slice_get, pos}
 use Rattle.gps_fixed.specs.Moment.{Moment}
 use Rattle.gps_report.specs.declared.packet.PacketKind.{PacketKind}
@@ -44,6 +44,10 @@ rest_from head skip [] = []
 rest_from head (suc skip) (item ∷ items) = rest_from head skip items
 rest_from head zero (item ∷ items) =
     by_head (λ kind n. rest_from head (n - 1) items) (item ∷ items) (rest_from head 0 items) (head (item ∷ items))
+
+-- the most bytes that are ever pending: the longest frame but its last byte
+abbrev pub most_pending : ℕ
+most_pending = 2055
 
 -- the places of the packets of a list of bytes
 abbrev pub found : Part ℕ → Found

@@ -2,7 +2,7 @@
 use Rattle.std.specs.Prelude.{◌≡◌, ℕ, ◌<◌, ◌≤◌, Bool, false, List, ◌++◌, length, drop, slice_get, if◌then◌else◌}
 use Rattle.gps_fixed.specs.Moment.{Moment}
 use Rattle.gps_report.specs.declared.packet.Packet.{Packet}
-use Rattle.packet_cut.specs.Packets.{Stamped, stamped, stamp_or, packets_of, rest_of}
+use Rattle.packet_cut.specs.Packets.{Stamped, stamped, stamp_or, packets_of, rest_of, most_pending}
 
 -- what is kept is the rest of the stream
 abbrev pub StandsFor : List Stamped → List Stamped → Type 0
@@ -12,7 +12,7 @@ StandsFor kept stream = kept ≡ rest_of stream
 abbrev pub Gains : List Stamped → List Stamped → List Packet → Type 0
 Gains stream more packets = packets_of (stream ++ more) ≡ packets_of stream ++ packets
 
--- how what is kept changes: the given number of bytes goes from its front, and more come at its end; or only the new ones stay
+-- how what is kept changes: the given number of bytes is removed at its front, and more are added at its end; or only the new ones stay
 pub record Shift : Type 0 where
   pub anew : Bool
   pub gone : ℕ
@@ -23,7 +23,7 @@ applied shift kept = if shift.anew then shift.more else drop shift.gone kept ++ 
 
 -- what is kept has room for the change, so that it takes no memory
 pub record Fits (shift : Shift) (kept : List Stamped) : Type 0 where
-  pub short : length (applied shift kept) ≤ 2055
+  pub short : length (applied shift kept) ≤ most_pending
   pub room : shift.anew ≡ false → 0 < length kept
 
 -- the packets that a piece completes after what was kept, and the change that leaves the new rest
@@ -36,7 +36,7 @@ pub record IsCut (kept : List Stamped) (at : Moment) (piece : List ℕ) (packets
 abbrev pub stamp_in : List Stamped → Moment → ℕ → Moment
 stamp_in kept at place = stamp_or (slice_get kept place) at
 
--- the stamped bytes that a list of bytes stands for, of which the first ones were kept
+-- the stamped bytes that a list of bytes stands for, if its first ones were kept with their stamps
 abbrev pub stream_of : List Stamped → Moment → List ℕ → List Stamped
 stream_of kept at bytes = kept ++ stamped at (drop (length kept) bytes)
 

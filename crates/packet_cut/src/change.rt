@@ -8,7 +8,7 @@ use std::marker::Model;
 /// The most bytes that are ever pending: the longest frame but its last byte.
 const MOST_KEPT: usize = 2055;
 
-/// How the bytes that a cutter keeps change: some go from their front and others come at their end, or all are new.
+/// How the bytes that a cutter keeps change: some are removed at the front and others added at the end, or all are new.
 #[derive(Drop)]
 pub struct CutterChange {
     pub(crate) anew: bool,
@@ -18,14 +18,15 @@ pub struct CutterChange {
 
 impl Model for CutterChange {
     ghost use Rattle.std.specs.Prelude.{◌≡◌, ◌≤◌, ◌<◌, true, length, vec_capacity};
+    ghost use Rattle.packet_cut.specs.Packets.{most_pending};
     ghost use Rattle.packet_cut.specs.Standing.{Shift};
 
     ghost Value = { Shift };
 
     ghost view = { λ c. record { anew = c.anew; gone = c.gone; more = c.more.items } };
 
-    // New bytes bring the room for all that may ever be pending.
-    ghost invariant = { λ c. c.anew ≡ true → 0 < length c.more.items → 2055 ≤ vec_capacity c.more };
+    // New bytes are given room for all that may ever be pending.
+    ghost invariant = { λ c. c.anew ≡ true → 0 < length c.more.items → most_pending ≤ vec_capacity c.more };
 }
 
 impl CutterChange {
@@ -42,7 +43,7 @@ impl CutterChange {
         })
     }
 
-    /// This number of bytes goes, and those of a piece come.
+    /// Removes this number of bytes, and adds those of a piece.
     pub(crate) fn onward(
         alloc: Global,
         gone: usize,
@@ -72,7 +73,7 @@ impl CutterChange {
     }
 }
 
-/// The same bytes once more, in a vector with at least as much room.
+/// A copy of the bytes, in a vector with at least as much room.
 fn copy_of(alloc: Global, bytes: &Vec<(Stamp, u8)>) -> Result<Vec<(Stamp, u8)>, NoMemory>
     ensures items { IfOk result (λ all. all.items ≡ bytes.now.items) }
     ensures room { IfOk result (λ all. vec_capacity bytes.now ≤ vec_capacity all) }
@@ -82,7 +83,7 @@ fn copy_of(alloc: Global, bytes: &Vec<(Stamp, u8)>) -> Result<Vec<(Stamp, u8)>, 
     Ok(all)
 }
 
-/// The bytes with their stamp, in a vector with at least so much room.
+/// The bytes with their stamp, in a vector with room for at least the given number.
 fn stamp_all(
     alloc: Global,
     room: usize,

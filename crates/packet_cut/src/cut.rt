@@ -69,7 +69,7 @@ fn stamp_at(kept: &[(Stamp, u8)], at: Stamp, place: usize) -> Stamp
     }
 }
 
-/// The cut of a piece behind what was kept.
+/// The cut of a piece that follows what was kept.
 pub(crate) fn cut_behind(
     alloc: Global,
     kept: &[(Stamp, u8)],

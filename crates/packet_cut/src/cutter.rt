@@ -1,5 +1,5 @@
 ghost use Rattle.std.specs.Prelude.{◌≡◌, ◌+◌, ◌*◌, ◌≤◌, ◌<◌, ◌++◌, [], List, IfOk, OnOk, OnErr, length, drop, map, vec_len, vec_capacity};
-ghost use Rattle.packet_cut.specs.Packets.{Stamped, stamped, packets_of, rest_of, placed_packet};
+ghost use Rattle.packet_cut.specs.Packets.{Stamped, most_pending, stamped, packets_of, rest_of, placed_packet};
 ghost use Rattle.packet_cut.specs.Standing.{StandsFor, Gains, IsCut, Fits, applied};
 
 use crate::change::CutterChange;
@@ -19,14 +19,14 @@ pub struct Cutter {
 
 impl Model for Cutter {
     ghost use Rattle.std.specs.Prelude.{◌≤◌, ◌<◌, List, length, vec_capacity};
-    ghost use Rattle.packet_cut.specs.Packets.{Stamped};
+    ghost use Rattle.packet_cut.specs.Packets.{Stamped, most_pending};
 
     ghost Value = { List Stamped };
 
     ghost view = { λ c. c.kept.items };
 
     // If bytes are kept, there is room for all that may ever be pending.
-    ghost invariant = { λ c. (length c.kept.items ≤ 2055) × (0 < length c.kept.items → 2055 ≤ vec_capacity c.kept) };
+    ghost invariant = { λ c. (length c.kept.items ≤ most_pending) × (0 < length c.kept.items → most_pending ≤ vec_capacity c.kept) };
 }
 
 impl Cutter {
@@ -49,7 +49,7 @@ impl Cutter {
             → Gains stream (stamped at piece.now) cut.packets.items
             × StandsFor (applied cut.change self.now) (stream ++ stamped at piece.now)) }
         ensures few { IfOk result (λ cut. 6 * length cut.packets.items ≤ length self.now + length piece.now) }
-        ensures most { length self.now ≤ 2055 }
+        ensures most { length self.now ≤ most_pending }
     {
         cut_behind(self.alloc, self.kept.as_slice(), at, piece)
     }
@@ -95,7 +95,7 @@ impl Cutter {
     pub fn kept(&self) -> u32
         ensures len { result ≡ length self.now }
         ensures rest { (stream : List Stamped) → StandsFor self.now stream → result ≡ length (rest_of stream) }
-        ensures most { result ≤ 2055 }
+        ensures most { result ≤ most_pending }
     {
         self.kept.len() as u32
     }

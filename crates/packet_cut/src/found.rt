@@ -10,7 +10,7 @@ use std::alloc::Global;
 #[derive(Clone, Copy, Debug, PartialEq, Eq)]
 pub struct Found {
     pub kind: PacketKind,
-    /// How many bytes stand before it.
+    /// How many bytes come before it.
     pub start: usize,
     /// How many bytes it has.
     pub len: usize,

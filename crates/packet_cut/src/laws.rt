@@ -8,12 +8,12 @@ ghost use Rattle.gps_report.specs.declared.packet.Packet.{Packet};
 ghost use Rattle.gps_report.specs.declared.packet.PacketKind.{PacketKind};
 ghost use Rattle.packet_cut.specs.declared.found.Found.{Found};
 ghost use Rattle.packet_cut.specs.Heads.{head_of};
-ghost use Rattle.packet_cut.specs.Packets.{Stamped, bytes_of, packets_of, rest_of, found_of, moved, rest_of_bytes, found_packet};
+ghost use Rattle.packet_cut.specs.Packets.{Stamped, bytes_of, packets_of, rest_of, found_of, most_pending, moved, rest_of_bytes, found_packet};
 
 use crate::Head;
 use gps_report::PacketKind;
 
-/// What a list of bytes begins with goes by the sets of sentences and frames, and of their beginnings.
+/// What a list of bytes begins with is decided by the sets of sentences and frames, and of their beginnings.
 pub fn heads_go_by_the_sets()
     ensures sentence { (bytes : List ℕ) (n : ℕ) → (head_of bytes ≡ Head.Packet PacketKind.Nmea n) ↔ ((n ≤ length bytes) × IsSentence (take n bytes)) }
     ensures frame { (bytes : List ℕ) → list_all is_byte bytes ≡ true → (n : ℕ)
@@ -32,7 +32,7 @@ pub fn packets_go_by_the_head()
         → (found_of (byte ∷ bytes) ≡ map (moved 1) (found_of bytes)) × (rest_of_bytes (byte ∷ bytes) ≡ rest_of_bytes bytes) }
 {}
 
-/// More bytes take no packet away and change none.
+/// More bytes remove no packet and change none.
 pub fn packets_are_a_beginning()
     ensures packets { (stream more : List Stamped) → (gained : List Packet) × (packets_of (stream ++ more) ≡ packets_of stream ++ gained) }
     ensures found { (bytes more : List ℕ) → (gained : List Found) × (found_of (bytes ++ more) ≡ found_of bytes ++ gained) }
@@ -54,8 +54,8 @@ pub fn packets_are_long()
 
 /// The rest has at most 2,055 bytes.
 pub fn rest_is_short()
-    ensures stream { (stream : List Stamped) → length (rest_of stream) ≤ 2055 }
-    ensures bytes { (bytes : List ℕ) → length (rest_of_bytes bytes) ≤ 2055 }
+    ensures stream { (stream : List Stamped) → length (rest_of stream) ≤ most_pending }
+    ensures bytes { (bytes : List ℕ) → length (rest_of_bytes bytes) ≤ most_pending }
 {}
 
 /// The packets of stamped bytes are those that are found in the bytes, and their rest is that of the bytes.

@@ -4,7 +4,7 @@ ghost use Rattle.packet_cut.specs.Next.{IsNext};
 
 use crate::{Found, Head, head_at};
 
-/// What a list of bytes holds from a place on, behind the junk there.
+/// What a list of bytes holds from a place on, after the junk there.
 pub(crate) enum Next {
     Packet(Found),
     /// No further packet: the rest begins at this place.
@@ -27,6 +27,7 @@ pub(crate) fn next_from(bytes: &[u8], place: usize) -> Next
     }
 }
 
+/// What the bytes are from a place on. It only forwards: the loop above then has no slice for the prover to follow.
 fn head_from(bytes: &[u8], place: usize) -> Head
     requires { place ≤ length bytes.now }
     ensures { result ≡ head_of (drop place bytes.now) }

@@ -11,7 +11,7 @@ use std::alloc::Global;
 pub struct Placed {
     pub kind: PacketKind,
     pub at: Stamp,
-    /// How many bytes stand before it.
+    /// How many bytes come before it.
     pub start: usize,
     /// How many bytes it has.
     pub len: usize,

@@ -87,7 +87,7 @@ read_nine text is nine =
     let t : (nat_eq (length text) 9 && list_all is_digit text) ≡ true = and_from _ _ (eq-eqb _ _ nine) is.digits in
     ap (λ b. cond b (Some (digits_value 10 text)) None) t
 
--- what stands behind the word
+-- what follows the word
 
 abbrev numbered : List ℕ → List ℕ → List ℕ → List ℕ
 numbered seconds nanoseconds sequence = seconds ++ 46 ∷ (nanoseconds ++ 35 ∷ sequence)

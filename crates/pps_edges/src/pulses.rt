@@ -6,7 +6,7 @@ use gps_fixed::Stamp;
 use gps_report::{Edge, EdgeKind, Pair};
 use std::marker::Model;
 
-/// What a device's pulse edges have come to: the last assert edge.
+/// What is kept of a device's pulse edges: the last assert edge.
 #[derive(Clone, Copy, Debug, PartialEq, Eq)]
 pub struct Pulses {
     last: Option<Edge>,
@@ -103,7 +103,7 @@ impl Pulses {
         Pulses { last: None }
     }
 
-    /// Takes the next edge of a device, with the device's last serial time before it, and gives the pulse: the whole second that
+    /// Takes the next edge of a device, with the device's last serial time before it, and returns the pulse: the whole second that
     /// the edge marks, beside the host's stamp of the edge.
     ///
     /// There is a pulse exactly if the edge is an assert edge, the last assert edge before it has the sequence number before its

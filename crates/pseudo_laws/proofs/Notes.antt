@@ -1,4 +1,4 @@
--- The notes of the sentences of fixes, one fix behind another: each fix is an epoch of its own.
+-- The notes of the sentences of fixes, one fix after another: each fix is an epoch of its own.
 use Rattle.std.proofs.Common.{◌≡◌, ◌≢◌, ℕ, ◌+◌, ◌-◌, ◌*◌, ◌%◌, ◌^◌, Bool, true, false, cond, not, ◌||◌, List, [], ◌∷◌, ◌++◌, map, refl, sym, ap, ◌∙◌, subst, append_assoc, append-nil, arith, Option, Some, None, IsSome}
 use Rattle.std.specs.Prelude.{nat_eq, nat_lt, reverse, unsigned_abs}
 use Rattle.std.specs.Option.{option_map, option_or}
@@ -38,7 +38,7 @@ fixes_of sent = map (λ (s : Sent). s.fix) sent
 abbrev epoch_of : Sent → List Dated
 epoch_of s = both_dated s.fix s.one s.two
 
--- the two notes behind others, the latest first
+-- the two notes after others, the latest first
 abbrev behind : Sent → List Heard → List Heard
 behind s past = heard (gga_note s.fix) s.two ∷ heard (rmc_note s.fix) s.one ∷ past
 
@@ -102,7 +102,7 @@ two_are s = refl
 goes_on : (s : Sent) → begins (second_of s) (first_of s ∷ []) ≡ false
 goes_on s = no_break s.fix s.one (day_known (heard (rmc_note s.fix) s.one ∷ [])) (tod_at s.fix.time) refl
 
--- the first note begins an epoch behind that of a fix of another time of day
+-- the first note begins an epoch after that of a fix of another time of day
 begins_new : (s e : Sent) → IsSome s.fix.time → IsSome e.fix.time → time_of_day s.fix ≢ time_of_day e.fix → begins (first_of s) (epoch_of e) ≡ true
 unfolding dated
 begins_new s e some there other =
@@ -130,7 +130,7 @@ one_more s past done some comes is =
     ∙ joined_on s done some comes
     ∙ ap (λ (l : List Dated). l ∷ map epoch_of done) (sym (two_are s))
 
--- what was sent, the latest first, behind what was sent before
+-- what was sent, the latest first, after what was sent before
 abbrev onto : List Sent → List Sent → List Sent
 onto [] done = done
 onto (s ∷ more) done = onto more (s ∷ done)
@@ -141,7 +141,7 @@ notes_onto s notes past =
     let b : Heard = heard (gga_note s.fix) s.two in
     ap (λ (l : List Heard). l ++ past) (reverse-append (a ∷ b ∷ []) notes) ∙ append_assoc (reverse notes) (b ∷ a ∷ []) past
 
--- each fix comes behind the one before it
+-- each fix comes after the one before it
 abbrev Follow : List Sent → List Sent → Type 0
 Follow done [] = Unit {0}
 Follow done (s ∷ more) = IsSome s.fix.time × Comes s done × Follow (s ∷ done) more

@@ -1,4 +1,5 @@
--- Fixes one after another: their sentences, what is asked of them, and their lines. The sentences are those of NMEA 0183, RMC and GGA; the rest is this project's own.
+-- Fixes one after another: their sentences, what is asked of them, and their lines. The sentences are those of NMEA 0183, RMC and GGA; the rest is
+-- this project's own.
 use Rattle.std.specs.Prelude.{◌≢◌, ℕ, ◌+◌, ◌*◌, ◌%◌, ◌^◌, List, [], ◌∷◌, Option, IsSome, option_map, unsigned_abs}
 use Rattle.std.specs.List.{AllByRecursion, flat_map}
 use Rattle.gps_fixed.specs.Moment.{Moment}

@@ -25,7 +25,7 @@ height_back h fits =
     let small : unsigned_abs h < 10 ^ 12 = grind (arith, nat_tests) in
     ap (scaled 3) (cond-true (is_height h) (scaled_text 3 h) [] fits) ∙ number_back 3 h (omega arith) (omega arith)
 
--- a number that is not below zero, at most so much
+-- a number from zero to a given greatest one
 up_to_is : (most n : ℕ) → n ≤ most → up_to most (pos n) ≡ Some n
 up_to_is most n h = cond-true (nat_le n most) (Some n) None (grind (arith, nat_tests))
 

@@ -29,7 +29,7 @@ digits_pass zero n = refl
 digits_pass (suc k) n =
     and_from (is_ascii_digit (48 + n / 10 ^ k % 10)) (list_all is_ascii_digit (digits_in k n)) (digit_is (n / 10 ^ k % 10) (mod-lt (n / 10 ^ k) (omega arith))) (digits_pass k n)
 
--- the digits behind a number
+-- the digits after a number
 pub digits_behind : (k a n : ℕ) → fold step a (digits_in k n) ≡ a * 10 ^ k + n % 10 ^ k
 digits_behind zero a n = omega (arith, pow-zero 10)
 digits_behind (suc k) a n =
@@ -70,7 +70,7 @@ decimal_is n h = decimal_by_steps IsDecimal one more n h
 pub first_all : (k : ℕ) (ds : List ℕ) → length ds ≡ k → first_digits k ds ≡ ds
 first_all k ds long = take-append-le k ds (replicate k 48) (omega arith) ∙ take_all k ds (omega arith)
 
--- digits behind digits
+-- digits after digits
 pub both_pass : (xs ys : List ℕ) → list_all is_ascii_digit xs ≡ true → list_all is_ascii_digit ys ≡ true → list_all is_ascii_digit (xs ++ ys) ≡ true
 both_pass xs ys a b = list_all-append is_ascii_digit xs ys ∙ and_from (list_all is_ascii_digit xs) (list_all is_ascii_digit ys) a b
 

@@ -15,7 +15,7 @@ use Rattle.pseudo_nmea.specs.Fitting.{is_coarse}
 use Rattle.pseudo_nmea.proofs.Back.{point_back}
 use Rattle.pseudo_nmea.proofs.Digits.{length_digits, digits_pass, digits_value, both_pass, number_behind}
 
--- the digits of the degrees and of the minutes stand before the point
+-- the digits of the degrees and of the minutes come before the point
 angle_text : (count : ℕ) (value : ℤ)
     → angle count value ≡ ((digits_in count (unsigned_abs value / 10 ^ 9) ++ digits_in 2 ((6 * (unsigned_abs value % 10 ^ 9) + 5) / 10 / 10 ^ 7)) ++ codes ".") ++ digits_in 7 ((6 * (unsigned_abs value % 10 ^ 9) + 5) / 10 % 10 ^ 7)
 unfolding angle minutes

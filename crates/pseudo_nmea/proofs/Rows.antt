@@ -12,12 +12,12 @@ use Rattle.pseudo_nmea.specs.Sentences.{field}
 abbrev pub is_plain : ℕ → Bool
 is_plain c = nat_le 45 c && nat_le c 90
 
--- fields, each behind its comma
+-- fields, each after its comma
 abbrev pub rows : List (List ℕ) → List ℕ
 rows [] = []
 rows (f ∷ fs) = 44 ∷ (f ++ rows fs)
 
--- the same, as they are added to what stands before
+-- the same, as they are added to what comes before
 abbrev pub lefts : List ℕ → List (List ℕ) → List ℕ
 lefts front [] = front
 lefts front (f ∷ fs) = lefts (front ++ field f) fs

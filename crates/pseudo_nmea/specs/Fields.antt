@@ -1,4 +1,5 @@
--- The fields of the two sentences of a fix, quantity by quantity. Source: NMEA 0183, RMC and GGA. How many decimals each has, the rounding, and that a quantity outside its range leaves its field empty, are this project's own.
+-- The fields of the two sentences of a fix, quantity by quantity. Source: NMEA 0183, RMC and GGA. How many decimals each has, the rounding, and that
+-- a quantity outside its range leaves its field empty, are this project's own.
 use Rattle.std.specs.Prelude.{ℕ, ◌+◌, ◌*◌, ◌/◌, ◌%◌, ◌^◌, ◌&&◌, nat_le, nat_lt, int_le, Bool, List, [], ◌++◌, Option, Some, None, ℤ, pos, negsuc, unsigned_abs, codes, if◌then◌else◌}
 use Rattle.gps_fixed.specs.Civil.{CivilDate, civil_of}
 use Rattle.gps_fixed.specs.Moment.{Moment}

@@ -5,11 +5,11 @@ use Rattle.gps_report.specs.declared.fix.Fix.{Fix}
 use Rattle.nmea_frame.specs.Sentence.{checksum}
 use Rattle.pseudo_nmea.specs.Fields.{clock, date, placed, latitude, north, longitude, east, knots, course, metres}
 
--- a field, behind its comma
+-- a field, after its comma
 unfoldable pub field : List ℕ → List ℕ
 field text = 44 ∷ text
 
--- what stands behind a body: `*`, the two digits of its checksum, CR and LF
+-- what follows a body: `*`, the two digits of its checksum, CR and LF
 abbrev pub ending : List ℕ → List ℕ
 ending body = 42 ∷ upper_digit (checksum body / 16) ∷ upper_digit (checksum body % 16) ∷ 13 ∷ 10 ∷ []
 
@@ -38,7 +38,8 @@ rmc_body fix =
     ++ field []
     ++ field (by_fix fix (codes "N") (codes "A"))
 
--- the address, time, latitude and longitude with their letters, quality, satellites and dilution, the height and the geoid's with their letters, and two fields of a correction
+-- the address, time, latitude and longitude with their letters, quality, satellites and dilution, the height and the geoid's with their letters, and
+-- two fields of a correction
 unfoldable pub gga_body : Fix → List ℕ
 gga_body fix =
     codes "GPGGA"
@@ -57,6 +58,6 @@ gga_body fix =
     ++ field []
     ++ field []
 
--- the two sentences, one behind the other
+-- the two sentences, one after the other
 unfoldable pub pseudo : Fix → List ℕ
 pseudo fix = sentence (rmc_body fix) ++ sentence (gga_body fix)

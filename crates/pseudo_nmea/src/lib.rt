@@ -1,4 +1,4 @@
-//! A fix as two sentences of NMEA 0183, one RMC and one GGA: so that programs which read sentences alone can follow a
+//! A fix as two sentences of NMEA 0183, one RMC and one GGA: so that programs that read only sentences can follow a
 //! receiver which speaks UBX.
 //!
 //! What the sentences cannot say, the height above the ellipsoid and the climb, is left out. That the decoders of this

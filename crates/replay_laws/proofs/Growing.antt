@@ -23,7 +23,7 @@ use Rattle.report_book.specs.Knowing.{known_in}
 use Rattle.replay_laws.proofs.Apart.{HasApartReply, IsApartAnswer, all_dropped, all_taken, answers_apart, opening_apart}
 use Rattle.replay_laws.proofs.Stamps.{all_both}
 
--- the stretches of a run stand in order, its end within the history, and no reply begins as a closing line does
+-- the stretches of a run are in order, its end within the history, and no reply begins as a closing line does
 pub record IsInside (h : List Report) (r : SessionRun) : Type 0 where
   pub order : AreInOrder (end_of r.closing h) r.stretches
   pub within : end_of r.closing h ≤ length h
@@ -69,7 +69,7 @@ grown lines end (stretch ∷ rest) h more order from to =
           ∙ items_grow lines stretch rest h front order;
     }
 
--- where a closing stands
+-- where a closing is
 abbrev EndsWithin : ℕ → ℕ → Option (ℕ × Close) → Type 0
 EndsWithin from to None = Unit {0}
 EndsWithin from to (Some closing) = (from ≤ closing.0) × (closing.0 ≤ to)

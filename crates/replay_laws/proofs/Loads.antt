@@ -162,7 +162,7 @@ abbrev pub pairs_in : List Reading → List Numbered
 pairs_in [] = []
 pairs_in (reading ∷ more) = taken_in reading ++ pairs_in more
 
--- the number that was taken last, behind these readings
+-- the number that was taken last, after these readings
 abbrev pub last_after : ℕ → List Reading → ℕ
 last_after last readings = last_from last (pairs_in readings)
 
@@ -321,7 +321,7 @@ pub rises_on : (low : ℕ) (xs ys : List Numbered) → Rises low xs → Rises (l
 rises_on low [] ys one other = other
 rises_on low (x ∷ xs) ys one other = (one.0, rises_on x.number xs ys one.1 other)
 
--- a step, and then what is behind it
+-- a step, and then what follows it
 joined : (first : ℕ) (samples : List Sample) (stores last : ℕ) (step : MonStep) (more : List Reading) (after : List ℕ) → StepTells first samples stores last step
     → LoadsTell first samples stores (last_after last (ended_by step)) more after → LoadsTell first samples stores last (ended_by step ++ more) after
 joined first samples stores last (Loaded word value) more after tells rest = rest

@@ -81,7 +81,7 @@ last_others state rows are =
 
 -- ---- the closing lines of a script
 
--- the same course, of which nothing is written
+-- the same course, with nothing written
 abbrev hushed : Course State → Course State
 hushed course = record course { written = [] }
 

@@ -123,7 +123,7 @@ unfolding epochs
 epochs_are [] all = tt
 epochs_are (d ∷ past) all = joined_are d (epochs past) all.0 (epochs_are past all.1)
 
--- a pair of clocks, neither of which is before 1970
+-- a pair of clocks that are not before 1970
 abbrev pub IsLatePair : Pair → Type 0
 IsLatePair pair = IsLate pair.reference × IsLate pair.host
 

@@ -92,7 +92,7 @@ begun_holds lasts state clients holds = record { before = λ e. absurd (cc); lat
 
 -- ---- what an event does
 
--- the numbers that the monitors took last, behind these readings
+-- the numbers that the monitors took last, after these readings
 abbrev pub lasts_after : Lasts → List EndedReading → Lasts
 lasts_after lasts readings = λ m. last_from (lasts m) (taken_by m readings)
 
@@ -208,12 +208,12 @@ takes_holds lasts s most state e is holds = by_client (slice_get state.clients s
 -- units
 made_within : (first stores : ℕ) (samples : List Sample) → makes_store first samples stores ≡ true → stores ≤ 13 * length samples → stores + 1 ≤ 13 * length samples
 unfolding makes_store
-made_within first stores samples made reach = by_turn (stores % 13 == 0) refl (nat_lt (published_after stores) (length samples)) refl made
+made_within first stores samples made reach = by_position (stores % 13 == 0) refl (nat_lt (published_after stores) (length samples)) refl made
   where
-    by_turn : (b : Bool) → (stores % 13 == 0) ≡ b → (c : Bool) → nat_lt (published_after stores) (length samples) ≡ c → (not b || (c && not (count_after first stores == 2_147_483_646))) ≡ true → stores + 1 ≤ 13 * length samples
-    by_turn false test c more e = let other = eqb-false (stores % 13) 0 test in omega arith
-    by_turn true test true more e = let turn = eqb-true (stores % 13) 0 test in let few : published_after stores < length samples = grind (arith, nat_tests) in omega arith
-    by_turn true test false more e = absurd (cc)
+    by_position : (b : Bool) → (stores % 13 == 0) ≡ b → (c : Bool) → nat_lt (published_after stores) (length samples) ≡ c → (not b || (c && not (count_after first stores == 2_147_483_646))) ≡ true → stores + 1 ≤ 13 * length samples
+    by_position false test c more e = let other = eqb-false (stores % 13) 0 test in omega arith
+    by_position true test true more e = let position = eqb-true (stores % 13) 0 test in let few : published_after stores < length samples = grind (arith, nat_tests) in omega arith
+    by_position true test false more e = absurd (cc)
 
 next_within : (first stores : ℕ) (samples : List Sample) → stores ≤ 13 * length samples → (stores ≤ stores_next first samples stores) × (stores_next first samples stores ≤ 13 * length samples)
 unfolding stores_next

@@ -1,4 +1,4 @@
--- The lines of the output of a script's run, told apart by how they begin; and the state at the end of the run. This project's own.
+-- The lines of the output of a script's run, distinguished by how they begin; and the state at the end of the run. This project's own.
 use Rattle.std.specs.Prelude.{◌≡◌, ◌≢◌, ℕ, ◌==◌, ◌&&◌, ◌||◌, Bool, not, nat_eq, List, [], ◌∷◌, ◌++◌, codes, map, take, Some, None, if◌then◌else◌}
 use Rattle.std.specs.List.{filter, starts_with}
 use Rattle.session_core.specs.declared.mark.Close.{Close}
@@ -21,7 +21,7 @@ use Rattle.gps_replay.specs.Run.{rules_of}
 abbrev pub begins_with : List ℕ → List ℕ → Bool
 begins_with first line = starts_with nat_eq line first
 
--- whether it begins with a word, a number right behind it, and a space
+-- whether it begins with a word, a number directly after it, and a space
 abbrev pub is_of : List ℕ → ℕ → List ℕ → Bool
 is_of word n line = begins_with (numbered word n ++ codes " ") line
 

@@ -1,4 +1,5 @@
--- The readings that end in the run of a script, line by line, and what monitors take by them. This project's own; a reading is that of the NTP reference clock driver 28, mode 1.
+-- The readings that end in the run of a script, line by line, and what monitors take by them. This project's own; a reading is that of the NTP
+-- reference clock driver 28, mode 1.
 use Rattle.std.specs.Prelude.{ℕ, zero, suc, Bool, List, [], ◌∷◌, ◌++◌, cond, map, nat_eq, slice_get, slice_index, Option, Some, None, option_map, unwrap_or}
 use Rattle.std.specs.List.{flat_map}
 use Rattle.shm_segment.specs.declared.view.Numbered.{Numbered}
@@ -27,7 +28,7 @@ abbrev pub ended_by : MonStep → List Reading
 ended_by (Loaded word value) = []
 ended_by (Done reading) = reading ∷ []
 
--- the readings that a number of loads of these words ends, if the running reading has got these values
+-- the readings that a number of loads of these words ends, if the running reading has loaded these values
 unfoldable pub readings_in : ℕ → List ℕ → List ℕ → List Reading
 readings_in zero words reading = []
 readings_in (suc loads) words reading = ended_by (step_of words reading) ++ readings_in loads words (reading_after words reading)

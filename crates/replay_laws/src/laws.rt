@@ -34,15 +34,15 @@ pub fn sessions_are_written_their_items()
         → session_lines s (run queue script) ≡ [] }
 {}
 
-/// The line of an item tells the item: two items of bytes that have the same line are the same.
+/// The line of an item determines the item: two items of bytes that have the same line are the same.
 pub fn item_lines_tell_their_items()
     ensures { (s : ℕ) (one other : List ℕ) → list_all is_byte one ≡ true → list_all is_byte other ≡ true
         → item_line s one ≡ item_line s other → one ≡ other }
 {}
 
 /// The lines of monitor M in the output of a script are those that begin with `mM `. They are the lines of the readings that it
-/// ended, in order (`readings`). Those that begin with `mM taken ` are the lines of the samples that it took (`taken`), of which
-/// `monitors_take_published_samples` speaks.
+/// ended, in order (`readings`). Those that begin with `mM taken ` are the lines of the samples that it took (`taken`); see
+/// `monitors_take_published_samples`.
 pub fn monitors_are_written_their_readings()
     ensures readings { (queue : ℕ) (script : List ℕ) (m : ℕ) → m < 2 ^ 64
         → monitor_lines m (run queue script) ≡ map line_of (filter (is_by m) (readings_of queue (line_cut script))) }

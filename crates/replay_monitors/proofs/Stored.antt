@@ -9,7 +9,7 @@ use mathlib.Core.Logic.{◌⊎◌}
 use Rattle.shm_segment.specs.declared.publisher.Phase.{Phase}
 use Rattle.shm_segment.specs.declared.publisher.Phase.TheVariants.{Idle, ToInvalid, ToOdd, ToBody, ToEven, ToValid}
 use Rattle.shm_segment.specs.declared.sample.Sample.{Sample}
-use Rattle.shm_segment.specs.Publishing.{Publishing, IsPlace, beginning, count_of, next_of, samples_next, stepped as after_store, turn_of, words_now}
+use Rattle.shm_segment.specs.Publishing.{Publishing, IsPlace, beginning, count_of, next_of, samples_next, stepped as after_store, position_of, words_now}
 use Rattle.shm_segment.specs.Words.{count_after, published_after, words_of}
 use Rattle.shm_segment.proofs.Running.{words_more}
 use Rattle.shm_segment.proofs.Words.{count_in}
@@ -27,7 +27,7 @@ is_new first u low new =
       first_is = new.0;
       stores_are = refl;
       samples_are = refl;
-      turn = refl;
+      position = refl;
       place = tt;
       begun = λ e. absurd (cc);
       count = refl;
@@ -43,7 +43,7 @@ module _ (first stores : ℕ) (samples : List Sample) (u v : UnitView) where
         first_is = ap (λ (p : Publishing). p.segment.first) same ∙ is.first_is;
         stores_are = ap (λ (p : Publishing). p.stores) same ∙ is.stores_are;
         samples_are = all;
-        turn = is.turn ∙ sym (ap (λ (p : Publishing). turn_of p.phase) same);
+        position = is.position ∙ sym (ap (λ (p : Publishing). position_of p.phase) same);
         place = subst (λ (p : Publishing). IsPlace p.phase) (sym same) is.place;
         begun = subst (λ (p : Publishing). p.phase ≢ ToInvalid) (sym same) is.begun;
         count = ap (λ (p : Publishing). length p.samples) same ∙ is.count;
@@ -58,17 +58,17 @@ pub turned_unit : (first stores : ℕ) (samples : List Sample) (u : UnitView) �
 turned_unit first stores samples u is = moved first stores samples u (turned u) samples refl is.samples_are is
 
 -- what follows a phase
-turn_next : (phase : Phase) (stores : ℕ) → phase ≢ Idle → IsPlace phase → stores % 13 ≡ turn_of phase → (stores + 1) % 13 ≡ turn_of (next_of phase)
-turn_next Idle stores busy place turn = absurd (busy refl)
-turn_next ToInvalid stores busy place turn = omega arith
-turn_next ToOdd stores busy place turn = omega arith
-turn_next (ToBody place) stores busy within turn = by_case (nat_lt place 8) refl
+position_next : (phase : Phase) (stores : ℕ) → phase ≢ Idle → IsPlace phase → stores % 13 ≡ position_of phase → (stores + 1) % 13 ≡ position_of (next_of phase)
+position_next Idle stores busy place position = absurd (busy refl)
+position_next ToInvalid stores busy place position = omega arith
+position_next ToOdd stores busy place position = omega arith
+position_next (ToBody place) stores busy within position = by_case (nat_lt place 8) refl
   where
-    by_case : (b : Bool) → nat_lt place 8 ≡ b → (stores + 1) % 13 ≡ turn_of (if b then ToBody (place + 1) else ToEven)
+    by_case : (b : Bool) → nat_lt place 8 ≡ b → (stores + 1) % 13 ≡ position_of (if b then ToBody (place + 1) else ToEven)
     by_case true test = let low : place < 8 = grind (arith, nat_tests) in omega arith
     by_case false test = let past : 8 ≤ place = grind (arith, nat_tests) in omega arith
-turn_next ToEven stores busy place turn = omega arith
-turn_next ToValid stores busy place turn = omega arith
+position_next ToEven stores busy place position = omega arith
+position_next ToValid stores busy place position = omega arith
 
 place_next : (phase : Phase) → IsPlace (next_of phase)
 place_next Idle = tt
@@ -94,20 +94,20 @@ begun_next (ToBody place) = by_case (nat_lt place 8)
 begun_next ToEven = λ e. absurd (cc)
 begun_next ToValid = λ e. absurd (cc)
 
-count_next : (phase : Phase) (samples : List Sample) (begun : Sample) (stores : ℕ) → phase ≢ Idle → IsPlace phase → stores % 13 ≡ turn_of phase → length samples ≡ (stores + 12) / 13
+count_next : (phase : Phase) (samples : List Sample) (begun : Sample) (stores : ℕ) → phase ≢ Idle → IsPlace phase → stores % 13 ≡ position_of phase → length samples ≡ (stores + 12) / 13
     → length (samples_next phase samples begun) ≡ (stores + 1 + 12) / 13
-count_next Idle samples begun stores busy place turn count = absurd (busy refl)
-count_next ToInvalid samples begun stores busy place turn count = let parts = length-append samples (begun ∷ []) in omega arith
-count_next ToOdd samples begun stores busy place turn count = omega arith
-count_next (ToBody p) samples begun stores busy place turn count = omega arith
-count_next ToEven samples begun stores busy place turn count = omega arith
-count_next ToValid samples begun stores busy place turn count = omega arith
+count_next Idle samples begun stores busy place position count = absurd (busy refl)
+count_next ToInvalid samples begun stores busy place position count = let parts = length-append samples (begun ∷ []) in omega arith
+count_next ToOdd samples begun stores busy place position count = omega arith
+count_next (ToBody p) samples begun stores busy place position count = omega arith
+count_next ToEven samples begun stores busy place position count = omega arith
+count_next ToValid samples begun stores busy place position count = omega arith
 
 -- a publisher that has begun a sample, or is storing one
 record IsBusy (first stores : ℕ) (p : Publishing) : Type 0 where
   first_is : p.segment.first ≡ first
   stores_are : p.stores ≡ stores
-  turn : stores % 13 ≡ turn_of p.phase
+  position : stores % 13 ≡ position_of p.phase
   place : IsPlace p.phase
   busy : p.phase ≢ Idle
   count : length p.samples ≡ (stores + 12) / 13
@@ -119,10 +119,10 @@ stored_next first stores samples p v is same all =
       first_is = ap (λ (q : Publishing). q.segment.first) same ∙ is.first_is;
       stores_are = ap (λ (q : Publishing). q.stores) same ∙ ap (λ (n : ℕ). n + 1) is.stores_are;
       samples_are = all;
-      turn = turn_next p.phase stores is.busy is.place is.turn ∙ sym (ap (λ (q : Publishing). turn_of q.phase) same);
+      position = position_next p.phase stores is.busy is.place is.position ∙ sym (ap (λ (q : Publishing). position_of q.phase) same);
       place = subst (λ (q : Publishing). IsPlace q.phase) (sym same) (place_next p.phase);
       begun = subst (λ (q : Publishing). q.phase ≢ ToInvalid) (sym same) (begun_next p.phase);
-      count = ap (λ (q : Publishing). length q.samples) same ∙ count_next p.phase p.samples p.begun stores is.busy is.place is.turn is.count;
+      count = ap (λ (q : Publishing). length q.samples) same ∙ count_next p.phase p.samples p.begun stores is.busy is.place is.position is.count;
       numbers = let numbers = is.numbers in omega arith;
     }
 
@@ -132,13 +132,13 @@ by_tests : (first stores : ℕ) (samples : List Sample) (whole more full : Bool)
 unfolding makes_store
 by_tests first stores samples whole more full a b c = λ i. not (a i) || (b i && not (c i))
 
-storing : (phase : Phase) (stores : ℕ) → phase ≢ Idle → phase ≢ ToInvalid → stores % 13 ≡ turn_of phase → 0 < stores % 13
-storing Idle stores busy begun turn = absurd (busy refl)
-storing ToInvalid stores busy begun turn = absurd (begun refl)
-storing ToOdd stores busy begun turn = omega arith
-storing (ToBody place) stores busy begun turn = omega arith
-storing ToEven stores busy begun turn = omega arith
-storing ToValid stores busy begun turn = omega arith
+storing : (phase : Phase) (stores : ℕ) → phase ≢ Idle → phase ≢ ToInvalid → stores % 13 ≡ position_of phase → 0 < stores % 13
+storing Idle stores busy begun position = absurd (busy refl)
+storing ToInvalid stores busy begun position = absurd (begun refl)
+storing ToOdd stores busy begun position = omega arith
+storing (ToBody place) stores busy begun position = omega arith
+storing ToEven stores busy begun position = omega arith
+storing ToValid stores busy begun position = omega arith
 
 -- a test of several, if one decides
 spoiled : (b : Bool) → (b && false) ≡ false
@@ -147,12 +147,12 @@ spoiled false = refl
 
 module _ (first stores : ℕ) (samples : List Sample) (u : UnitView) (is : IsStored first samples stores u) where
   -- between two samples
-  idle_turn : u.publisher.phase ≡ Idle → stores % 13 ≡ 0
-  idle_turn idle = is.turn ∙ ap turn_of idle
+  idle_position : u.publisher.phase ≡ Idle → stores % 13 ≡ 0
+  idle_position idle = is.position ∙ ap position_of idle
 
   count_whole : stores % 13 ≡ 0 → count_after first stores ≡ 2 * (first + published_after stores)
-  count_whole turn =
-      count_in first stores 0 (published_after stores) turn refl ∙ (let z : 2 * (first + published_after stores) + 0 ≡ 2 * (first + published_after stores) = omega arith in z)
+  count_whole position =
+      count_in first stores 0 (published_after stores) position refl ∙ (let z : 2 * (first + published_after stores) + 0 ≡ 2 * (first + published_after stores) = omega arith in z)
 
   count_same : count_of u.publisher ≡ count_after first stores
   count_same = λ i. count_after (is.first_is i) (is.stores_are i)
@@ -180,12 +180,12 @@ module _ (first stores : ℕ) (samples : List Sample) (u : UnitView) (is : IsSto
 
   makes_while_storing : u.publisher.phase ≢ Idle → makes_store first samples stores ≡ true
   makes_while_storing busy =
-      let some = storing u.publisher.phase stores busy is.begun is.turn in
+      let some = storing u.publisher.phase stores busy is.begun is.position in
       by_tests first stores samples false _ _ (ne_eqb (stores % 13) 0 (λ none. omega arith)) refl refl
 
   makes_by_beginning : u.publisher.phase ≡ Idle → count_of u.publisher ≢ 2_147_483_646 → 0 < length u.waiting → makes_store first samples stores ≡ true
   makes_by_beginning idle free some =
-      let turn = idle_turn idle in
+      let position = idle_position idle in
       let long = all_long in
       let whole : (stores % 13 == 0) ≡ true = grind (arith, nat_tests) in
       let more : nat_lt (published_after stores) (length samples) ≡ true = grind (arith, nat_tests) in
@@ -193,7 +193,7 @@ module _ (first stores : ℕ) (samples : List Sample) (u : UnitView) (is : IsSto
 
   makes_none_empty : u.publisher.phase ≡ Idle → u.waiting ≡ [] → makes_store first samples stores ≡ false
   makes_none_empty idle none =
-      let turn = idle_turn idle in
+      let position = idle_position idle in
       let long = all_long in
       let waiting = ap (λ (l : List Sample). length l) none in
       let whole : (stores % 13 == 0) ≡ true = grind (arith, nat_tests) in
@@ -202,7 +202,7 @@ module _ (first stores : ℕ) (samples : List Sample) (u : UnitView) (is : IsSto
 
   makes_none_spent : u.publisher.phase ≡ Idle → count_of u.publisher ≡ 2_147_483_646 → makes_store first samples stores ≡ false
   makes_none_spent idle spent =
-      let turn = idle_turn idle in
+      let position = idle_position idle in
       let count = sym count_same ∙ spent in
       let whole : (stores % 13 == 0) ≡ true = grind (arith, nat_tests) in
       let full : (count_after first stores == 2_147_483_646) ≡ true = grind (arith, nat_tests) in
@@ -210,17 +210,17 @@ module _ (first stores : ℕ) (samples : List Sample) (u : UnitView) (is : IsSto
 
   while_storing : u.publisher.phase ≢ Idle → IsBusy first stores u.publisher
   while_storing busy =
-      let some = storing u.publisher.phase stores busy is.begun is.turn in
+      let some = storing u.publisher.phase stores busy is.begun is.position in
       let numbers = is.numbers in
-      record { first_is = is.first_is; stores_are = is.stores_are; turn = is.turn; place = is.place; busy = busy; count = is.count; numbers = omega arith }
+      record { first_is = is.first_is; stores_are = is.stores_are; position = is.position; place = is.place; busy = busy; count = is.count; numbers = omega arith }
 
   by_beginning : (sample : Sample) → u.publisher.phase ≡ Idle → count_of u.publisher ≢ 2_147_483_646 → IsBusy first stores (beginning u.publisher sample)
   by_beginning sample idle free =
-      let turn = idle_turn idle in
-      let count = count_whole turn in
+      let position = idle_position idle in
+      let count = count_whole position in
       let numbers = is.numbers in
       let short : first + (stores + 12) / 13 ≢ 1_073_741_823 = λ full. free (count_same ∙ omega arith) in
-      record { first_is = is.first_is; stores_are = is.stores_are; turn = turn; place = tt; busy = λ e. absurd (cc); count = is.count; numbers = omega arith }
+      record { first_is = is.first_is; stores_are = is.stores_are; position = position; place = tt; busy = λ e. absurd (cc); count = is.count; numbers = omega arith }
 
   -- the next step
   next_is : (b : Bool) (v : UnitView) → makes_store first samples stores ≡ b → IsStored first samples (if b then stores + 1 else stores) v → IsStored first samples (stores_next first samples stores) v
@@ -278,7 +278,7 @@ module _ (first stores : ℕ) (samples : List Sample) (u : UnitView) (is : IsSto
   pub at_end : makes_store first samples stores ≡ false → stores ≡ stores_at_end first samples
   at_end made =
       let none = none_made (stores % 13 == 0) (nat_lt (published_after stores) (length samples)) (count_after first stores == 2_147_483_646) refl refl refl made in
-      let turn = none.0 in
+      let position = none.0 in
       let long = all_long in
       let numbers = is.numbers in
       ⊎_elim
@@ -288,7 +288,7 @@ module _ (first stores : ℕ) (samples : List Sample) (u : UnitView) (is : IsSto
       let least = min-eq_left low in
       omega arith)
       (λ full.
-      let count = count_whole turn in
+      let count = count_whole position in
       let reached : published_after stores ≡ 1_073_741_823 - first = omega arith in
       let low : 1_073_741_823 - first ≤ length samples = omega arith in
       let least = min-eq_right low in

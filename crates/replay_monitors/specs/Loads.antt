@@ -1,4 +1,5 @@
--- A reading over words that are known at each of its loads: what a load answers, and what the reading has got then. Source: the NTP reference clock driver 28, mode 1: a reader looks at count before and after it copies the body.
+-- A reading over words that are known at each of its loads: what a load answers, and what the reading has loaded then. Source: the NTP reference
+-- clock driver 28, mode 1: a reader looks at count before and after it copies the body.
 use Rattle.std.specs.Prelude.{ℕ, ◌/◌, Bool, ◌&&◌, ◌||◌, ◌==◌, List, [], ◌∷◌, ◌++◌, length, take, drop, slice_index, if◌then◌else◌}
 use Rattle.shm_segment.specs.Samples.{sample_of}
 use Rattle.shm_monitor.specs.declared.reading.MonStep.{MonStep}
@@ -7,7 +8,7 @@ use Rattle.shm_monitor.specs.declared.reading.Reading.{Reading}
 use Rattle.shm_monitor.specs.declared.reading.Reading.TheVariants.{Taken, NotReady, Clash}
 use Rattle.shm_monitor.specs.Readings.{reading_words}
 
--- the word that comes next in a reading that has got these values, in the order count, valid, the body, count
+-- the word that comes next in a reading that has loaded these values, in the order count, valid, the body, count
 abbrev pub next_word : List ℕ → ℕ
 next_word reading = slice_index reading_words (length reading)
 
@@ -18,7 +19,7 @@ next_value words reading = slice_index words (next_word reading)
 abbrev pub with_next : List ℕ → List ℕ → List ℕ
 with_next words reading = reading ++ next_value words reading ∷ []
 
--- these values are those of a whole reading: two, the second of which (valid) is 0, or twelve
+-- these values are those of a whole reading: two if the second (valid) is 0, else twelve
 abbrev pub is_whole : List ℕ → Bool
 is_whole values = (length values == 2 && slice_index values 1 == 0) || length values == 12
 
@@ -38,6 +39,6 @@ unfoldable pub step_of : List ℕ → List ℕ → MonStep
 step_of words reading =
     if is_whole (with_next words reading) then Done (end_of (with_next words reading)) else Loaded (next_word reading) (next_value words reading)
 
--- what the reading has got then; the next load begins a new one if it has ended
+-- what the reading has loaded then; the next load begins a new one if it has ended
 unfoldable pub reading_after : List ℕ → List ℕ → List ℕ
 reading_after words reading = if is_whole (with_next words reading) then [] else with_next words reading

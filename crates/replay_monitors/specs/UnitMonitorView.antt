@@ -6,7 +6,7 @@ use Rattle.book_units.specs.Units.{UnitView, segment_of}
 use Rattle.report_book.specs.BookView.{BookView}
 use Rattle.replay_monitors.specs.Loads.{reading_after}
 
--- the number of its unit, the unit's segment, and the values that its running reading has got
+-- the number of its unit, the unit's segment, and the values that its running reading has loaded
 pub record UnitMonitorView : Type 0 where
   pub unit : ℕ
   pub segment : SegmentId

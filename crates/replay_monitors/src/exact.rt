@@ -48,11 +48,16 @@ pub(crate) fn load<O: Outlet>(
     segment: &Segment,
     monitor: &mut Monitor,
 ) -> MonStep
+    // The monitor is one of this unit's segment.
     requires unit { unit < length book.old.units }
     requires part { (free : UnitView) → segment_of (get_or book.old.units unit free) ≡ segment.now }
     requires monitor { monitor.old.segment ≡ segment.now }
+
+    // What the load answers, and what the reading has loaded then.
     ensures step { (free : UnitView) → result ≡ step_of (words_now (get_or book.old.units unit free).publisher) monitor.old.reading }
     ensures reading { (free : UnitView) → monitor.new.reading ≡ reading_after (words_now (get_or book.old.units unit free).publisher) monitor.old.reading }
+
+    // What stays.
     ensures segment { monitor.new.segment ≡ monitor.old.segment }
     ensures unchanged { book.new ≡ book.old }
 {

@@ -1,10 +1,10 @@
 //! Monitors beside a book, in one thread.
 //!
-//! A monitor's load gives a word after a number of stores that lies between the number that the monitor was told of and the
+//! A monitor's load gives a word after a number of stores that lies between the number that the monitor knew of and the
 //! one that the publisher has made when it hears of the load. Here the monitor is told before each load and the publisher
 //! hears after it, and no store comes between: so the word is exactly the one that the publisher has stored.
 //!
-//! Beside the monitors stand the laws of a unit's stores: what its publisher does next, and what the unit shows, is a
+//! Beside the monitors, this crate has the laws of a unit's stores: what its publisher does next, and what the unit shows, is a
 //! function of its first number, its samples and its number of stores.
 #![tactic(auto)]
 

@@ -12,7 +12,7 @@ use shm_segment::Segment;
 use std::marker::Model;
 use std::sync::Arc;
 
-/// A monitor of one of a book's units. Contracts see the unit's number, its segment, and what the running reading has got.
+/// A monitor of one of a book's units. Contracts see the unit's number, its segment, and what the running reading has loaded.
 #[derive(Drop)]
 pub struct UnitMonitor {
     unit: u8,

@@ -1,4 +1,4 @@
--- Entries come to a book, behind a turn or none: the stage stands for the state that they bring.
+-- Entries come to a book, after a turn or without one: the stage stands for the state that they bring.
 use Rattle.std.proofs.Common.{◌≡◌, ◌<◌, ℕ, Bool, true, false, List, [], ◌∷◌, ◌++◌, length, map, slice_index, refl, sym, ap, ◌∙◌, subst, append-nil, append_assoc, arith, Option, Some, None, drop}
 use Rattle.std.specs.List.{AllZip}
 use Rattle.std.proofs.lemmas.List.Concat.{flat_map-append}

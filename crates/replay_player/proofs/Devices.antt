@@ -24,14 +24,14 @@ made_quietly : (s : ReplayBookView) (b : BookView) (entries : List Entry) (resul
 made_quietly s b entries (Ok u) state plays adds = brought_quietly s b entries state adds plays
 made_quietly s b entries (Err fault) state plays adds = tt
 
-pub entries_act : (s : ReplayBookView) (b : BookView) (turns : Bool) (d : ℕ) (entries : List Entry) (result : Result (Unit {0}) BookFault) (turn : Result EventStep NoMemory) → BookHolds s.book
-    → OnOk result (Moves true turns s.book b entries) → OnOk result (Earns (turned_if turns s.book) b entries) → RefusesAs (device_fault s.book d) result → ComesTo result turn
-    → (state : State) → BookStandsFor s state → Acts turn (brings d entries state) (record s { book = b }) [] []
-entries_act s b turns d entries result turn held moves earns refuses comes state plays =
-    brings_by s (record s { book = b }) state d entries result turn held plays comes refuses (made s b turns entries result state held plays moves earns)
+pub entries_act : (s : ReplayBookView) (b : BookView) (turns : Bool) (d : ℕ) (entries : List Entry) (result : Result (Unit {0}) BookFault) (round : Result EventStep NoMemory) → BookHolds s.book
+    → OnOk result (Moves true turns s.book b entries) → OnOk result (Earns (turned_if turns s.book) b entries) → RefusesAs (device_fault s.book d) result → ComesTo result round
+    → (state : State) → BookStandsFor s state → Acts round (brings d entries state) (record s { book = b }) [] []
+entries_act s b turns d entries result round held moves earns refuses comes state plays =
+    brings_by s (record s { book = b }) state d entries result round held plays comes refuses (made s b turns entries result state held plays moves earns)
 
-pub loss_acts : (s : ReplayBookView) (b : BookView) (d : ℕ) (entries : List Entry) (result : Result (Unit {0}) BookFault) (turn : Result EventStep NoMemory) → BookHolds s.book
-    → OnOk result (AddsQuietly s.book b entries) → RefusesOnly (device_fault s.book d) result → ComesTo result turn
-    → (state : State) → BookStandsFor s state → Acts turn (brings d entries state) (record s { book = b }) [] []
-loss_acts s b d entries result turn held adds refuses comes state plays =
-    brings_by s (record s { book = b }) state d entries result turn held plays comes (only_as (device_fault s.book d) result refuses) (made_quietly s b entries result state plays adds)
+pub loss_acts : (s : ReplayBookView) (b : BookView) (d : ℕ) (entries : List Entry) (result : Result (Unit {0}) BookFault) (round : Result EventStep NoMemory) → BookHolds s.book
+    → OnOk result (AddsQuietly s.book b entries) → RefusesOnly (device_fault s.book d) result → ComesTo result round
+    → (state : State) → BookStandsFor s state → Acts round (brings d entries state) (record s { book = b }) [] []
+loss_acts s b d entries result round held adds refuses comes state plays =
+    brings_by s (record s { book = b }) state d entries result round held plays comes (only_as (device_fault s.book d) result refuses) (made_quietly s b entries result state plays adds)

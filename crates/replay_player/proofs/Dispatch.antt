@@ -9,7 +9,7 @@ use Rattle.replay_player.specs.Effects.{EventEffect, brings, declares, effect, h
 use Rattle.replay_player.specs.Playing.{Acts, BookStandsFor, ReplayBookView, declared_state, state_of}
 use Rattle.replay_player.specs.States.{State, came, most_units}
 
-pub still_out : (turn : Result EventStep NoMemory) (e : Option EventEffect) (new : ReplayBookView) (out : List ℕ) → Acts turn e new [] [] → Acts turn e new out out
+pub still_out : (round : Result EventStep NoMemory) (e : Option EventEffect) (new : ReplayBookView) (out : List ℕ) → Acts round e new [] [] → Acts round e new out out
 still_out (Ok Made) made new out acts = (acts.0, acts.1, acts.2, sym (append-nil out) ∙ ap (λ l. out ++ l) acts.3)
 still_out (Ok Refused) made new out acts = (acts.0, refl)
 still_out (Err e) made new out acts = tt
@@ -30,9 +30,9 @@ number_refused s u first out state plays =
     subst P plays.is (refl, refl)
 
 -- the event is this one
-pub arm : (queue : ℕ) (e given : ScriptEvent) (turn : Result EventStep NoMemory) (state : State) (new : ReplayBookView) (out out' : List ℕ) → e ≡ given
-    → Acts turn (effect queue state given) new out out' → Acts turn (effect queue state e) new out out'
-arm queue e given turn state new out out' is acts = let P : ScriptEvent → Type 0 = λ x. Acts turn (effect queue state x) new out out' in subst P (sym is) acts
+pub arm : (queue : ℕ) (e given : ScriptEvent) (round : Result EventStep NoMemory) (state : State) (new : ReplayBookView) (out out' : List ℕ) → e ≡ given
+    → Acts round (effect queue state given) new out out' → Acts round (effect queue state e) new out out'
+arm queue e given round state new out out' is acts = let P : ScriptEvent → Type 0 = λ x. Acts round (effect queue state x) new out out' in subst P (sym is) acts
 
 -- events do the same whether one has come before or not
 

@@ -1,4 +1,4 @@
--- The lines that are due to a session: which of them find its outlet full, and where they stand in a longer history.
+-- The lines that are due to a session: which of them find its outlet full, and where they are in a longer history.
 use Rattle.std.proofs.Common.{◌≡◌, ◌≤◌, ℕ, zero, suc, ◌+◌, ◌-◌, true, List, [], ◌∷◌, ◌++◌, length, map, drop, None, refl, sym, ap, ◌∙◌, subst, inl, inr, length-append, arith}
 use Rattle.std.proofs.lemmas.Bool.{cases_lt}
 use Rattle.std.proofs.lemmas.List.{map-append}
@@ -51,7 +51,7 @@ takes_as_due [] old new room is_open takes =
 takes_as_due (line ∷ more) old new room is_open takes =
     by_push line more old new takes.0 room is_open takes.1 takes.2 (λ fits rest. takes_as_due more (given line.line old) new fits is_open rest)
 
--- behind a longer history
+-- after a longer history
 
 abbrev pub behind : ℕ → Due → Due
 behind base line = record { place = base + line.place; line = line.line }

@@ -116,8 +116,8 @@ few_kept s state n c seat =
     let least = seat.attends.least in
     take_whole most_kept kept (omega (arith, long, room, cap, least))
 
-pub one_drained : (s mid new : ReplayBookView) (n : ℕ) (turn : EventStep) (out out' : List ℕ) (done : Result (Unit {0}) NoMemory) (out'' : List ℕ)
-    → ((state : State) → BookStandsFor s state → Acts (Ok turn) (takes n most_kept state) mid out out')
+pub one_drained : (s mid new : ReplayBookView) (n : ℕ) (round : EventStep) (out out' : List ℕ) (done : Result (Unit {0}) NoMemory) (out'' : List ℕ)
+    → ((state : State) → BookStandsFor s state → Acts (Ok round) (takes n most_kept state) mid out out')
     → ((state : State) (c : Client) → BookStandsFor mid state → slice_get state.clients n ≡ Some c → OnOk done (out'' ≡ out' ++ end_line n c.run.closing (counted (items_of state.names state.log c))))
     → new ≡ mid
     → (state : State) (c : Client) → BookStandsFor s state → slice_get state.clients n ≡ Some c → OnOk done (DrainsOne n new out out'' state c)
@@ -146,7 +146,7 @@ one_drained s mid new n Made out out' (Ok u) out'' took wrote same state c plays
       written = wrote_so ∙ ap (λ l. l ++ closing) lines ∙ append_assoc out (item_lines n (kept_of state.names state.log c)) closing;
     }
 
--- what is left behind one session
+-- what is left after one session
 
 pub drop_at : {A : Type 0} (n : ℕ) (xs : List A) (x : A) → slice_get xs n ≡ Some x → drop n xs ≡ x ∷ drop (n + 1) xs
 drop_at n [] x is = absurd (cc)
@@ -213,7 +213,7 @@ fewer_left s new n out out' below step left leaves =
     ∙ sym (as_many s state leaves.stands) in
     omega (arith, below, stay)
 
--- behind the last session the units alone are left
+-- after the last session the units alone are left
 
 pub units_left : (s : ReplayBookView) (n : ℕ) (out out' : List ℕ) → length s.book.sessions ≤ n
     → ((state : State) → BookStandsFor s state → out' ≡ out ++ flat_map (published state) (range_with_len 0 (units_in state)))

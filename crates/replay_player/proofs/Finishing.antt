@@ -1,4 +1,4 @@
--- The end of a script of which no event has come: it writes what it would write on the stage of its declarations.
+-- The end of a script without an event so far: it writes what it would write on the stage of its declarations.
 use Rattle.std.proofs.Common.{◌≡◌, ◌∙◌, ℕ, Bool, true, false, cond, List, [], ◌∷◌, ◌++◌, fold, length, replicate, refl, sym, ap, subst, Result, Ok, Err, OnOk}
 use Rattle.std.specs.List.{range_with_len}
 use Rattle.book_log.specs.Entries.{ended, stops_in}

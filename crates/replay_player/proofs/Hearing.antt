@@ -173,15 +173,15 @@ heard_one names before log place piece a b c long attends c_open inp =
         let two : length b.session.kept ≤ b.session.cap = (bound some).1 refl in
         (omega (arith, one, asked), omega (arith, two, kept, room, cap, fit))
 
-pub hears_act : (s : ReplayBookView) (b : BookView) (n : ℕ) (piece : List ℕ) (result : Result (Unit {0}) BookFault) (turn : Result EventStep NoMemory) → BookHolds s.book
-    → ComesTo result turn → RefusesAs (session_fault s.book n) result → OnOk result (AnswersRequests true n piece s.book b)
-    → (state : State) → BookStandsFor s state → Acts turn (hears n piece state) (record s { book = b }) [] []
+pub hears_act : (s : ReplayBookView) (b : BookView) (n : ℕ) (piece : List ℕ) (result : Result (Unit {0}) BookFault) (round : Result EventStep NoMemory) → BookHolds s.book
+    → ComesTo result round → RefusesAs (session_fault s.book n) result → OnOk result (AnswersRequests true n piece s.book b)
+    → (state : State) → BookStandsFor s state → Acts round (hears n piece state) (record s { book = b }) [] []
 unfolding hears
-hears_act s b n piece result turn held comes refuses heard state plays =
-    let P : State → Type 0 = λ st. Acts turn (changes n (served st.names st.log piece) st) (record s { book = b }) [] [] in
+hears_act s b n piece result round held comes refuses heard state plays =
+    let P : State → Type 0 = λ st. Acts round (changes n (served st.names st.log piece) st) (record s { book = b }) [] [] in
     subst P plays.is
     (changes_by s (record s { book = b }) (state_of s.book.names (plays.before ++ s.book.log.log) plays.firsts plays.clients plays.stores plays.watches) n
-    (served s.book.names (plays.before ++ s.book.log.log) piece) result turn (over_parts s state plays) comes refuses
+    (served s.book.names (plays.before ++ s.book.log.log) piece) result round (over_parts s state plays) comes refuses
     (λ both c_open. by both c_open result heard))
   where
     by : (both : Both (Attends s.book.names plays.before s.book.log.log) s.book.sessions plays.clients n) → both.other.run.closing ≡ None

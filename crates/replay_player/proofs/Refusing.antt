@@ -54,40 +54,40 @@ only_as None (Ok x) refuses = tt
 only_as None (Err fault) refuses = absurd (cc)
 
 -- a call that is refused by what is there and what has stopped
-pub acts_by : (there stopped : Bool) (result : Result (Unit {0}) BookFault) (turn : Result EventStep NoMemory) (next : State) (new : ReplayBookView)
-    → ComesTo result turn → RefusesAs (fault_of there stopped) result → OnOk result (BookStandsFor new next) → Acts turn (allowed (there && not stopped) (quietly next)) new [] []
-acts_by true false (Ok u) turn next new comes refuses plays =
+pub acts_by : (there stopped : Bool) (result : Result (Unit {0}) BookFault) (round : Result EventStep NoMemory) (next : State) (new : ReplayBookView)
+    → ComesTo result round → RefusesAs (fault_of there stopped) result → OnOk result (BookStandsFor new next) → Acts round (allowed (there && not stopped) (quietly next)) new [] []
+acts_by true false (Ok u) round next new comes refuses plays =
     let P : Result EventStep NoMemory → Type 0 = λ t. Acts t (Some (quietly next)) new [] [] in
     subst P (sym comes) (quietly next, refl, plays, refl)
-acts_by true false (Err fault) turn next new comes refuses plays =
-    let P : BookFault → Type 0 = λ f. ComesTo (Err f) turn in
-    wanting turn (subst P refuses comes)
+acts_by true false (Err fault) round next new comes refuses plays =
+    let P : BookFault → Type 0 = λ f. ComesTo (Err f) round in
+    wanting round (subst P refuses comes)
   where
-    wanting : (turn : Result EventStep NoMemory) → IsErr turn → Acts turn (Some (quietly next)) new [] []
+    wanting : (round : Result EventStep NoMemory) → IsErr round → Acts round (Some (quietly next)) new [] []
     wanting (Ok t) is = absurd (cc)
     wanting (Err e) is = tt
-acts_by true true result turn next new comes refuses plays =
+acts_by true true result round next new comes refuses plays =
     let P : Result EventStep NoMemory → Type 0 = λ t. Acts t None new [] [] in
-    let Q : Result (Unit {0}) BookFault → Type 0 = λ r. ComesTo r turn in
-    let now : turn ≡ Ok Refused = subst Q refuses comes in
+    let Q : Result (Unit {0}) BookFault → Type 0 = λ r. ComesTo r round in
+    let now : round ≡ Ok Refused = subst Q refuses comes in
     subst P (sym now) (refl, refl)
-acts_by false stopped result turn next new comes refuses plays =
+acts_by false stopped result round next new comes refuses plays =
     let P : Result EventStep NoMemory → Type 0 = λ t. Acts t None new [] [] in
-    let Q : Result (Unit {0}) BookFault → Type 0 = λ r. ComesTo r turn in
-    let now : turn ≡ Ok Refused = subst Q refuses comes in
+    let Q : Result (Unit {0}) BookFault → Type 0 = λ r. ComesTo r round in
+    let now : round ≡ Ok Refused = subst Q refuses comes in
     subst P (sym now) (refl, refl)
 
 -- entries of a device
 
-pub brings_by : (s new : ReplayBookView) (state : State) (d : ℕ) (entries : List Entry) (result : Result (Unit {0}) BookFault) (turn : Result EventStep NoMemory) → BookHolds s.book → BookStandsFor s state
-    → ComesTo result turn → RefusesAs (device_fault s.book d) result → OnOk result (BookStandsFor new (came entries state)) → Acts turn (brings d entries state) new [] []
+pub brings_by : (s new : ReplayBookView) (state : State) (d : ℕ) (entries : List Entry) (result : Result (Unit {0}) BookFault) (round : Result EventStep NoMemory) → BookHolds s.book → BookStandsFor s state
+    → ComesTo result round → RefusesAs (device_fault s.book d) result → OnOk result (BookStandsFor new (came entries state)) → Acts round (brings d entries state) new [] []
 unfolding brings
-brings_by s new state d entries result turn held plays comes refuses made =
-    let P : State → Type 0 = λ st. OnOk result (BookStandsFor new (came entries st)) → Acts turn (brings d entries st) new [] [] in
+brings_by s new state d entries result round held plays comes refuses made =
+    let P : State → Type 0 = λ st. OnOk result (BookStandsFor new (came entries st)) → Acts round (brings d entries st) new [] [] in
     let R : Option BookFault → Type 0 = λ f. RefusesAs f result in
     let at = state_of s.book.names (plays.before ++ s.book.log.log) plays.firsts plays.clients plays.stores plays.watches in
     subst P plays.is
-    (λ made. acts_by (nat_lt d (length s.book.names)) (stops_in d (plays.before ++ s.book.log.log)) result turn (came entries at) new comes
+    (λ made. acts_by (nat_lt d (length s.book.names)) (stops_in d (plays.before ++ s.book.log.log)) result round (came entries at) new comes
     (subst R (device_is s.book plays.before d held plays.standing.stands) refuses) made)
     made
 

@@ -128,17 +128,17 @@ nothing_made fault (Err other) X refuses = tt
 
 -- one session that is there and open becomes another
 
-pub changes_by : (s : ReplayBookView) (new : ReplayBookView) (state : State) (n : ℕ) (next : Client → Client) (result : Result (Unit {0}) BookFault) (turn : Result EventStep NoMemory) → (plays : BookStandsFor s state)
-    → ComesTo result turn → RefusesAs (session_fault s.book n) result
+pub changes_by : (s : ReplayBookView) (new : ReplayBookView) (state : State) (n : ℕ) (next : Client → Client) (result : Result (Unit {0}) BookFault) (round : Result EventStep NoMemory) → (plays : BookStandsFor s state)
+    → ComesTo result round → RefusesAs (session_fault s.book n) result
     → ((both : Both (Attends s.book.names plays.before s.book.log.log) s.book.sessions plays.clients n) → both.other.run.closing ≡ None
     → OnOk result (BookStandsFor new (with_client n (next both.other) (state_of s.book.names (plays.before ++ s.book.log.log) plays.firsts plays.clients plays.stores plays.watches))))
-    → Acts turn (changes n next state) new [] []
-changes_by s new state n next result turn plays comes refuses made =
+    → Acts round (changes n next state) new [] []
+changes_by s new state n next result round plays comes refuses made =
     let at = state_of s.book.names (plays.before ++ s.book.log.log) plays.firsts plays.clients plays.stores plays.watches in
-    let P : State → Type 0 = λ st. Acts turn (changes n next st) new [] [] in
+    let P : State → Type 0 = λ st. Acts round (changes n next st) new [] [] in
     subst P plays.is (elim (zip_at (Attends s.book.names plays.before s.book.log.log) s.book.sessions plays.clients n plays.standing.clients_are) [
       | inl both ↦
-          let E : Option Client → Type 0 = λ o. Acts turn (option_and_then (λ (c : Client). allowed (is_open c) (quietly (with_client n (next c) at))) o) new [] [] in
+          let E : Option Client → Type 0 = λ o. Acts round (option_and_then (λ (c : Client). allowed (is_open c) (quietly (with_client n (next c) at))) o) new [] [] in
           let there : nat_lt n (length s.book.sessions) ≡ true = lt-ltb n (length s.book.sessions) both.there in
           let closes : is_some (option_and_then (λ (a : MemberView). a.session.closing) (slice_get s.book.sessions n)) ≡ is_some both.other.run.closing =
           ap (λ (o : Option MemberView). is_some (option_and_then (λ (a : MemberView). a.session.closing) o)) both.first
@@ -147,23 +147,23 @@ changes_by s new state n next result turn plays comes refuses made =
           ap (λ b. fault_of b (is_some (option_and_then (λ (a : MemberView). a.session.closing) (slice_get s.book.sessions n)))) there ∙ ap (fault_of true) closes in
           subst E (sym both.second) (by both.other.run.closing both refl fault)
       | inr neither ↦
-          let E : Option Client → Type 0 = λ o. Acts turn (option_and_then (λ (c : Client). allowed (is_open c) (quietly (with_client n (next c) at))) o) new [] [] in
+          let E : Option Client → Type 0 = λ o. Acts round (option_and_then (λ (c : Client). allowed (is_open c) (quietly (with_client n (next c) at))) o) new [] [] in
           let past = neither.past in
           let F : Bool → Type 0 = λ b. session_fault s.book n ≡ fault_of b (is_some (option_and_then (λ (a : MemberView). a.session.closing) (slice_get s.book.sessions n))) in
           let none : nat_lt n (length s.book.sessions) ≡ false = le-ltb n (length s.book.sessions) past in
           let gone : RefusesAs (Some book.NoSuch) result = subst (λ f. RefusesAs f result) (ap (λ b. fault_of b (is_some (option_and_then (λ (a : MemberView). a.session.closing) (slice_get s.book.sessions n)))) none) refuses in
-          subst E (sym neither.second) (acts_by false false result turn at new comes gone (nothing_made book.NoSuch result (BookStandsFor new at) gone))
+          subst E (sym neither.second) (acts_by false false result round at new comes gone (nothing_made book.NoSuch result (BookStandsFor new at) gone))
     ])
   where
     by : (closing : Option (ℕ × Close)) (both : Both (Attends s.book.names plays.before s.book.log.log) s.book.sessions plays.clients n) → both.other.run.closing ≡ closing
         → session_fault s.book n ≡ fault_of true (is_some both.other.run.closing)
-        → Acts turn (allowed (is_open both.other) (quietly (with_client n (next both.other) (state_of s.book.names (plays.before ++ s.book.log.log) plays.firsts plays.clients plays.stores plays.watches)))) new [] []
+        → Acts round (allowed (is_open both.other) (quietly (with_client n (next both.other) (state_of s.book.names (plays.before ++ s.book.log.log) plays.firsts plays.clients plays.stores plays.watches)))) new [] []
     by None both is fault =
-        acts_by true (is_some both.other.run.closing) result turn (with_client n (next both.other) (state_of s.book.names (plays.before ++ s.book.log.log) plays.firsts plays.clients plays.stores plays.watches)) new comes
+        acts_by true (is_some both.other.run.closing) result round (with_client n (next both.other) (state_of s.book.names (plays.before ++ s.book.log.log) plays.firsts plays.clients plays.stores plays.watches)) new comes
         (subst (λ f. RefusesAs f result) fault refuses) (made both is)
     by (Some closing) both is fault =
         let ended : RefusesAs (Some book.Ended) result = subst (λ f. RefusesAs f result) (fault ∙ ap (λ o. fault_of true (is_some o)) is) refuses in
-        acts_by true (is_some both.other.run.closing) result turn (with_client n (next both.other) (state_of s.book.names (plays.before ++ s.book.log.log) plays.firsts plays.clients plays.stores plays.watches)) new comes
+        acts_by true (is_some both.other.run.closing) result round (with_client n (next both.other) (state_of s.book.names (plays.before ++ s.book.log.log) plays.firsts plays.clients plays.stores plays.watches)) new comes
         (subst (λ f. RefusesAs f result) fault refuses) (nothing_made book.Ended result (BookStandsFor new (with_client n (next both.other) (state_of s.book.names (plays.before ++ s.book.log.log) plays.firsts plays.clients plays.stores plays.watches))) ended)
 
 -- the stage over its own parts
@@ -205,14 +205,14 @@ hung_one names before log why place a b c long attends c_open closes =
     (λ is_open. absurd (let e : Some (length (history whole), why) ≡ None = sym (ap (λ o. (shut_run whole why o c.run).closing) c_open) ∙ is_open in cc))
     (λ is_open. c_open)
 
-pub hung : (s : ReplayBookView) (b : BookView) (n : ℕ) (result : Result (Unit {0}) BookFault) (turn : Result EventStep NoMemory) → BookHolds s.book
-    → ComesTo result turn → RefusesOnly (session_fault s.book n) result → OnOk result (HangsUp n HungUp s.book b)
-    → (state : State) → BookStandsFor s state → Acts turn (hangs n state) (record s { book = b }) [] []
+pub hung : (s : ReplayBookView) (b : BookView) (n : ℕ) (result : Result (Unit {0}) BookFault) (round : Result EventStep NoMemory) → BookHolds s.book
+    → ComesTo result round → RefusesOnly (session_fault s.book n) result → OnOk result (HangsUp n HungUp s.book b)
+    → (state : State) → BookStandsFor s state → Acts round (hangs n state) (record s { book = b }) [] []
 unfolding hangs
-hung s b n result turn held comes refuses hangs state plays =
-    let P : State → Type 0 = λ st. Acts turn (changes n (closed st.log HungUp) st) (record s { book = b }) [] [] in
+hung s b n result round held comes refuses hangs state plays =
+    let P : State → Type 0 = λ st. Acts round (changes n (closed st.log HungUp) st) (record s { book = b }) [] [] in
     subst P plays.is
-    (changes_by s (record s { book = b }) (state_of s.book.names (plays.before ++ s.book.log.log) plays.firsts plays.clients plays.stores plays.watches) n (closed (plays.before ++ s.book.log.log) HungUp) result turn
+    (changes_by s (record s { book = b }) (state_of s.book.names (plays.before ++ s.book.log.log) plays.firsts plays.clients plays.stores plays.watches) n (closed (plays.before ++ s.book.log.log) HungUp) result round
     (over_parts s state plays) comes (only_as (session_fault s.book n) result refuses)
     (λ both c_open. by both c_open result hangs))
   where
@@ -267,11 +267,11 @@ admitted s b name n cap state held least most admits plays =
     let Z : List MemberView → Type 0 = λ l. AllZip (Attends s.book.names plays.before s.book.log.log) l (plays.clients ++ c ∷ []) in
     seated s b plays.before plays.firsts plays.clients (plays.clients ++ c ∷ []) plays.stores plays.watches admits.same plays.standing (subst Z (sym admits.sessions) zip)
 
-pub opens_act : {X O : Type 0} (s : ReplayBookView) (b : BookView) (name : OutletName) (n cap : ℕ) (result : Result X (O × BookFault)) (turn : Result EventStep NoMemory) → BookHolds s.book → 1 ≤ cap → cap ≤ 65_536
-    → n ≡ length s.book.sessions → AdmitsTo result turn → RefusesWith (crowd_fault s.book) result → OnOk result (Admits name cap s.book b)
-    → (state : State) → BookStandsFor s state → Acts turn (opens n cap state) (record s { book = b }) [] []
+pub opens_act : {X O : Type 0} (s : ReplayBookView) (b : BookView) (name : OutletName) (n cap : ℕ) (result : Result X (O × BookFault)) (round : Result EventStep NoMemory) → BookHolds s.book → 1 ≤ cap → cap ≤ 65_536
+    → n ≡ length s.book.sessions → AdmitsTo result round → RefusesWith (crowd_fault s.book) result → OnOk result (Admits name cap s.book b)
+    → (state : State) → BookStandsFor s state → Acts round (opens n cap state) (record s { book = b }) [] []
 unfolding opens
-opens_act {X} {O} s b name n cap result turn held least most next admits refuses made state plays =
+opens_act {X} {O} s b name n cap result round held least most next admits refuses made state plays =
     let zip = plays.standing.clients_are in
     let at = state_of s.book.names (plays.before ++ s.book.log.log) plays.firsts plays.clients plays.stores plays.watches in
     let long : length s.book.sessions ≡ length plays.clients = long_same (Attends s.book.names plays.before s.book.log.log) s.book.sessions plays.clients zip in
@@ -281,9 +281,9 @@ opens_act {X} {O} s b name n cap result turn held least most next admits refuses
     let to : State = record at { clients = plays.clients ++ opened cap (plays.before ++ s.book.log.log) ∷ [] } in
     let crowded : (nat_eq (live_here s.book.sessions) most_live || nat_eq (length s.book.sessions) most_opened) ≡ (nat_eq (live_in at) most_live || nat_eq (length plays.clients) most_opened) =
     ap (λ m. nat_eq m most_live || nat_eq (length s.book.sessions) most_opened) live ∙ ap (λ m. nat_eq (live_in at) most_live || nat_eq m most_opened) long in
-    let P : State → Type 0 = λ st. Acts turn (opens n cap st) (record s { book = b }) [] [] in
-    let Q : Bool → Type 0 = λ x. Acts turn (allowed (x && not (nat_eq (live_in at) most_live || nat_eq (length plays.clients) most_opened)) (quietly to)) (record s { book = b }) [] [] in
-    let T : Bool → Type 0 = λ x. Acts turn (allowed (not x) (quietly to)) (record s { book = b }) [] [] in
+    let P : State → Type 0 = λ st. Acts round (opens n cap st) (record s { book = b }) [] [] in
+    let Q : Bool → Type 0 = λ x. Acts round (allowed (x && not (nat_eq (live_in at) most_live || nat_eq (length plays.clients) most_opened)) (quietly to)) (record s { book = b }) [] [] in
+    let T : Bool → Type 0 = λ x. Acts round (allowed (not x) (quietly to)) (record s { book = b }) [] [] in
     subst P plays.is (subst Q (sym is) (subst T crowded
     (by to (nat_eq (live_here s.book.sessions) most_live || nat_eq (length s.book.sessions) most_opened) refl result admits refuses
     (plays_so result made))))
@@ -293,13 +293,13 @@ opens_act {X} {O} s b name n cap result turn held least most next admits refuses
     plays_so (Ok x) made = admitted s b name n cap state held least most made plays
     plays_so (Err refusal) made = tt
 
-    wanting : (to : State) (turn : Result EventStep NoMemory) → IsErr turn → Acts turn (Some (quietly to)) (record s { book = b }) [] []
+    wanting : (to : State) (round : Result EventStep NoMemory) → IsErr round → Acts round (Some (quietly to)) (record s { book = b }) [] []
     wanting to (Ok t) is = absurd (cc)
     wanting to (Err e) is = tt
 
-    by : (to : State) (crowd : Bool) → (nat_eq (live_here s.book.sessions) most_live || nat_eq (length s.book.sessions) most_opened) ≡ crowd → (result : Result X (O × BookFault)) → AdmitsTo result turn
+    by : (to : State) (crowd : Bool) → (nat_eq (live_here s.book.sessions) most_live || nat_eq (length s.book.sessions) most_opened) ≡ crowd → (result : Result X (O × BookFault)) → AdmitsTo result round
         → RefusesWith (crowd_fault s.book) result → OnOk result (BookStandsFor (record s { book = b }) to)
-        → Acts turn (allowed (not crowd) (quietly to)) (record s { book = b }) [] []
+        → Acts round (allowed (not crowd) (quietly to)) (record s { book = b }) [] []
     by to false is (Ok x) admits refuses plays =
         let A : Result EventStep NoMemory → Type 0 = λ t. Acts t (Some (quietly to)) (record s { book = b }) [] [] in
         subst A (sym admits) (quietly to, refl, plays, refl)
@@ -307,12 +307,12 @@ opens_act {X} {O} s b name n cap result turn held least most next admits refuses
         let made_none : Result X (O × BookFault) = Err refusal in
         let F : Bool → Type 0 = λ x. RefusesWith (cond x (Some (book.TooManySessions (live_here s.book.sessions) (length s.book.sessions))) None) made_none in
         let want : refusal.1 ≡ book.NoMemory = subst F is refuses in
-        let R : BookFault → Type 0 = λ f. RefusesTo f turn in
-        wanting to turn (subst R want admits)
+        let R : BookFault → Type 0 = λ f. RefusesTo f round in
+        wanting to round (subst R want admits)
     by to true is result admits refuses plays =
         let F : Bool → Type 0 = λ x. RefusesWith (cond x (Some (book.TooManySessions (live_here s.book.sessions) (length s.book.sessions))) None) result in
         let full : RefusesWith (Some (book.TooManySessions (live_here s.book.sessions) (length s.book.sessions))) result = subst F is refuses in
-        let G : Result X (O × BookFault) → Type 0 = λ r. AdmitsTo r turn in
-        let now : turn ≡ Ok Refused = subst G full.1 admits in
+        let G : Result X (O × BookFault) → Type 0 = λ r. AdmitsTo r round in
+        let now : round ≡ Ok Refused = subst G full.1 admits in
         let A : Result EventStep NoMemory → Type 0 = λ t. Acts t None (record s { book = b }) [] [] in
         subst A (sym now) (refl, refl)

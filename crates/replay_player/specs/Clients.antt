@@ -54,7 +54,7 @@ opened cap log = record { cap = cap; run = opened_run log; heard = []; taken = 0
 abbrev pub closed : List Entry → Close → Client → Client
 closed log why c = record c { run = shut_run log why c.run.closing c.run }
 
--- the lines that these reports bring behind the history of this log, each with its report's place
+-- the lines that these reports bring after the history of this log, each with its report's place
 abbrev pub lines_due : List (List ℕ) → List Entry → List Report → Client → List Due
 lines_due names log reports c = due (line_for names) (policy_of c) (length (history log)) reports
 
@@ -67,12 +67,12 @@ abbrev pub overrun_by : Option (ℕ × Close) → List Due → Option (ℕ × Cl
 overrun_by None lines = overrun_at lines
 overrun_by (Some closing) lines = Some closing
 
--- reports come behind this log
+-- reports come after this log
 unfoldable pub told : List (List ℕ) → List Entry → List Report → Client → Client
 told names log reports c =
     record c { run = record c.run { closing = overrun_by c.run.closing (drop (room_of names log c) (lines_due names log reports c)) } }
 
--- the requests that a piece ends, behind all input before it
+-- the requests that a piece ends, after all input before it
 abbrev pub new_requests : List ℕ → List ℕ → List RawCommand
 new_requests heard piece = drop (length (requests heard)) (requests (heard ++ piece))
 

@@ -127,7 +127,7 @@ unfoldable pub load_lines : ℕ → ℕ → List ℕ → List ℕ → List ℕ
 load_lines m zero words reading = []
 load_lines m (suc loads) words reading = step_line m (step_of words reading) ++ load_lines m loads words (reading_after words reading)
 
--- a monitor that has got these values
+-- a monitor that has loaded these values
 abbrev pub with_watch : ℕ → List ℕ → MonitorState → State → State
 with_watch m reading w state = record state { begun = true; watches = slice_set state.watches m (record w { reading = reading }) }
 

@@ -67,7 +67,7 @@ pub record Leaves (e : ScriptEndView) (left : List ℕ) : Type 0 where
   pub stands : BookStandsFor e.book state
   pub is : left_from e.next state ≡ left
 
--- The next part of what is left stands behind what was written, and the rest is left; or all of it stands there. Out of memory, nothing is known.
+-- The next part of what is left follows what was written, and the rest is left; or all of it is there. Out of memory, nothing is known.
 abbrev pub EndAdds : Result Bool NoMemory → List ℕ → ScriptEndView → List ℕ → List ℕ → Type 0
 EndAdds (Ok true) left new out out' = (part : List ℕ) × (rest : List ℕ) × (left ≡ part ++ rest) × Leaves new rest × (out' ≡ out ++ part)
 EndAdds (Ok false) left new out out' = out' ≡ out ++ left
@@ -99,7 +99,7 @@ IsUnitPublished u s state =
     (free : UnitView) → state_of (get_or s.book.units u free)
     ≡ shown_state (slice_index state.firsts u) (samples_at u state) (stores_at_end (slice_index state.firsts u) (samples_at u state))
 
--- a step of a unit; if it makes no store, the unit has come to its end
+-- a step of a unit; if it makes no store, the unit has ended
 pub record PublishesOne (u : ℕ) (more : Bool) (new : ReplayBookView) (state : State) : Type 0 where
   pub stands : StandsAlike new state
   pub last : more ≡ false → IsUnitPublished u new state

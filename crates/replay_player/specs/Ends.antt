@@ -57,7 +57,7 @@ last_lines state =
 abbrev pub written_at_end : State → List ℕ
 written_at_end state = last_lines (shut (all_ended state))
 
--- the closing lines of all sessions alone, from number s on
+-- only the closing lines of all sessions, from number s on
 unfoldable pub all_closed : List (List ℕ) → List Entry → ℕ → List Client → List ℕ
 all_closed names log s [] = []
 all_closed names log s (c ∷ more) = end_line s c.run.closing (counted (items_of names log c)) ++ all_closed names log (s + 1) more

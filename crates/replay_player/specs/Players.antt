@@ -12,7 +12,7 @@ abbrev pub PlayerStandsFor : Player → State → Type 0
 PlayerStandsFor (Declaring d) state = declared_state d.names d.firsts ≡ state
 PlayerStandsFor (Playing stage) state = BookStandsFor stage state
 
--- the line was refused, or has done what it does, and what it writes stands behind what was written; out of memory, nothing is known
+-- the line was refused, or has done what it does, and what it writes follows what was written; out of memory, nothing is known
 abbrev pub LinePlayed : Result (Option Player) NoMemory → Option EventEffect → List ℕ → List ℕ → Type 0
 LinePlayed (Ok (Some player)) effect out out' = (e : EventEffect) × (effect ≡ Some e) × PlayerStandsFor player e.state × (out' ≡ out ++ e.written)
 LinePlayed (Ok None) effect out out' = (effect ≡ None) × (out' ≡ out)

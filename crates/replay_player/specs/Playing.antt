@@ -1,6 +1,7 @@
 -- What a stage shows, and the state of a run that it stands for, though its book has forgotten a part of the log.
 use Rattle.std.specs.Prelude.{◌≡◌, ◌≤◌, ◌<◌, ◌+◌, ◌-◌, ◌^◌, ℕ, Bool, true, false, List, [], ◌++◌, length, min, nat_le, replicate, slice_get, slice_index, Option, Some, None, Result, Ok, Err, IsErr}
 use Rattle.std.specs.List.{AllZip, list_all}
+use Rattle.gps_fixed.specs.Limits.{most_history, most_queue}
 use Rattle.gps_fixed.specs.declared.no_memory.NoMemory.{NoMemory}
 use Rattle.gps_report.specs.Name.{are_names}
 use Rattle.gps_command.specs.Kept as input
@@ -33,7 +34,7 @@ pub record ReplayBookView : Type 0 where
 pub record Attends (names : List (List ℕ)) (before log : List Entry) (a : MemberView) (c : Client) : Type 0 where
   pub run : IsRunOf names before log a.session c.run
   pub cap : a.session.cap ≡ c.cap
-  pub least : c.cap ≤ 65_536
+  pub least : c.cap ≤ most_queue
   pub kept : a.session.kept ≡ kept_of names (before ++ log) c
   pub taken : c.taken ≤ length (items_of names (before ++ log) c)
   pub room : length a.session.kept ≤ a.session.cap
@@ -85,35 +86,35 @@ pub record BookStandsFor (s : ReplayBookView) (state : State) : Type 0 where
 abbrev pub Opens : List (List ℕ) → List ℕ → ReplayBookView → Type 0
 Opens names firsts s = BookStandsFor s (state_of names [] firsts [] (replicate most_units 0) [])
 
--- the line was refused, or has done what it does, and what it writes stands behind what was written; out of memory, nothing is known
+-- the line was refused, or has done what it does, and what it writes follows what was written; out of memory, nothing is known
 abbrev pub Acts : Result EventStep NoMemory → Option EventEffect → ReplayBookView → List ℕ → List ℕ → Type 0
 Acts (Ok Made) effect new out out' = (e : EventEffect) × (effect ≡ Some e) × BookStandsFor new e.state × (out' ≡ out ++ e.written)
 Acts (Ok Refused) effect new out out' = (effect ≡ None) × (out' ≡ out)
 Acts (Err _) effect new out out' = Unit {0}
 
--- what a refusal of a book comes to
+-- what a refusal of a book becomes
 abbrev pub RefusesTo : BookFault → Result EventStep NoMemory → Type 0
-RefusesTo book.NoMemory turn = IsErr turn
-RefusesTo fault turn = turn ≡ Ok Refused
+RefusesTo book.NoMemory round = IsErr round
+RefusesTo fault round = round ≡ Ok Refused
 
--- what a call of a book comes to
+-- what a call of a book becomes
 abbrev pub ComesTo : Result (Unit {0}) BookFault → Result EventStep NoMemory → Type 0
-ComesTo (Ok _) turn = turn ≡ Ok Made
-ComesTo (Err fault) turn = RefusesTo fault turn
+ComesTo (Ok _) round = round ≡ Ok Made
+ComesTo (Err fault) round = RefusesTo fault round
 
--- what an admission comes to
+-- what an admission becomes
 abbrev pub AdmitsTo : {X O : Type 0} → Result X (O × BookFault) → Result EventStep NoMemory → Type 0
-AdmitsTo (Ok _) turn = turn ≡ Ok Made
-AdmitsTo (Err refusal) turn = RefusesTo refusal.1 turn
+AdmitsTo (Ok _) round = round ≡ Ok Made
+AdmitsTo (Err refusal) round = RefusesTo refusal.1 round
 
--- The first item that a session's outlet keeps is taken, and its line stands behind what was written; or it keeps none.
+-- The first item that a session's outlet keeps is taken, and its line follows what was written; or it keeps none.
 abbrev pub TakesOne : ℕ → Result Bool NoMemory → ReplayBookView → List ℕ → List ℕ → State → Client → Type 0
 TakesOne s (Ok true) new out out' state c =
     (item : List ℕ) × (slice_get (kept_of state.names state.log c) 0 ≡ Some item) × BookStandsFor new (with_client s (record c { taken = c.taken + 1 }) state) × (out' ≡ out ++ item_line s item)
 TakesOne s (Ok false) new out out' state c = (kept_of state.names state.log c ≡ []) × BookStandsFor new state × (out' ≡ out)
 TakesOne s (Err _) new out out' state c = Unit {0}
 
--- A monitor makes one load, and the line of a reading that it ends stands behind what was written.
+-- A monitor makes one load, and the line of a reading that it ends follows what was written.
 abbrev pub LoadsOne : ℕ → ReplayBookView → List ℕ → List ℕ → State → MonitorState → Type 0
 LoadsOne m new out out' state t =
     BookStandsFor new (with_watch m (reading_after (words_at t.unit state) t.reading) t state) × (out' ≡ out ++ step_line m (step_of (words_at t.unit state) t.reading))
@@ -137,7 +138,7 @@ declared_state names firsts = record {
 -- what declarations keep, for books with generations of the given number of symbols
 pub record IsDeclared (limit : ℕ) (names : List (List ℕ)) (firsts : List ℕ) : Type 0 where
   pub least : 1 ≤ limit
-  pub most : limit ≤ 33_554_432
+  pub most : limit ≤ most_history
   pub are_names : are_names names ≡ true
   pub are_firsts : list_all (λ first. nat_le first 1_073_741_823) firsts ≡ true
 

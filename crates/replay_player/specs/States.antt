@@ -7,7 +7,7 @@ use Rattle.book_log.specs.History.{history, history_after}
 use Rattle.book_units.specs.Samples.{samples_of}
 use Rattle.replay_player.specs.Clients.{Client, is_open, told}
 
--- a monitor: its unit, and the values that its running reading has got
+-- a monitor: its unit, and the values that its running reading has loaded
 pub record MonitorState : Type 0 where
   pub unit : ℕ
   pub reading : List ℕ

@@ -1,6 +1,7 @@
 ghost use Rattle.std.specs.Prelude.{◌≡◌, ◌≤◌, ◌&&◌, ◌*◌, not, nat_eq, nat_lt, replicate, List, [], length, IfOk, Ok};
 ghost use Rattle.std.specs.List.{list_any};
 ghost use Rattle.std.specs.Cmp.Lexicographic.{pointwise};
+ghost use Rattle.gps_fixed.specs.Limits.{most_history};
 ghost use Rattle.replay_player.specs.Effects.{declares, most_devices, numbers};
 ghost use Rattle.replay_player.specs.Playing.{DeclaresAs, Opens, declared_state};
 
@@ -44,7 +45,7 @@ impl Declarations {
     /// No device yet, and every unit's samples are numbered from 1 on. Takes no memory.
     pub fn new(alloc: Global, limit: u32) -> Declarations
         requires some { 1 ≤ limit }
-        requires most { limit ≤ 33554432 }
+        requires most { limit ≤ most_history }
         ensures { result ≡ record { names = []; firsts = replicate 16 0 } }
     {
         Declarations {
@@ -73,7 +74,7 @@ impl Declarations {
         Ok(EventStep::Made)
     }
 
-    /// A unit's samples are numbered from behind this number on.
+    /// A unit's samples are numbered from the one after this number on.
     pub fn number(&mut self, u: u64, first: u32) -> EventStep
         requires { first ≤ 1073741823 }
         ensures { DeclaresAs (Ok result) (numbers u first (declared_state self.old.names self.old.firsts)) self.new }

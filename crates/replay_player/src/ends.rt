@@ -133,7 +133,7 @@ impl ReplayBook {
         Ok(())
     }
 
-    /// What happens at a script's end, and its closing lines alone, without the items that are left.
+    /// What happens at a script's end, and only its closing lines, without the items that are left.
     pub fn end_quietly(&mut self, out: &mut Bytes) -> Result<(), NoMemory>
         ensures writes { (state : State) → BookStandsFor self.old state → OnOk result (out.new ≡ out.old ++ closings_at_end state) }
     {

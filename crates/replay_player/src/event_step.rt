@@ -9,7 +9,7 @@ use session_core::PlainOutlet;
 pub enum EventStep {
     /// It has happened.
     Made,
-    /// It is none that may come now, and nothing has changed.
+    /// The event may not come now, and nothing has changed.
     Refused,
 }
 

@@ -1,6 +1,7 @@
 //! Any event of a script.
 
 ghost use Rattle.std.specs.Prelude.{◌≡◌, ◌≤◌, ◌++◌, IfOk, OnOk, List, [], replicate};
+ghost use Rattle.gps_fixed.specs.Limits.{most_history, most_queue};
 ghost use Rattle.replay_script.specs.Events.{Fits};
 ghost use Rattle.replay_player.specs.Effects.{effect};
 ghost use Rattle.replay_player.specs.Ending.{Leaves};
@@ -34,7 +35,7 @@ fn play_on(
     out: &mut Bytes,
 ) -> Result<Option<Player>, NoMemory>
     requires least { 1 ≤ queue }
-    requires most { queue ≤ 65536 }
+    requires most { queue ≤ most_queue }
     requires fits { Fits event }
     requires known { (state : State) × BookStandsFor stage state }
     ensures played { (state : State) → BookStandsFor stage state → LinePlayed result (effect queue state event) out.old out.new }
@@ -53,7 +54,7 @@ fn play_first(
     out: &mut Bytes,
 ) -> Result<Option<Player>, NoMemory>
     requires least { 1 ≤ queue }
-    requires most { queue ≤ 65536 }
+    requires most { queue ≤ most_queue }
     requires fits { Fits event }
     ensures played { LinePlayed result (effect queue (declared_state declarations.names declarations.firsts) event) out.old out.new }
 {
@@ -78,7 +79,7 @@ impl Player {
     /// No line was played. Takes no memory.
     pub fn new(alloc: Global, limit: u32) -> Player
         requires some { 1 ≤ limit }
-        requires most { limit ≤ 33554432 }
+        requires most { limit ≤ most_history }
         ensures { PlayerStandsFor result new_state }
     {
         Player::Declaring(Declarations::new(alloc, limit))
@@ -93,7 +94,7 @@ impl Player {
         out: &mut Bytes,
     ) -> Result<Option<Player>, NoMemory>
         requires least { 1 ≤ queue }
-        requires most { queue ≤ 65536 }
+        requires most { queue ≤ most_queue }
         requires fits { Fits event }
         requires known { (state : State) × PlayerStandsFor self state }
         ensures played { (state : State) → PlayerStandsFor self state → LinePlayed result (effect queue state event) out.old out.new }
@@ -117,7 +118,7 @@ impl Player {
 }
 
 impl Player {
-    /// Does what happens at a script's end, and adds its closing lines alone, without the items that are left.
+    /// Does what happens at a script's end, and adds only its closing lines, without the items that are left.
     pub fn finish_quietly(self, out: &mut Bytes) -> Result<(), NoMemory>
         requires known { (state : State) × PlayerStandsFor self state }
         ensures writes { (state : State) → PlayerStandsFor self state → OnOk result (out.new ≡ out.old ++ closings_at_end state) }
@@ -129,7 +130,7 @@ impl Player {
     }
 }
 
-/// On a stage.
+/// On a stage. It only forwards, for the prover: its contract is of each state that the stage stands for.
 fn close_on(mut stage: ReplayBook, out: &mut Bytes) -> Result<(), NoMemory>
     ensures { (state : State) → BookStandsFor stage state → OnOk result (out.new ≡ out.old ++ closings_at_end state) }
 {

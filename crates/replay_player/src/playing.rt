@@ -1,6 +1,7 @@
 //! Any event of a script, on a stage.
 
 ghost use Rattle.std.specs.Prelude.{◌≡◌, ◌≤◌, List, []};
+ghost use Rattle.gps_fixed.specs.Limits.{most_queue};
 ghost use Rattle.replay_script.specs.Events.{Fits};
 ghost use Rattle.replay_player.specs.Effects.{effect};
 ghost use Rattle.replay_player.specs.Playing.{Acts, BookStandsFor};
@@ -20,7 +21,7 @@ impl ReplayBook {
         out: &mut Bytes,
     ) -> Result<EventStep, NoMemory>
         requires least { 1 ≤ queue }
-        requires most { queue ≤ 65536 }
+        requires most { queue ≤ most_queue }
         requires fits { Fits event }
         requires known { (state : State) × BookStandsFor self.old state }
         ensures acts { (state : State) → BookStandsFor self.old state → Acts result (effect queue state event) self.new out.old out.new }

@@ -1,5 +1,6 @@
 ghost use Rattle.std.specs.Prelude.{◌≡◌, ◌≤◌, List, [], length, nat_lt, IfOk};
 ghost use Rattle.std.specs.List.{All};
+ghost use Rattle.gps_fixed.specs.Limits.{most_history};
 ghost use Rattle.replay_script.specs.Events.{IsPiece};
 ghost use Rattle.book_log.specs.Entries.{edged, ended, fed, lost};
 ghost use Rattle.replay_player.specs.Effects.{brings};
@@ -45,7 +46,7 @@ impl ReplayBook {
         firsts: [u32; 16],
     ) -> Result<ReplayBook, NoMemory>
         requires some { 1 ≤ limit }
-        requires most { limit ≤ 33554432 }
+        requires most { limit ≤ most_history }
         requires firsts { All (λ first. first ≤ 1073741823) firsts }
         ensures opens { IfOk result (λ s. Opens names firsts s) }
     {

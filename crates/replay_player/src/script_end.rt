@@ -34,7 +34,7 @@ impl ScriptEnd {
         Ok(ScriptEnd { book, next: 0 })
     }
 
-    /// Adds the items of the next session that are left, and its closing line; behind the last session the lines of all units, and then
+    /// Adds the items of the next session that are left, and its closing line; after the last session the lines of all units, and then
     /// nothing is left. False if nothing is left.
     pub fn step(&mut self, out: &mut Bytes) -> Result<bool, NoMemory>
         requires known { (left : List ℕ) × Leaves self.old left }

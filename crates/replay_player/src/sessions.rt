@@ -1,6 +1,7 @@
 //! The events of sessions.
 
 ghost use Rattle.std.specs.Prelude.{◌≡◌, ◌≤◌, ◌<◌, ◌^◌, true, Some, List, [], length, nat_lt, slice_get, unwrap_or};
+ghost use Rattle.gps_fixed.specs.Limits.{most_queue};
 ghost use Rattle.replay_script.specs.Events.{IsCap, IsPiece};
 ghost use Rattle.replay_player.specs.Clients.{Client};
 ghost use Rattle.replay_player.specs.Effects.{hangs, hears, opens, takes};
@@ -25,7 +26,7 @@ impl ReplayBook {
     /// The next session opens, over an outlet that keeps the given number of items.
     pub fn open(&mut self, s: u64, cap: u32) -> Result<EventStep, NoMemory>
         requires least { 1 ≤ cap }
-        requires most { cap ≤ 65536 }
+        requires most { cap ≤ most_queue }
         ensures acts { (state : State) → BookStandsFor self.old state → Acts result (opens s cap state) self.new [] [] }
     {
         if s != u64::from(self.book.opened()) {
@@ -44,7 +45,7 @@ impl ReplayBook {
         queue: u32,
     ) -> Result<EventStep, NoMemory>
         requires least { 1 ≤ queue }
-        requires most { queue ≤ 65536 }
+        requires most { queue ≤ most_queue }
         requires cap { IsCap cap }
         ensures acts { (state : State) → BookStandsFor self.old state → Acts result (opens s (unwrap_or cap queue) state) self.new [] [] }
     {

@@ -1,4 +1,4 @@
--- The halves of a text are the two texts between which the first such byte stands.
+-- The halves of a text are the two texts between which the first such byte is.
 use Rattle.std.proofs.Common.{ℕ, ◌≡◌, ◌+◌, ◌<◌, Bool, true, false, cond, not, List, [], ◌∷◌, ◌++◌, length, take, drop, refl, sym, ap, ◌∙◌, arith, nat_lt, Option, Some, None}
 use Rattle.std.specs.Prelude.{◌==◌, option_map}
 use Rattle.std.specs.List.{list_all, prefix_len}
@@ -11,7 +11,7 @@ use Rattle.replay_script.specs.Words.{halves, HasNone}
 abbrev is_other : ℕ → ℕ → Bool
 is_other mark c = not (c == mark)
 
--- the byte's place, where it stands behind a text without it
+-- the byte's place, if it follows a text without it
 place : (mark : ℕ) (word rest : List ℕ) → HasNone mark word → prefix_len (is_other mark) (word ++ mark ∷ rest) ≡ length word
 place mark [] rest none = let e : is_other mark mark ≡ false = grind (arith, nat_tests) in ap (λ b. cond b (1 + prefix_len (is_other mark) rest) 0) e
 place mark (c ∷ word) rest none =
@@ -48,7 +48,7 @@ from_parts mark word rest none =
     ∙ ap (λ w. Some (w, drop (length word + 1) (word ++ mark ∷ rest))) (take-append_seam word (mark ∷ rest))
     ∙ ap (λ r. Some (word, r)) (behind mark word rest)
 
--- the first such byte, the text before it and the text behind it; or none
+-- the first such byte, the text before it and the text after it; or none
 abbrev IsParted : ℕ → List ℕ → Type 0
 IsParted mark text = (word rest : List ℕ) × (text ≡ word ++ mark ∷ rest) × HasNone mark word
 

@@ -39,7 +39,7 @@ open_in text = open_alone text (number_in text)
 unfoldable pub monitor_in : List ℕ → Option ScriptEvent
 monitor_in text = option_and_then (λ m. option_map (λ u. Monitor m.0 u) (number_in m.1)) (numbered text)
 
--- the words that bring a name or bytes
+-- the words that are followed by a name or bytes
 unfoldable pub bytes_event : List ℕ → List ℕ → Option (Option ScriptEvent)
 bytes_event word rest =
     if bytes_eq word (codes "device") then Some (device_in rest)
@@ -50,7 +50,7 @@ bytes_event word rest =
     else (if bytes_eq word (codes "input") then Some (input_in Hex rest)
     else None)))))
 
--- the words that bring numbers or an edge
+-- the words that are followed by numbers or an edge
 unfoldable pub number_event : List ℕ → List ℕ → Option ScriptEvent
 number_event word rest =
     if bytes_eq word (codes "segment") then option_map (λ p. Segment p.0 p.1) (number_and_count 0 1_073_741_823 rest)
@@ -68,7 +68,7 @@ number_event word rest =
 abbrev pub word_event : List ℕ → List ℕ → Option ScriptEvent
 word_event word rest = unwrap_or (bytes_event word rest) (number_event word rest)
 
--- an empty line and a line that begins with `#` are nothing; each other is a word, a space, and what the word brings
+-- an empty line and a line that begins with `#` are nothing; each other is a word, a space, and the word's arguments
 unfoldable pub event_in : List ℕ → Option ScriptEvent
 event_in [] = Some Nothing
 event_in (c ∷ line) =

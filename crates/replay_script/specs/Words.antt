@@ -10,11 +10,11 @@ use Rattle.pps_edges.specs.EdgeLine.{is_digit}
 use Rattle.replay_script.specs.declared.payload.Payload.{Payload}
 use Rattle.replay_script.specs.declared.payload.Payload.TheVariants.{Hex, Sentence, Part, Request}
 
--- what stands before the first such byte, and what stands behind it
+-- what comes before the first such byte, and what follows it
 unfoldable pub halves : ℕ → List ℕ → Option (List ℕ × List ℕ)
 halves mark text = option_map (λ k. (take k text, drop (k + 1) text)) (position (λ c. c == mark) text)
 
--- no such byte stands in the text
+-- no such byte is in the text
 abbrev pub HasNone : ℕ → List ℕ → Type 0
 HasNone mark text = list_all (λ c. not (c == mark)) text ≡ true
 
@@ -41,11 +41,11 @@ unfoldable pub stamp_in : List ℕ → Option Moment
 stamp_in text =
     option_and_then (λ p. option_and_then (λ sec. option_map (λ nsec. stamp_of sec nsec) (nine_in p.1)) (number_in p.0)) (halves 46 text)
 
--- a number, and what stands behind the space after it
+-- a number, and what follows the space after it
 unfoldable pub numbered : List ℕ → Option (ℕ × List ℕ)
 numbered text = option_and_then (λ p. option_map (λ n. (n, p.1)) (number_in p.0)) (halves 32 text)
 
--- a stamp, and what stands behind the space after it
+-- a stamp, and what follows the space after it
 unfoldable pub stamped : List ℕ → Option (Moment × List ℕ)
 stamped text = option_and_then (λ p. option_map (λ at. (at, p.1)) (stamp_in p.0)) (halves 32 text)
 
@@ -57,7 +57,7 @@ number_and_count least most text = option_and_then (λ p. option_map (λ n. (p.0
 abbrev pub is_sized : ℕ → List ℕ → Bool
 is_sized most text = nat_lt 0 (length text) && nat_le (length text) most
 
--- a text that is not empty and at most so long, with this end behind it
+-- a text that is not empty and not longer than given, followed by this end
 unfoldable pub text_in : ℕ → List ℕ → List ℕ → Option (List ℕ)
 text_in most ending text = if is_sized most text then Some (text ++ ending) else None
 
@@ -69,7 +69,7 @@ decoded (Err fault) = None
 unfoldable pub hex_in : List ℕ → Option (List ℕ)
 hex_in text = decoded (decode_of text)
 
--- the bytes that are meant: with CR LF behind a sentence, LF behind a request and nothing behind a part of one
+-- the bytes that are meant: with CR LF after a sentence, LF after a request and nothing after a part of one
 abbrev pub bytes_in : Payload → List ℕ → Option (List ℕ)
 bytes_in Hex text = hex_in text
 bytes_in Sentence text = text_in 510 (13 ∷ 10 ∷ []) text

@@ -8,7 +8,7 @@ pub enum ScriptEvent {
     Nothing,
     /// The next device has this name.
     Device(Name),
-    /// A unit's samples are numbered from behind this number on, at most 1,073,741,823.
+    /// A unit's samples are numbered from the one after this number on, at most 1,073,741,823.
     Segment {
         unit: u64,
         first: u32,

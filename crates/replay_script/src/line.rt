@@ -87,7 +87,7 @@ fn monitor(text: &[u8]) -> Option<ScriptEvent>
     Some(ScriptEvent::Monitor { monitor, unit })
 }
 
-/// The event of a word that brings a name or bytes; none if it is another word.
+/// The event of a word that is followed by a name or bytes; none if it is another word.
 #[tactic(auto, unfolding(crate::specs::Events::bytes_event))]
 fn bytes_event(
     alloc: Global,
@@ -115,7 +115,7 @@ fn bytes_event(
     Ok(Some(event))
 }
 
-/// The event of a word that brings numbers or an edge.
+/// The event of a word that is followed by numbers or an edge.
 #[tactic(auto, unfolding(crate::specs::Events::number_event))]
 fn number_event(word: &[u8], rest: &[u8]) -> Option<ScriptEvent>
     ensures is { result ≡ number_event word.now rest.now }
@@ -160,9 +160,9 @@ fn word_event(alloc: Global, word: &[u8], rest: &[u8]) -> Result<Option<ScriptEv
     }
 }
 
-/// The event of a line, without its line end. None exactly if the line is none that a script may have: an empty line or
-/// one that begins with `#`, or a word, one space and what the word brings, by the table of [`ScriptEvent`]. Memory is taken for
-/// a name and for bytes alone.
+/// The event of a line, without its line end. None exactly if a script may not have the line. It may have an empty line or
+/// one that begins with `#`, or a word, one space and the word's arguments, by the table of [`ScriptEvent`]. It allocates
+/// only for a name and for bytes.
 #[tactic(auto, unfolding(crate::specs::Events::event_in))]
 pub fn event_of(alloc: Global, line: &[u8]) -> Result<Option<ScriptEvent>, NoMemory>
     ensures exact { IfOk result (λ event. event ≡ event_in line.now) }

@@ -1,4 +1,4 @@
-// The bytes that a line brings: as text, or as hexadecimal digits.
+// The bytes of a line: as text, or as hexadecimal digits.
 ghost use Rattle.std.specs.Prelude.{◌≡◌, ◌≤◌, ◌+◌, ◌++◌, IfOk, IfSome, length};
 ghost use Rattle.replay_script.specs.Events.{IsPiece};
 ghost use Rattle.replay_script.specs.Words.{bytes_in, hex_in, is_sized, text_in};

@@ -72,7 +72,7 @@ fn place_of(text: &[u8], mark: u8) -> Option<usize>
     text.iter().position(|byte| *byte == mark)
 }
 
-/// What stands before the first such byte, and what stands behind it.
+/// What comes before the first such byte, and what follows it.
 #[tactic(auto, unfolding(crate::specs::Words::halves))]
 pub(crate) fn halves(text: &[u8], mark: u8) -> Option<(&[u8], &[u8])>
     ensures { option_map (λ p. (p.0.now, p.1.now)) result ≡ halves mark text.entry.now }
@@ -97,7 +97,7 @@ fn stamp(text: &[u8]) -> Option<Stamp>
     })
 }
 
-/// A number, and what stands behind the space after it.
+/// A number, and what follows the space after it.
 #[tactic(auto, unfolding(crate::specs::Words::numbered))]
 pub(crate) fn numbered(text: &[u8]) -> Option<(u64, &[u8])>
     ensures { option_map (λ p. (p.0, p.1.now)) result ≡ numbered text.entry.now }
@@ -107,7 +107,7 @@ pub(crate) fn numbered(text: &[u8]) -> Option<(u64, &[u8])>
     Some((number, rest))
 }
 
-/// A stamp, and what stands behind the space after it.
+/// A stamp, and what follows the space after it.
 #[tactic(auto, unfolding(crate::specs::Words::stamped))]
 pub(crate) fn stamped(text: &[u8]) -> Option<(Stamp, &[u8])>
     ensures { option_map (λ p. (p.0, p.1.now)) result ≡ stamped text.entry.now }

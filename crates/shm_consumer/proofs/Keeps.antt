@@ -10,7 +10,7 @@ use Rattle.shm_segment.specs.declared.view.Numbered.{Numbered}
 use Rattle.shm_segment.specs.Words.{count_after, body_after}
 use Rattle.shm_segment.specs.Rule.{IsSound, IsTold, IsPublished}
 use Rattle.shm_segment.proofs.Samples.{slice_get_front}
-use Rattle.shm_segment.proofs.Words.{count_in, turn_is, published_is}
+use Rattle.shm_segment.proofs.Words.{count_in, position_is, published_is}
 use Rattle.shm_segment.proofs.Running.{StoreEffect, published_rises, count_rises}
 use Rattle.shm_consumer.specs.declared.view.Role.{Role}
 use Rattle.shm_consumer.specs.declared.view.View.{View}
@@ -74,26 +74,26 @@ published_on first samples more next stores pair e is =
       same = subst (λ (l : List Sample). slice_get l (pair.number - first - 1) ≡ Some pair.sample) e (slice_get_front samples more (pair.number - first - 1) pair.sample is.same);
     }
 
--- a number that is behind stays behind: the even count publishes a further sample before the turn of valid 1 comes
+-- a number that is behind stays behind: the even count publishes a further sample before the position of valid 1 comes
 pub behind_on : (first stores number : ℕ) → IsBehind first stores number → IsBehind first (stores + 1) number
 behind_on first stores number is =
     let most = is.most in
-    record { most = omega arith; below = λ turn. omega arith }
+    record { most = omega arith; below = λ position. omega arith }
 
 -- if count stays, the next sample is begun by its first store at most
-turn_on : (first stores : ℕ) → stores % 13 ≤ 1 → count_after first stores ≡ count_after first (stores + 1) → (stores + 1) % 13 ≤ 1
-turn_on first stores low same = by_turn (stores % 13) refl low
+position_on : (first stores : ℕ) → stores % 13 ≤ 1 → count_after first stores ≡ count_after first (stores + 1) → (stores + 1) % 13 ≤ 1
+position_on first stores low same = by_position (stores % 13) refl low
   where
-    by_turn : (r : ℕ) → stores % 13 ≡ r → r ≤ 1 → (stores + 1) % 13 ≤ 1
-    by_turn zero t h = omega arith
-    by_turn (suc zero) t h =
+    by_position : (r : ℕ) → stores % 13 ≡ r → r ≤ 1 → (stores + 1) % 13 ≤ 1
+    by_position zero t h = omega arith
+    by_position (suc zero) t h =
         let whole : ℕ = stores / 13 in
         let e : stores ≡ 13 * whole + 1 = omega arith in
         let e' : stores + 1 ≡ 13 * whole + 2 = omega arith in
         let before : count_after first stores ≡ 2 * (first + whole) + 0 = count_in first stores 1 whole t (published_is stores whole 1 e (omega arith)) in
-        let after : count_after first (stores + 1) ≡ 2 * (first + whole) + 1 = count_in first (stores + 1) 2 whole (turn_is (stores + 1) whole 2 e' (omega arith)) (published_is (stores + 1) whole 2 e' (omega arith)) in
+        let after : count_after first (stores + 1) ≡ 2 * (first + whole) + 1 = count_in first (stores + 1) 2 whole (position_is (stores + 1) whole 2 e' (omega arith)) (published_is (stores + 1) whole 2 e' (omega arith)) in
         absurd (omega arith)
-    by_turn (suc (suc r)) t h = absurd (omega arith)
+    by_position (suc (suc r)) t h = absurd (omega arith)
 
 module _ (first : ℕ) (samples next : List Sample) (stores : ℕ) where
   still_on : (last count : ℕ) (body : List ℕ) → count ≤ count_after first stores → (count_after first stores ≡ count → IsStill samples stores last count body) → StoreEffect first samples next stores
@@ -112,7 +112,7 @@ module _ (first : ℕ) (samples next : List Sample) (stores : ℕ) where
         above = was.above;
         even = was.even;
         some = let some = was.some in let rises = published_rises stores in omega arith;
-        turn = turn_on first stores was.turn y.0;
+        position = position_on first stores was.position y.0;
         same = was.same ∙ ap (take (length body)) y.1;
       }) x) effect
 

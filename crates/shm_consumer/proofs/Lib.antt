@@ -6,4 +6,4 @@ pub mod Looking
 pub mod Parting
 pub mod Stepping
 pub mod Going
-pub mod Turns
+pub mod Positions

@@ -133,7 +133,7 @@ module _ (first slots seat : ℕ) (v : View) (role : v.role ≡ Takes) where
           let even : count_after first stores ≡ 2 * (first + stores / 13) + 0 = count_in first stores 0 (stores / 13) ended (published_is stores (stores / 13) 0 (omega arith) (omega arith)) in
           let half = half_count first stores in
           subst (λ (l : List ℕ). IsRunning first samples stores (last_from 0 v.consumed) (l ++ n ∷ [])) (sym reading.1)
-          (below, some, λ same. record { above = omega arith; even = omega arith; some = omega arith; turn = omega arith; same = refl })
+          (below, some, λ same. record { above = omega arith; even = omega arith; some = omega arith; position = omega arith; same = refl })
 
   -- a word of the body
   pub fetches : (place : ℕ) → place < 9 → length v.reading ≡ place + 2
@@ -160,7 +160,7 @@ module _ (first slots seat : ℕ) (v : View) (role : v.role ≡ Takes) where
               above = still.above;
               even = still.even;
               some = still.some;
-              turn = still.turn;
+              position = still.position;
               same = ap (λ (l : List ℕ). l ++ n ∷ []) front ∙ ap (λ (k : ℕ). take place now_body ++ k ∷ []) (word_body first samples stores valid place within) ∙ sym more ∙ ap (λ (k : ℕ). take k now_body) (sym longer);
             },
       )) tt)
@@ -193,11 +193,11 @@ module _ (first slots seat : ℕ) (v : View) (role : v.role ≡ Takes) where
           let same : n ≡ count = grind (arith, nat_tests) in
           let here : count_after first stores ≡ count = sym now ∙ same in
           let still = was.2 here in
-          let turn = still.turn in
+          let position = still.position in
           let half : count / 2 ≡ first + published_after stores = ap (λ (k : ℕ). k / 2) (sym here) ∙ half_count first stores in (
             (whole first samples stores (last_from 0 v.consumed) count body sound here nine still).1,
             still.above,
-            record { most = omega arith; below = λ last_turn. absurd (omega arith) },
+            record { most = omega arith; below = λ last_position. absurd (omega arith) },
           )
 
   -- the store of valid 0: the pair that was read is consumed

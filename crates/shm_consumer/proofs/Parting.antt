@@ -19,7 +19,7 @@ use Rattle.shm_consumer.specs.Rule.{Fits, HasRole, HandOffHolds, HoldsOf, may_gi
 use Rattle.shm_consumer.proofs.Keeps.{role_on, fits_set}
 use Rattle.shm_consumer.proofs.Storing.{idle_fits, valid_zero}
 
--- the last of a list stands at its end
+-- the last of a list is at its end
 at_end : {A : Type 0} → (l : List A) (a b : A) (j : ℕ) → get_elem? (l ++ a ∷ []) j ≡ some b → (get_elem? l j ≡ some b) ⊎ ((j ≡ length l) × (a ≡ b))
 at_end [] a b zero e = inr (refl, some-injective a b e)
 at_end [] a b (suc j) e = absurd (some-ne-none b (sym e))
@@ -171,7 +171,7 @@ new_holds first low =
       words_are = sym (ap (λ (ws : List ℕ). set ws 9 0) (new_words first));
       valid_is = valid_zero first 0 0;
       sound = record { reaches = omega arith; ranges = All-nil IsSample; numbers = omega arith };
-      behind = record { most = omega arith; below = λ turn. absurd (omega arith) };
+      behind = record { most = omega arith; below = λ position. absurd (omega arith) };
       fits = λ seat v at. only seat v at;
     }
   where

@@ -11,7 +11,7 @@ use Rattle.shm_segment.specs.Samples.{IsSample}
 use Rattle.shm_segment.specs.Words.{count_after, body_at, body_after, words_of, body_places}
 use Rattle.shm_segment.specs.Rule.{IsSound, IsTold, IsPublished}
 use Rattle.shm_segment.proofs.Samples.{body_more}
-use Rattle.shm_segment.proofs.Words.{count_in, odd_count, body_in, turn_is, published_is, published_last, stores_invalid, stores_odd, stores_body, stores_even, stores_valid}
+use Rattle.shm_segment.proofs.Words.{count_in, odd_count, body_in, position_is, published_is, published_last, stores_invalid, stores_odd, stores_body, stores_even, stores_valid}
 use Rattle.shm_segment.proofs.Running.{StoreEffect}
 use Rattle.shm_consumer.specs.declared.view.Role.{Role}
 use Rattle.shm_consumer.specs.declared.view.Role.TheVariants.{Gives}
@@ -84,7 +84,7 @@ module _ (first : ℕ) (samples more next : List Sample) (stores : ℕ) where
       )
 
 sound_on : (first : ℕ) (samples : List Sample) (stores : ℕ) → 0 < stores % 13 → IsSound first samples stores → IsSound first samples (stores + 1)
-sound_on first samples stores turn sound =
+sound_on first samples stores position sound =
     record { reaches = let reach = sound.reaches in let n : ℕ = length samples in omega arith; ranges = sound.ranges; numbers = sound.numbers }
 
 -- a store of another word than valid
@@ -97,7 +97,7 @@ same_word ws next value valid law = set-set ws 9 valid value ∙ sym (set-set ws
 
 -- while a sample is stored, valid is 0 and stays 0
 valid_low : (first stores last valid : ℕ) → 0 < stores % 13 → IsValid first stores last valid → valid ≡ 0
-valid_low first stores last valid turn is = by_value valid refl is.either
+valid_low first stores last valid position is = by_value valid refl is.either
   where
     by_value : (n : ℕ) → valid ≡ n → n ≤ 1 → valid ≡ 0
     by_value zero e h = e
@@ -118,15 +118,15 @@ module _ (first slots seat : ℕ) (samples : List Sample) (stores : ℕ) (me : M
 
   -- a word but valid
   further : (word value : ℕ) → 0 < stores % 13 → word ≢ 9 → set (words_of first samples stores) word value ≡ words_of first samples (stores + 1) → StoreEffect first samples samples stores → Keeps word value
-  further word value turn other law effect =
+  further word value position other law effect =
       at_seat word value
       (store_keeps first samples [] samples stores slots seat word value (append-nil samples)
       (λ last valid sound low behind. (
         0,
         record {
-          sound = sound_on first samples stores turn sound;
+          sound = sound_on first samples stores position sound;
           words = other_word (words_of first samples stores) (words_of first samples (stores + 1)) word value valid other law
-              ∙ ap (λ (v : ℕ). words_with first samples (stores + 1) v) (valid_low first stores last valid turn low);
+              ∙ ap (λ (v : ℕ). words_with first samples (stores + 1) v) (valid_low first stores last valid position low);
           is = valid_zero first (stores + 1) last;
           effect = effect;
         },
@@ -134,48 +134,48 @@ module _ (first slots seat : ℕ) (samples : List Sample) (stores : ℕ) (me : M
 
   -- the odd count
   pub keeps_odd : (number : ℕ) → stores % 13 ≡ 1 → number ≡ first + stores / 13 → Keeps 1 (2 * number + 1)
-  keeps_odd number turn n =
+  keeps_odd number position n =
       let whole : ℕ = stores / 13 in
       let e : stores ≡ 13 * whole + 1 = omega arith in
       let e' : stores + 1 ≡ 13 * whole + 2 = omega arith in
-      let before = count_in first stores 1 whole turn (published_is stores whole 1 e (omega arith)) in
-      let after = count_in first (stores + 1) 2 whole (turn_is (stores + 1) whole 2 e' (omega arith)) (published_is (stores + 1) whole 2 e' (omega arith)) in
+      let before = count_in first stores 1 whole position (published_is stores whole 1 e (omega arith)) in
+      let after = count_in first (stores + 1) 2 whole (position_is (stores + 1) whole 2 e' (omega arith)) (published_is (stores + 1) whole 2 e' (omega arith)) in
       further 1 (2 * number + 1) (omega arith) (λ same. omega arith)
       (ap (λ (k : ℕ). set (words_of first samples stores) 1 (2 * k + 1)) n ∙ stores_odd first samples stores whole e)
       (inl (let b : count_after first stores ≡ 2 * (first + whole) + 0 = before in let a : count_after first (stores + 1) ≡ 2 * (first + whole) + 1 = after in omega arith))
 
   -- a word of the body
   pub keeps_body : (place value : ℕ) → place < 9 → slice_index body_places place ≢ 9 → stores % 13 ≡ place + 2 → slice_index (body_at samples (stores / 13 + 1)) place ≡ value → Keeps (slice_index body_places place) value
-  keeps_body place value within other turn v =
+  keeps_body place value within other position v =
       let whole : ℕ = stores / 13 in
       let e : stores ≡ 13 * whole + (place + 2) = omega arith in
       let e' : stores + 1 ≡ 13 * whole + (place + 3) = omega arith in
-      let before = odd_count first (place + 2) whole stores (omega arith) (omega arith) turn (published_is stores whole (place + 2) e (omega arith)) in
-      let after = odd_count first (place + 3) whole (stores + 1) (omega arith) (omega arith) (turn_is (stores + 1) whole (place + 3) e' (omega arith)) (published_is (stores + 1) whole (place + 3) e' (omega arith)) in
+      let before = odd_count first (place + 2) whole stores (omega arith) (omega arith) position (published_is stores whole (place + 2) e (omega arith)) in
+      let after = odd_count first (place + 3) whole (stores + 1) (omega arith) (omega arith) (position_is (stores + 1) whole (place + 3) e' (omega arith)) (published_is (stores + 1) whole (place + 3) e' (omega arith)) in
       further (slice_index body_places place) value (omega arith) other
       (ap (λ (x : ℕ). set (words_of first samples stores) (slice_index body_places place) x) (sym v) ∙ stores_body first samples stores whole place within e)
       (inr (inl (before ∙ sym after, ap (λ (n : ℕ). n % 2) before ∙ (let o : (2 * (first + whole) + 1) % 2 ≡ 1 = omega arith in o))))
 
   -- the even count, which publishes the sample
   pub keeps_even : (number : ℕ) → stores % 13 ≡ 11 → number ≡ first + stores / 13 → Keeps 1 (2 * number + 2)
-  keeps_even number turn n =
+  keeps_even number position n =
       let whole : ℕ = stores / 13 in
       let e : stores ≡ 13 * whole + 11 = omega arith in
       let e' : stores + 1 ≡ 13 * whole + 12 = omega arith in
-      let before = count_in first stores 11 whole turn (published_is stores whole 11 e (omega arith)) in
-      let after = count_in first (stores + 1) 12 (whole + 1) (turn_is (stores + 1) whole 12 e' (omega arith)) (published_last (stores + 1) whole e') in
+      let before = count_in first stores 11 whole position (published_is stores whole 11 e (omega arith)) in
+      let after = count_in first (stores + 1) 12 (whole + 1) (position_is (stores + 1) whole 12 e' (omega arith)) (published_last (stores + 1) whole e') in
       further 1 (2 * number + 2) (omega arith) (λ same. omega arith)
       (ap (λ (k : ℕ). set (words_of first samples stores) 1 (2 * k + 2)) n ∙ stores_even first samples stores whole e)
       (inl (let b : count_after first stores ≡ 2 * (first + whole) + 1 = before in let a : count_after first (stores + 1) ≡ 2 * (first + (whole + 1)) + 0 = after in omega arith))
 
   -- valid 1: the sample's number is above the taker's last
   pub keeps_valid : stores % 13 ≡ 12 → Keeps 9 1
-  keeps_valid turn =
+  keeps_valid position =
       let whole : ℕ = stores / 13 in
       let e : stores ≡ 13 * whole + 12 = omega arith in
       let e' : stores + 1 ≡ 13 * (whole + 1) + 0 = omega arith in
       let p = published_last stores whole e in
-      let t' = turn_is (stores + 1) (whole + 1) 0 e' (omega arith) in
+      let t' = position_is (stores + 1) (whole + 1) 0 e' (omega arith) in
       let p' = published_is (stores + 1) (whole + 1) 0 e' (omega arith) in
       at_seat 9 1
       (store_keeps first samples [] samples stores slots seat 9 1 (append-nil samples)
@@ -184,26 +184,26 @@ module _ (first slots seat : ℕ) (samples : List Sample) (stores : ℕ) (me : M
         record {
           sound = sound_on first samples stores (omega arith) sound;
           words = same_word (words_of first samples stores) (words_of first samples (stores + 1)) 1 valid (stores_valid first samples stores whole e);
-          is = record { either = omega arith; ended = λ _. t'; some = λ _. omega arith; above = λ _. let below = behind.below turn in omega arith };
-          effect = inr (inr (count_in first stores 12 (whole + 1) turn p ∙ sym (count_in first (stores + 1) 0 (whole + 1) t' p'), body_in samples stores 12 (whole + 1) turn p ∙ sym (body_in samples (stores + 1) 0 (whole + 1) t' p')));
+          is = record { either = omega arith; ended = λ _. t'; some = λ _. omega arith; above = λ _. let below = behind.below position in omega arith };
+          effect = inr (inr (count_in first stores 12 (whole + 1) position p ∙ sym (count_in first (stores + 1) 0 (whole + 1) t' p'), body_in samples stores 12 (whole + 1) position p ∙ sym (body_in samples (stores + 1) 0 (whole + 1) t' p')));
         },
       )))
 
   -- valid 0, with which a sample joins the list
   pub keeps_invalid : (s : Sample) → stores % 13 ≡ 0 → first + length samples < 1_073_741_823 → IsSample s
       → Allows {S = Unit {0}} (HoldsOf first) slots seat me 9 (λ _. 0) (λ _ (after : Me (Unit {0}) View). after ≡ (begun me.0 s, []))
-  keeps_invalid s turn room range =
+  keeps_invalid s position room range =
       let whole : ℕ = stores / 13 in
       let e : stores ≡ 13 * whole + 0 = omega arith in
       let e' : stores + 1 ≡ 13 * whole + 1 = omega arith in
       let next = samples ++ s ∷ [] in
       let p = published_is stores whole 0 e (omega arith) in
-      let t' = turn_is (stores + 1) whole 1 e' (omega arith) in
+      let t' = position_is (stores + 1) whole 1 e' (omega arith) in
       let p' = published_is (stores + 1) whole 1 e' (omega arith) in
       let low : IsSound first samples stores → whole ≤ length samples = λ sound. let reach = sound.reaches in omega arith in
       let body : IsSound first samples stores → body_after samples stores ≡ body_after next (stores + 1) = λ sound.
       let same = sym (body_more samples (s ∷ []) whole (low sound)) in
-      body_in samples stores 0 whole turn p
+      body_in samples stores 0 whole position p
       ∙ (λ i. slice_index (same i) 0 ∷ slice_index (same i) 1 ∷ slice_index (same i) 2 ∷ slice_index (same i) 3 ∷ slice_index (same i) 4 ∷ slice_index (same i) 5 ∷ slice_index (same i) 6 ∷ slice_index (same i) 7 ∷ slice_index (same i) 8 ∷ [])
       ∙ sym (body_in next (stores + 1) 1 whole t' p') in
       let long = length-append samples (s ∷ []) in
@@ -219,7 +219,7 @@ module _ (first slots seat : ℕ) (samples : List Sample) (stores : ℕ) (me : M
           };
           words = same_word (words_of first samples stores) (words_of first next (stores + 1)) 0 valid (stores_invalid first samples stores whole s e (low sound));
           is = valid_zero first (stores + 1) last;
-          effect = inr (inr (count_in first stores 0 whole turn p ∙ sym (count_in first (stores + 1) 1 whole t' p'), body sound));
+          effect = inr (inr (count_in first stores 0 whole position p ∙ sym (count_in first (stores + 1) 1 whole t' p'), body sound));
         },
       )))
 

@@ -20,7 +20,7 @@ pub record IsGiver (table : TableId) (me : Me (Unit {0}) View) (number : ℕ) (p
   pub keeps : IsPublisher table (publisher me.0.first me.0.known.samples me.0.known.stores, []) number phase begun
 
 -- the seat is this segment's giver, and has made this number of stores of a sample
-pub record IsGiving (segment : SegmentId) (table : TableId) (me : Me (Unit {0}) View) (turn : ℕ) : Type 0 where
+pub record IsGiving (segment : SegmentId) (table : TableId) (me : Me (Unit {0}) View) (position : ℕ) : Type 0 where
   pub part : table ≡ segment.table
   pub view : me ≡ (giver segment.first me.0.known.samples me.0.known.stores, [])
-  pub made : me.0.known.stores % 13 ≡ turn
+  pub made : me.0.known.stores % 13 ≡ position

@@ -1,4 +1,5 @@
--- The taker's reading as the list of the values that it loaded, how it ends, and its steps. Source: the NTP reference clock driver 28, mode 1: a reader looks at count before and after it copies the body, and clears valid behind it. When it clears is this project's own.
+-- The taker's reading as the list of the values that it loaded, how it ends, and its steps. Source: the NTP reference clock driver 28, mode 1: a
+-- reader looks at count before and after it copies the body, and clears valid after that. When it clears is this project's own.
 use Rattle.std.specs.Prelude.{◌≡◌, ◌≢◌, ℕ, ◌/◌, ◌<◌, List, [], ◌∷◌, ◌++◌, length}
 use Rattle.shm_segment.specs.declared.view.Numbered.{Numbered}
 use Rattle.shm_segment.specs.Samples.{sample_of}
@@ -22,7 +23,8 @@ abbrev pub IsTwelve : List ℕ → ℕ → List ℕ → ℕ → Type 0
 IsTwelve values before body after =
     (valid : ℕ) × (0 < valid) × (length body ≡ 9) × (values ≡ before ∷ valid ∷ (body ++ after ∷ []))
 
--- NotReady after two values, the second 0; Clash after twelve with two different counts; Consumed after twelve with one count, of which the number is half, and the sample is that of the body
+-- NotReady after two values, the second 0; Clash after twelve with two different counts; Consumed after twelve with one count, whose half is the
+-- number, and the sample is that of the body
 abbrev pub EndsAs : Consumption → List ℕ → Type 0
 EndsAs (Consumed number sample) values =
     (count : ℕ) × (body : List ℕ) × IsTwelve values count body count × (number ≡ count / 2) × (sample ≡ sample_of body)

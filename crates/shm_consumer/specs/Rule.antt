@@ -1,4 +1,5 @@
--- The rule that every step on a hand-off segment keeps: what the words are, and what each seat may know. This project's own, the clearing of valid among it; that count is odd while the body is written is that of the NTP reference clock driver 28, mode 1.
+-- The rule that every step on a hand-off segment keeps: what the words are, and what each seat may know. This project's own, the clearing of valid
+-- among it; that count is odd while the body is written is that of the NTP reference clock driver 28, mode 1.
 -- A sample takes thirteen stores: stores % 13 of the running one are made, and published_after stores samples are published.
 use Rattle.std.specs.Prelude.{◌≡◌, ◌≢◌, ℕ, ◌+◌, ◌/◌, ◌%◌, ◌^◌, ◌<◌, ◌≤◌, Bool, true, false, List, [], ◌∷◌, length, take, slice_get, slice_set, Option, Some, None}
 use Rattle.std.specs.List.{All}
@@ -41,12 +42,13 @@ abbrev pub IsOnce : List Numbered → Type 0
 IsOnce pairs =
     (i j : ℕ) (a b : Numbered) → slice_get pairs i ≡ Some a → slice_get pairs j ≡ Some b → a.number ≡ b.number → i ≡ j
 
--- half of the count is above the last number, it is even, a sample is published, none is begun beyond its first store, and the body got so far is the body now
+-- half of the count is above the last number, it is even, a sample is published, none is begun beyond its first store, and the part of the body that
+-- was loaded so far is the body now
 pub record IsStill (samples : List Sample) (stores last count : ℕ) (body : List ℕ) : Type 0 where
   pub above : last < count / 2
   pub even : count % 2 ≡ 0
   pub some : 1 ≤ published_after stores
-  pub turn : stores % 13 ≤ 1
+  pub position : stores % 13 ≤ 1
   pub same : body ≡ take (length body) (body_after samples stores)
 
 -- a running reading: the first count, then a valid that was not 0, then words of the body
@@ -107,7 +109,7 @@ pub record HandOffHolds (first : ℕ) (words : List ℕ) (views : List View) : T
 abbrev pub HoldsOf : ℕ → State (Unit {0}) View → Type 0
 HoldsOf first state = HandOffHolds first state.words state.views
 
--- what the second count of a reading tells: if both counts are equal, the body is that of a sample
+-- what the second count of a reading shows: if both counts are equal, the body is that of a sample
 abbrev pub IsRecounted : View → ℕ → Type 0
 IsRecounted v again =
     (again < 2 ^ 32)

@@ -29,7 +29,7 @@ pub record Taking : Type 0 where
 abbrev pub untaken : SegmentId → Taking
 untaken segment = record { segment = segment; consumed = []; made = []; reading = [] }
 
--- the values of a reading that got so far: count, a valid of 1, the body, and count again
+-- the values of a reading that came so far: count, a valid of 1, the body, and count again
 abbrev pub values_of : ℕ → ℕ → List ℕ → List ℕ
 values_of at count body = take at (count ∷ 1 ∷ (body ++ count ∷ []))
 
@@ -38,7 +38,7 @@ abbrev pub taking : TableId → View → List ℕ → Taking
 taking table v reading =
     record { segment = record { table = table; first = v.first }; consumed = v.consumed; made = v.made; reading = reading }
 
--- the code keeps the reading's values, of which the view has the same, or after the second count the pair that they are
+-- the code keeps the reading's values, as the view does, or after the second count the pair that they are
 pub record IsTaker (me : Me (Unit {0}) View) (at count : ℕ) (body : List ℕ) : Type 0 where
   pub role : me.0.role ≡ Takes
   pub free : me.1 ≡ []

@@ -134,7 +134,7 @@ impl Taker {
     /// A valid of 0 ends the reading with NotReady, and a second count that differs from the first with Clash. A second
     /// count that equals the first is Loaded; the step after it clears valid and answers Cleared. Each number is above
     /// all those before it, so no sample is consumed twice.
-    #[tactic(auto, using(crate::proofs::Turns::rises_once))]
+    #[tactic(auto, using(crate::proofs::Positions::rises_once))]
     pub fn step(&mut self, hand: &HandOff) -> TakeStep
         requires { self.old.segment ≡ hand.now }
         ensures takes { TakesAs self.old result self.new }
@@ -161,12 +161,15 @@ impl Taker {
     ///
     /// The number of a consumed sample is half of the count that was loaded twice. It is above all those consumed before,
     /// so no sample is consumed twice.
-    #[tactic(auto, using(crate::proofs::Turns::rises_once))]
+    #[tactic(auto, using(crate::proofs::Positions::rises_once))]
     pub fn consume(&mut self, hand: &HandOff) -> Consumption
+        // What the reading gives, and in how many steps.
         requires { self.old.segment ≡ hand.now }
         ensures consumed { HasConsumed self.old result self.new }
         ensures above { IsAbove self.old.consumed result }
         ensures steps { HasSteps result (length self.old.made) (length self.new.made) }
+
+        // The segment stays. No sample is consumed twice.
         ensures segment { self.new.segment ≡ self.old.segment }
         ensures rises { RisesStrictly 0 self.new.consumed }
         ensures once { IsOnce self.new.consumed }

@@ -18,12 +18,12 @@ pub enum Access {
     Store { word: u64, value: u64 },
 }
 
-/// What a seat knows. It exists in proofs alone: no value of it is made.
+/// What a seat knows. It exists only in proofs: no value of it is made.
 pub struct View {
     pub role: Role,
     /// The segment's first number.
     pub first: u32,
-    /// The giver's list and number of stores; of another seat what it was told of them.
+    /// The giver's list and number of stores; for another seat, what it knows of them.
     pub known: KnownSamples,
     /// The pairs that the taker consumed.
     pub consumed: LinkedList<Numbered>,

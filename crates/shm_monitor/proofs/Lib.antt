@@ -1,4 +1,4 @@
 pub mod Whole
 pub mod Keeping
 pub mod Going
-pub mod Turns
+pub mod Positions

@@ -34,10 +34,10 @@ word_valid first samples stores some = by_case (stores % 13 == 0) refl some
   where
     by_case : (b : Bool) → (stores % 13 == 0) ≡ b → 0 < (if b && nat_lt 0 stores then 1 else 0) → (count_at first (stores % 13) ((stores + 1) / 13) % 2 ≡ 0) × (1 ≤ (stores + 1) / 13)
     by_case true test h =
-        let turn : stores % 13 ≡ 0 = grind (arith, nat_tests) in
+        let position : stores % 13 ≡ 0 = grind (arith, nat_tests) in
         let made = made_some (nat_lt 0 stores) h in
         let low : 0 < stores = grind (arith, nat_tests) in (
-          ap (λ (t : ℕ). count_at first t ((stores + 1) / 13) % 2) turn ∙ (let e : (2 * (first + (stores + 1) / 13) + 0) % 2 ≡ 0 = omega arith in e),
+          ap (λ (t : ℕ). count_at first t ((stores + 1) / 13) % 2) position ∙ (let e : (2 * (first + (stores + 1) / 13) + 0) % 2 ≡ 0 = omega arith in e),
           omega arith,
         )
       where

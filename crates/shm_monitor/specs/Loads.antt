@@ -1,4 +1,4 @@
--- How a monitor's view changes by each of its loads, and what the load tells.
+-- How a monitor's view changes by each of its loads, and what the load shows.
 use Rattle.std.specs.Prelude.{◌≡◌, ℕ, ◌+◌, ◌*◌, ◌/◌, ◌^◌, ◌<◌, ◌≤◌, List, [], ◌∷◌, ◌++◌, length, ◌==◌, nat_le, if◌then◌else◌}
 use Rattle.std.specs.List.{All}
 use Rattle.shm_segment.specs.declared.view.KnownSamples.{KnownSamples}
@@ -72,6 +72,6 @@ abbrev pub Agrees : ℕ → KnownSamples → List Numbered → Type 0
 Agrees first k taken =
     All (λ (pair : Numbered). pair.number ≤ first + published_after k.stores → IsPublished first k.samples k.stores pair) taken
 
--- what the second count of a reading tells
+-- what the second count of a reading shows
 abbrev pub IsRecounted : View → ℕ → Type 0
 IsRecounted v again = (count valid : ℕ) (body : List ℕ) → v.reading ≡ count ∷ valid ∷ body → length body ≡ 9 → IsLastCount (last_from 0 v.taken) count valid body again

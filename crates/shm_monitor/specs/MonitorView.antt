@@ -18,7 +18,7 @@ use Rattle.shm_monitor.specs.declared.reading.Reading.TheVariants.{Taken, NotRea
 use Rattle.shm_monitor.specs.Loads.{load, later_of}
 use Rattle.shm_monitor.specs.Readings.{reading_words, loads_of, EndsAs, taken_with}
 
--- a monitor: what it was told, the pairs that it took, its loads, and the values of the running reading
+-- a monitor: how many stores it knows of, the pairs that it took, its loads, and the values of the running reading
 pub record MonitorView : Type 0 where
   pub segment : SegmentId
   pub known : KnownSamples
@@ -35,7 +35,7 @@ abbrev pub watching : TableId → View → List ℕ → MonitorView
 watching table v reading =
     record { segment = record { table = table; first = v.first }; known = v.known; taken = v.taken; kept = v.kept; reading = reading }
 
--- the code keeps the reading's values, of which the view has the same once one is loaded, and the last number
+-- the code keeps the reading's values, as the view does once one is loaded, and the last number
 pub record IsMonitor (me : Me (Unit {0}) View) (at count valid : ℕ) (body : List ℕ) (last : ℕ) : Type 0 where
   pub role : me.0.role ≡ Monitors
   pub free : me.1 ≡ []
@@ -46,7 +46,7 @@ pub record IsMonitor (me : Me (Unit {0}) View) (at count valid : ℕ) (body : Li
   pub last_is : last ≡ last_from 0 me.0.taken
   pub rises : Rises 0 me.0.taken
 
--- one load of the next word of the reading: the monitor keeps it, and was told no more
+-- one load of the next word of the reading: the monitor keeps it, and learns nothing else
 abbrev pub after_load : MonitorView → ℕ → List Numbered → List ℕ → MonitorView
 after_load w value taken reading =
     record {

@@ -1,4 +1,5 @@
--- A reading as the list of the values that it loaded, and how it ends. Source: the NTP reference clock driver 28, mode 1: a reader looks at count before and after it copies the body.
+-- A reading as the list of the values that it loaded, and how it ends. Source: the NTP reference clock driver 28, mode 1: a reader looks at count
+-- before and after it copies the body.
 use Rattle.std.specs.Prelude.{◌≡◌, ◌≢◌, ℕ, ◌/◌, ◌<◌, List, [], ◌∷◌, ◌++◌, length}
 use Rattle.shm_segment.specs.declared.view.Load.{Load}
 use Rattle.shm_segment.specs.declared.view.Numbered.{Numbered}
@@ -11,7 +12,7 @@ use Rattle.shm_monitor.specs.Loads.{load}
 abbrev pub reading_words : List ℕ
 reading_words = 1 ∷ 9 ∷ 2 ∷ 3 ∷ 4 ∷ 5 ∷ 6 ∷ 7 ∷ 8 ∷ 10 ∷ 11 ∷ 1 ∷ []
 
--- the loads of these words that gave these values, after this number of stores was told
+-- the loads of these words that gave these values, after it knew of this number of stores
 abbrev pub loads_of : ℕ → List ℕ → List ℕ → List Load
 loads_of told words [] = []
 loads_of told [] (value ∷ values) = []
@@ -22,7 +23,8 @@ abbrev pub IsTwelve : List ℕ → ℕ → List ℕ → ℕ → Type 0
 IsTwelve values before body after =
     (valid : ℕ) × (0 < valid) × (length body ≡ 9) × (values ≡ before ∷ valid ∷ (body ++ after ∷ []))
 
--- NotReady after two values, the second 0; Clash after twelve with two different counts; Taken after twelve with one count, of which the number is half, and the sample is that of the body
+-- NotReady after two values, the second 0; Clash after twelve with two different counts; Taken after twelve with one count, whose half is the number,
+-- and the sample is that of the body
 abbrev pub EndsAs : Reading → List ℕ → Type 0
 EndsAs (Taken pair) values =
     (count : ℕ) × (body : List ℕ) × IsTwelve values count body count × (pair.number ≡ count / 2) × (pair.sample ≡ sample_of body)

@@ -11,7 +11,7 @@ use shm_segment::{
 };
 use std::marker::Model;
 
-/// Takes samples from a segment. Contracts see what it was told, its pairs, its loads, and its running reading.
+/// Takes samples from a segment. Contracts see what it knows of the stores, its pairs, its loads, and its running reading.
 #[derive(Drop)]
 pub struct Monitor {
     seat: TableSeat,
@@ -117,7 +117,7 @@ impl Monitor {
 
     /// Makes the one next load of the running reading, or of a new one: count, valid, the nine words of the body, count.
     /// A valid of 0 ends the reading with NotReady, and the second count with Taken or Clash.
-    #[tactic(auto, using(crate::proofs::Turns::load_segment, crate::proofs::Turns::load_one))]
+    #[tactic(auto, using(crate::proofs::Positions::load_segment, crate::proofs::Positions::load_one))]
     pub fn step(&mut self, segment: &Segment) -> MonStep
         requires { self.old.segment ≡ segment.now }
         ensures loads { LoadsAs self.old result self.new }
@@ -169,7 +169,7 @@ impl Monitor {
     }
 
     /// Compares the pairs with a notice: each pair whose number the notice reaches is its sample of that number. From now
-    /// on the monitor has been told of as many stores as the notice says, or of more. It loads word 0 twice.
+    /// on the monitor knows of as many stores as the notice says, or of more. It loads word 0 twice.
     pub fn meet(&mut self, segment: &Segment, notice: Notice)
         requires monitor { self.old.segment ≡ segment.now }
         requires notice { notice.segment ≡ segment.now }

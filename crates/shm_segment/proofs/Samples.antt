@@ -40,7 +40,7 @@ body_last samples s = ap (λ (k : ℕ). body_at (samples ++ s ∷ []) k) (let e 
     last [] = refl
     last (x ∷ xs) = last xs
 
--- the body of the sample that stands there
+-- the body of the sample that is there
 pub body_there : (samples : List Sample) (k : ℕ) (s : Sample) → slice_get samples k ≡ Some s → body_at samples (k + 1) ≡ body_of s
 body_there samples k s e = ap (λ (n : ℕ). body_at samples n) (let e' : k + 1 ≡ suc k = omega arith in e') ∙ there samples k e
   where

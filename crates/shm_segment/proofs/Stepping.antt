@@ -16,7 +16,7 @@ use Rattle.shm_segment.specs.Samples.{body_of}
 use Rattle.shm_segment.specs.Words.{count_after, body_at, body_places, stores_of, words_of}
 use Rattle.shm_segment.specs.Views.{begun, stored}
 use Rattle.shm_segment.specs.Seats.{SegmentId}
-use Rattle.shm_segment.specs.Publishing.{Publishing, publishing, IsPublishing, IsPublisher, StepsAs, stepped, count_of, turn_of, beginning, next_of, flag_of, IsPlace}
+use Rattle.shm_segment.specs.Publishing.{Publishing, publishing, IsPublishing, IsPublisher, StepsAs, stepped, count_of, position_of, beginning, next_of, flag_of, IsPlace}
 use Rattle.shm_segment.proofs.Samples.{body_last}
 use Rattle.shm_segment.proofs.Words.{count_in, odd_count, published_is, stores_invalid, stores_odd, stores_body, stores_even, stores_valid}
 
@@ -24,9 +24,9 @@ use Rattle.shm_segment.proofs.Words.{count_in, odd_count, published_is, stores_i
 pub idle_count : (p : Publishing) → IsPublishing p → p.phase ≡ Idle → count_of p ≡ 2 * (p.segment.first + p.stores / 13)
 idle_count p keeps idle =
     let whole : ℕ = p.stores / 13 in
-    let turn : p.stores % 13 ≡ 0 = keeps.turn ∙ ap turn_of idle in
+    let position : p.stores % 13 ≡ 0 = keeps.position ∙ ap position_of idle in
     let e : p.stores ≡ 13 * whole + 0 = omega arith in
-    count_in p.segment.first p.stores 0 whole turn (published_is p.stores whole 0 e (omega arith)) ∙ (let z : 2 * (p.segment.first + whole) + 0 ≡ 2 * (p.segment.first + whole) = omega arith in z)
+    count_in p.segment.first p.stores 0 whole position (published_is p.stores whole 0 e (omega arith)) ∙ (let z : 2 * (p.segment.first + whole) + 0 ≡ 2 * (p.segment.first + whole) = omega arith in z)
 
 pub spent : (view old : Publishing) (number : ℕ) → view ≡ old → IsPublishing view → number ≡ view.segment.first + view.stores / 13 → view.phase ≡ Idle → number ≡ 1_073_741_823
     → (old.phase ≡ Idle) × (count_of old ≡ 2_147_483_646) × (old ≡ old)
@@ -40,13 +40,13 @@ begins_free view old number sample is keeps numbers idle free =
     let count = idle_count view keeps idle in
     subst (λ (p : Publishing). (p.phase ≡ Idle) × (count_of p ≢ 2_147_483_646) × (beginning view sample ≡ beginning p sample)) is (idle, (λ full. free (omega arith)), refl)
 
--- a whole division by thirteen, at a turn but the last
-same_whole : (stores turn : ℕ) → stores % 13 ≡ turn → turn < 12 → (stores + 1) / 13 ≡ stores / 13
-same_whole stores turn t h = omega arith
+-- a whole division by thirteen, at a position but the last
+same_whole : (stores position : ℕ) → stores % 13 ≡ position → position < 12 → (stores + 1) / 13 ≡ stores / 13
+same_whole stores position t h = omega arith
 
 -- the samples of a publisher that writes the last of them
 writes_on : (samples : List Sample) (s : Sample) (stores : ℕ) → stores % 13 < 12 → samples ≡ take (stores / 13) samples ++ s ∷ [] → samples ≡ take ((stores + 1) / 13) samples ++ s ∷ []
-writes_on samples s stores turn e = subst (λ (n : ℕ). samples ≡ take n samples ++ s ∷ []) (sym (same_whole stores (stores % 13) refl turn)) e
+writes_on samples s stores position e = subst (λ (n : ℕ). samples ≡ take n samples ++ s ∷ []) (sym (same_whole stores (stores % 13) refl position)) e
 
 -- what a publisher keeps, it keeps by a store
 module _ (segment : SegmentId) (samples : List Sample) (stores : ℕ) (sample : Sample) where
@@ -55,13 +55,13 @@ module _ (segment : SegmentId) (samples : List Sample) (stores : ℕ) (sample : 
 
   after_invalid : IsPublishing (at ToInvalid) → IsPublishing (stepped (at ToInvalid))
   after_invalid k =
-      let turn = k.turn in
+      let position = k.position in
       let count = k.count in
       let numbers = k.numbers in
       let long = length-append samples (sample ∷ []) in
       let whole : (stores + 1) / 13 ≡ length samples = omega arith in
       record {
-        turn = omega arith;
+        position = omega arith;
         place = tt;
         count = omega arith;
         numbers = omega arith;
@@ -71,10 +71,10 @@ module _ (segment : SegmentId) (samples : List Sample) (stores : ℕ) (sample : 
 
   after_odd : IsPublishing (at ToOdd) → IsPublishing (stepped (at ToOdd))
   after_odd k =
-      let turn = k.turn in
+      let position = k.position in
       let count = k.count in
       let numbers = k.numbers in
-      record { turn = omega arith; place = omega arith; count = omega arith; numbers = omega arith; writes = λ _. writes_on samples sample stores (omega arith) (k.writes (omega arith)); range = k.range }
+      record { position = omega arith; place = omega arith; count = omega arith; numbers = omega arith; writes = λ _. writes_on samples sample stores (omega arith) (k.writes (omega arith)); range = k.range }
 
   after_body : (place : ℕ) → IsPublishing (at (ToBody place)) → IsPublishing (stepped (at (ToBody place)))
   after_body place k = by_case (nat_lt place 8) refl
@@ -82,31 +82,31 @@ module _ (segment : SegmentId) (samples : List Sample) (stores : ℕ) (sample : 
       by_case : (b : Bool) → nat_lt place 8 ≡ b → IsPublishing (record { segment = segment; samples = samples; stores = stores + 1; phase = if b then ToBody (place + 1) else ToEven; begun = sample })
       by_case true test =
           let within : place < 8 = grind (arith, nat_tests) in
-          let turn = k.turn in
+          let position = k.position in
           let count = k.count in
           let numbers = k.numbers in
-          record { turn = omega arith; place = omega arith; count = omega arith; numbers = omega arith; writes = λ _. writes_on samples sample stores (omega arith) (k.writes (omega arith)); range = k.range }
+          record { position = omega arith; place = omega arith; count = omega arith; numbers = omega arith; writes = λ _. writes_on samples sample stores (omega arith) (k.writes (omega arith)); range = k.range }
       by_case false test =
           let past : 8 ≤ place = grind (arith, nat_tests) in
           let place' = k.place in
-          let turn = k.turn in
+          let position = k.position in
           let count = k.count in
           let numbers = k.numbers in
-          record { turn = omega arith; place = tt; count = omega arith; numbers = omega arith; writes = λ _. writes_on samples sample stores (omega arith) (k.writes (omega arith)); range = k.range }
+          record { position = omega arith; place = tt; count = omega arith; numbers = omega arith; writes = λ _. writes_on samples sample stores (omega arith) (k.writes (omega arith)); range = k.range }
 
   after_even : IsPublishing (at ToEven) → IsPublishing (stepped (at ToEven))
   after_even k =
-      let turn = k.turn in
+      let position = k.position in
       let count = k.count in
       let numbers = k.numbers in
-      record { turn = omega arith; place = tt; count = omega arith; numbers = omega arith; writes = λ _. writes_on samples sample stores (omega arith) (k.writes (omega arith)); range = k.range }
+      record { position = omega arith; place = tt; count = omega arith; numbers = omega arith; writes = λ _. writes_on samples sample stores (omega arith) (k.writes (omega arith)); range = k.range }
 
   after_valid : IsPublishing (at ToValid) → IsPublishing (stepped (at ToValid))
   after_valid k =
-      let turn = k.turn in
+      let position = k.position in
       let count = k.count in
       let numbers = k.numbers in
-      record { turn = omega arith; place = tt; count = omega arith; numbers = omega arith; writes = λ none. absurd (omega arith); range = k.range }
+      record { position = omega arith; place = tt; count = omega arith; numbers = omega arith; writes = λ none. absurd (omega arith); range = k.range }
 
 -- the body that is being written is that of the last sample
 pub writing : (samples : List Sample) (s : Sample) (whole : ℕ) → whole ≤ length samples → samples ≡ take whole samples ++ s ∷ [] → body_at samples (whole + 1) ≡ body_of s
@@ -153,12 +153,12 @@ module _ (table : TableId) (me : Me (Unit {0}) View) (number : ℕ) (sample : Sa
   pub steps_invalid : Before ToInvalid → me' ≡ (begun me.0 sample, []) → result ≡ Stored 9 0 → Stepped old table' me' number ToOdd sample result
   steps_invalid was m r =
       let keeps = was.0.keeps in
-      let turn = keeps.turn in
+      let position = keeps.position in
       let count = keeps.count in
       let stores : ℕ = me.0.known.stores in
       let samples : List Sample = me.0.known.samples in
       as_code (publishing table me.0 ToInvalid sample) old table table' me' (begun me.0 sample) number ToOdd sample (Stored 9 0) result was.1 was.2 m r (
-        record { view = refl; numbers = was.0.numbers ∙ ap (λ (k : ℕ). me.0.first + k) (sym (same_whole stores 0 turn (omega arith))); keeps = after_invalid (record { table = table; first = me.0.first }) samples stores sample keeps },
+        record { view = refl; numbers = was.0.numbers ∙ ap (λ (k : ℕ). me.0.first + k) (sym (same_whole stores 0 position (omega arith))); keeps = after_invalid (record { table = table; first = me.0.first }) samples stores sample keeps },
         (
           (λ idle. cc),
           record {
@@ -171,11 +171,11 @@ module _ (table : TableId) (me : Me (Unit {0}) View) (number : ℕ) (sample : Sa
 
   pub steps_odd : Before ToOdd → me' ≡ (stored me.0, []) → result ≡ Stored 1 (2 * number + 1) → Stepped old table' me' number (ToBody 0) sample result
   steps_odd was m r =
-      let turn = was.0.keeps.turn in
+      let position = was.0.keeps.position in
       let stores : ℕ = me.0.known.stores in
       let n : number ≡ me.0.first + stores / 13 = was.0.numbers in
       as_code (publishing table me.0 ToOdd sample) old table table' me' (stored me.0) number (ToBody 0) sample (Stored 1 (2 * number + 1)) result was.1 was.2 m r (
-        record { view = refl; numbers = n ∙ ap (λ (k : ℕ). me.0.first + k) (sym (same_whole stores 1 turn (omega arith))); keeps = after_odd (record { table = table; first = me.0.first }) me.0.known.samples stores sample was.0.keeps },
+        record { view = refl; numbers = n ∙ ap (λ (k : ℕ). me.0.first + k) (sym (same_whole stores 1 position (omega arith))); keeps = after_odd (record { table = table; first = me.0.first }) me.0.known.samples stores sample was.0.keeps },
         (
           (λ idle. cc),
           record {
@@ -189,7 +189,7 @@ module _ (table : TableId) (me : Me (Unit {0}) View) (number : ℕ) (sample : Sa
   pub steps_body : (place : ℕ) (next : Phase) → Before (ToBody place) → next ≡ next_of (ToBody place) → me' ≡ (stored me.0, []) → result ≡ Stored (slice_index body_places place) (slice_index (body_of sample) place) → Stepped old table' me' number next sample result
   steps_body place next was p m r =
       let keeps = was.0.keeps in
-      let turn : me.0.known.stores % 13 ≡ place + 2 = keeps.turn in
+      let position : me.0.known.stores % 13 ≡ place + 2 = keeps.position in
       let within : place < 9 = keeps.place in
       let stores : ℕ = me.0.known.stores in
       let samples : List Sample = me.0.known.samples in
@@ -199,7 +199,7 @@ module _ (table : TableId) (me : Me (Unit {0}) View) (number : ℕ) (sample : Sa
       let word = slice_index body_places place in
       subst (λ (q : Phase). Stepped old table' me' number q sample result) (sym p)
       (as_code (publishing table me.0 (ToBody place) sample) old table table' me' (stored me.0) number (next_of (ToBody place)) sample (Stored word (slice_index (body_of sample) place)) result was.1 was.2 m r (
-        record { view = refl; numbers = was.0.numbers ∙ ap (λ (k : ℕ). me.0.first + k) (sym (same_whole stores (place + 2) turn (omega arith))); keeps = after_body (record { table = table; first = me.0.first }) samples stores sample place keeps },
+        record { view = refl; numbers = was.0.numbers ∙ ap (λ (k : ℕ). me.0.first + k) (sym (same_whole stores (place + 2) position (omega arith))); keeps = after_body (record { table = table; first = me.0.first }) samples stores sample place keeps },
         (
           (λ idle. cc),
           record {
@@ -212,11 +212,11 @@ module _ (table : TableId) (me : Me (Unit {0}) View) (number : ℕ) (sample : Sa
 
   pub steps_even : Before ToEven → me' ≡ (stored me.0, []) → result ≡ Stored 1 (2 * number + 2) → Stepped old table' me' number ToValid sample result
   steps_even was m r =
-      let turn = was.0.keeps.turn in
+      let position = was.0.keeps.position in
       let stores : ℕ = me.0.known.stores in
       let n : number ≡ me.0.first + stores / 13 = was.0.numbers in
       as_code (publishing table me.0 ToEven sample) old table table' me' (stored me.0) number ToValid sample (Stored 1 (2 * number + 2)) result was.1 was.2 m r (
-        record { view = refl; numbers = n ∙ ap (λ (k : ℕ). me.0.first + k) (sym (same_whole stores 11 turn (omega arith))); keeps = after_even (record { table = table; first = me.0.first }) me.0.known.samples stores sample was.0.keeps },
+        record { view = refl; numbers = n ∙ ap (λ (k : ℕ). me.0.first + k) (sym (same_whole stores 11 position (omega arith))); keeps = after_even (record { table = table; first = me.0.first }) me.0.known.samples stores sample was.0.keeps },
         (
           (λ idle. cc),
           record {
@@ -229,7 +229,7 @@ module _ (table : TableId) (me : Me (Unit {0}) View) (number : ℕ) (sample : Sa
 
   pub steps_valid : (number' : ℕ) → Before ToValid → number' ≡ number + 1 → me' ≡ (stored me.0, []) → result ≡ Stored 9 1 → Stepped old table' me' number' Idle sample result
   steps_valid number' was up m r =
-      let turn : me.0.known.stores % 13 ≡ 12 = was.0.keeps.turn in
+      let position : me.0.known.stores % 13 ≡ 12 = was.0.keeps.position in
       let stores : ℕ = me.0.known.stores in
       let n : number ≡ me.0.first + stores / 13 = was.0.numbers in
       let whole : (stores + 1) / 13 ≡ stores / 13 + 1 = omega arith in
@@ -246,16 +246,16 @@ module _ (table : TableId) (me : Me (Unit {0}) View) (number : ℕ) (sample : Sa
       )
 
 -- what count is, by the phase
-count_by : (first stores number : ℕ) → number ≡ first + stores / 13 → (phase : Phase) → stores % 13 ≡ turn_of phase → IsPlace phase → count_after first stores ≡ 2 * number + flag_of phase
-count_by first stores number n Idle turn place = count_in first stores 0 (stores / 13) turn (same_whole stores 0 turn (omega arith)) ∙ (let e : 2 * (first + stores / 13) + 0 ≡ 2 * number + 0 = omega arith in e)
-count_by first stores number n ToInvalid turn place = count_in first stores 0 (stores / 13) turn (same_whole stores 0 turn (omega arith)) ∙ (let e : 2 * (first + stores / 13) + 0 ≡ 2 * number + 0 = omega arith in e)
-count_by first stores number n ToOdd turn place = count_in first stores 1 (stores / 13) turn (same_whole stores 1 turn (omega arith)) ∙ (let e : 2 * (first + stores / 13) + 0 ≡ 2 * number + 0 = omega arith in e)
-count_by first stores number n (ToBody place) turn within = odd_count first (place + 2) (stores / 13) stores (omega arith) (omega arith) turn (same_whole stores (place + 2) turn (omega arith)) ∙ (let e : 2 * (first + stores / 13) + 1 ≡ 2 * number + 1 = omega arith in e)
-count_by first stores number n ToEven turn place = odd_count first 11 (stores / 13) stores (omega arith) (omega arith) turn (same_whole stores 11 turn (omega arith)) ∙ (let e : 2 * (first + stores / 13) + 1 ≡ 2 * number + 1 = omega arith in e)
-count_by first stores number n ToValid turn place =
+count_by : (first stores number : ℕ) → number ≡ first + stores / 13 → (phase : Phase) → stores % 13 ≡ position_of phase → IsPlace phase → count_after first stores ≡ 2 * number + flag_of phase
+count_by first stores number n Idle position place = count_in first stores 0 (stores / 13) position (same_whole stores 0 position (omega arith)) ∙ (let e : 2 * (first + stores / 13) + 0 ≡ 2 * number + 0 = omega arith in e)
+count_by first stores number n ToInvalid position place = count_in first stores 0 (stores / 13) position (same_whole stores 0 position (omega arith)) ∙ (let e : 2 * (first + stores / 13) + 0 ≡ 2 * number + 0 = omega arith in e)
+count_by first stores number n ToOdd position place = count_in first stores 1 (stores / 13) position (same_whole stores 1 position (omega arith)) ∙ (let e : 2 * (first + stores / 13) + 0 ≡ 2 * number + 0 = omega arith in e)
+count_by first stores number n (ToBody place) position within = odd_count first (place + 2) (stores / 13) stores (omega arith) (omega arith) position (same_whole stores (place + 2) position (omega arith)) ∙ (let e : 2 * (first + stores / 13) + 1 ≡ 2 * number + 1 = omega arith in e)
+count_by first stores number n ToEven position place = odd_count first 11 (stores / 13) stores (omega arith) (omega arith) position (same_whole stores 11 position (omega arith)) ∙ (let e : 2 * (first + stores / 13) + 1 ≡ 2 * number + 1 = omega arith in e)
+count_by first stores number n ToValid position place =
     let last : (stores + 1) / 13 ≡ stores / 13 + 1 = omega arith in
-    count_in first stores 12 (stores / 13 + 1) turn last ∙ (let e : 2 * (first + (stores / 13 + 1)) + 0 ≡ 2 * number + 2 = omega arith in e)
+    count_in first stores 12 (stores / 13 + 1) position last ∙ (let e : 2 * (first + (stores / 13 + 1)) + 0 ≡ 2 * number + 2 = omega arith in e)
 
 pub count_is : (p : Publishing) (number flag : ℕ) → IsPublishing p → number ≡ p.segment.first + p.stores / 13 → flag ≡ flag_of p.phase → 2 * number + flag ≡ count_of p
 count_is p number flag k n f =
-    ap (λ (x : ℕ). 2 * number + x) f ∙ sym (count_by p.segment.first p.stores number n p.phase k.turn k.place)
+    ap (λ (x : ℕ). 2 * number + x) f ∙ sym (count_by p.segment.first p.stores number n p.phase k.position k.place)

@@ -13,7 +13,7 @@ use Rattle.shm_segment.specs.Words.{count_after, body_at, body_after, words_of, 
 use Rattle.shm_segment.specs.Views.{publisher, begun, stored}
 use Rattle.shm_segment.specs.Rule.{IsSound, IsPublished, WasShown, Fits, SegmentHolds, HoldsOf}
 use Rattle.shm_segment.proofs.Samples.{body_more}
-use Rattle.shm_segment.proofs.Words.{count_in, odd_count, body_in, turn_is, published_is, published_last, stores_invalid, stores_odd, stores_body, stores_even, stores_valid}
+use Rattle.shm_segment.proofs.Words.{count_in, odd_count, body_in, position_is, published_is, published_last, stores_invalid, stores_odd, stores_body, stores_even, stores_valid}
 use Rattle.shm_segment.proofs.Running.{StoreEffect}
 use Rattle.shm_segment.proofs.Keeps.{fits_set, fits_on, at_writer, publishes_on}
 
@@ -61,7 +61,7 @@ module _ (first : ℕ) (samples more next : List Sample) (stores : ℕ) where
       )
 
 sound_on : (first : ℕ) (samples : List Sample) (stores : ℕ) → 0 < stores % 13 → IsSound first samples stores → IsSound first samples (stores + 1)
-sound_on first samples stores turn sound =
+sound_on first samples stores position sound =
     record { reaches = let reach = sound.reaches in let n : ℕ = length samples in omega arith; ranges = sound.ranges; numbers = sound.numbers }
 
 -- a store after the first of a sample
@@ -70,73 +70,73 @@ module _ (first slots seat : ℕ) (samples : List Sample) (stores : ℕ) (me : M
   Keeps word value = Allows {S = Unit {0}} (HoldsOf first) slots seat me word (λ _. value) (λ _ (after : Me (Unit {0}) View). after ≡ (stored me.0, []))
 
   further : (word value : ℕ) → 0 < stores % 13 → set (words_of first samples stores) word value ≡ words_of first samples (stores + 1) → StoreEffect first samples samples stores → Keeps word value
-  further word value turn law effect =
+  further word value position law effect =
       subst (λ (u : Me (Unit {0}) View). Allows {S = Unit {0}} (HoldsOf first) slots seat u word (λ _. value) (λ _ (after : Me (Unit {0}) View). after ≡ (stored u.0, []))) (sym is)
-      (store_keeps first samples [] samples stores slots seat word value (append-nil samples) (λ sound. (sound_on first samples stores turn sound, law, effect)))
+      (store_keeps first samples [] samples stores slots seat word value (append-nil samples) (λ sound. (sound_on first samples stores position sound, law, effect)))
 
   -- K2: the odd count
   pub keeps_odd : (number : ℕ) → stores % 13 ≡ 1 → number ≡ first + stores / 13 → Keeps 1 (2 * number + 1)
-  keeps_odd number turn n =
+  keeps_odd number position n =
       let whole : ℕ = stores / 13 in
       let e : stores ≡ 13 * whole + 1 = omega arith in
       let e' : stores + 1 ≡ 13 * whole + 2 = omega arith in
-      let before = count_in first stores 1 whole turn (published_is stores whole 1 e (omega arith)) in
-      let after = count_in first (stores + 1) 2 whole (turn_is (stores + 1) whole 2 e' (omega arith)) (published_is (stores + 1) whole 2 e' (omega arith)) in
+      let before = count_in first stores 1 whole position (published_is stores whole 1 e (omega arith)) in
+      let after = count_in first (stores + 1) 2 whole (position_is (stores + 1) whole 2 e' (omega arith)) (published_is (stores + 1) whole 2 e' (omega arith)) in
       further 1 (2 * number + 1) (omega arith)
       (ap (λ (k : ℕ). set (words_of first samples stores) 1 (2 * k + 1)) n ∙ stores_odd first samples stores whole e)
       (inl (let b : count_after first stores ≡ 2 * (first + whole) + 0 = before in let a : count_after first (stores + 1) ≡ 2 * (first + whole) + 1 = after in omega arith))
 
   -- K3: a word of the body
   pub keeps_body : (place value : ℕ) → place < 9 → stores % 13 ≡ place + 2 → slice_index (body_at samples (stores / 13 + 1)) place ≡ value → Keeps (slice_index body_places place) value
-  keeps_body place value within turn v =
+  keeps_body place value within position v =
       let whole : ℕ = stores / 13 in
       let e : stores ≡ 13 * whole + (place + 2) = omega arith in
       let e' : stores + 1 ≡ 13 * whole + (place + 3) = omega arith in
-      let before = odd_count first (place + 2) whole stores (omega arith) (omega arith) turn (published_is stores whole (place + 2) e (omega arith)) in
-      let after = odd_count first (place + 3) whole (stores + 1) (omega arith) (omega arith) (turn_is (stores + 1) whole (place + 3) e' (omega arith)) (published_is (stores + 1) whole (place + 3) e' (omega arith)) in
+      let before = odd_count first (place + 2) whole stores (omega arith) (omega arith) position (published_is stores whole (place + 2) e (omega arith)) in
+      let after = odd_count first (place + 3) whole (stores + 1) (omega arith) (omega arith) (position_is (stores + 1) whole (place + 3) e' (omega arith)) (published_is (stores + 1) whole (place + 3) e' (omega arith)) in
       further (slice_index body_places place) value (omega arith)
       (ap (λ (x : ℕ). set (words_of first samples stores) (slice_index body_places place) x) (sym v) ∙ stores_body first samples stores whole place within e)
       (inr (inl (before ∙ sym after, ap (λ (n : ℕ). n % 2) before ∙ (let o : (2 * (first + whole) + 1) % 2 ≡ 1 = omega arith in o))))
 
   -- K4: the even count, which publishes the sample
   pub keeps_even : (number : ℕ) → stores % 13 ≡ 11 → number ≡ first + stores / 13 → Keeps 1 (2 * number + 2)
-  keeps_even number turn n =
+  keeps_even number position n =
       let whole : ℕ = stores / 13 in
       let e : stores ≡ 13 * whole + 11 = omega arith in
       let e' : stores + 1 ≡ 13 * whole + 12 = omega arith in
-      let before = count_in first stores 11 whole turn (published_is stores whole 11 e (omega arith)) in
-      let after = count_in first (stores + 1) 12 (whole + 1) (turn_is (stores + 1) whole 12 e' (omega arith)) (published_last (stores + 1) whole e') in
+      let before = count_in first stores 11 whole position (published_is stores whole 11 e (omega arith)) in
+      let after = count_in first (stores + 1) 12 (whole + 1) (position_is (stores + 1) whole 12 e' (omega arith)) (published_last (stores + 1) whole e') in
       further 1 (2 * number + 2) (omega arith)
       (ap (λ (k : ℕ). set (words_of first samples stores) 1 (2 * k + 2)) n ∙ stores_even first samples stores whole e)
       (inl (let b : count_after first stores ≡ 2 * (first + whole) + 1 = before in let a : count_after first (stores + 1) ≡ 2 * (first + (whole + 1)) + 0 = after in omega arith))
 
   -- K5: valid 1
   pub keeps_valid : stores % 13 ≡ 12 → Keeps 9 1
-  keeps_valid turn =
+  keeps_valid position =
       let whole : ℕ = stores / 13 in
       let e : stores ≡ 13 * whole + 12 = omega arith in
       let e' : stores + 1 ≡ 13 * (whole + 1) + 0 = omega arith in
       let p = published_last stores whole e in
-      let t' = turn_is (stores + 1) (whole + 1) 0 e' (omega arith) in
+      let t' = position_is (stores + 1) (whole + 1) 0 e' (omega arith) in
       let p' = published_is (stores + 1) (whole + 1) 0 e' (omega arith) in
       further 9 1 (omega arith) (stores_valid first samples stores whole e)
-      (inr (inr (count_in first stores 12 (whole + 1) turn p ∙ sym (count_in first (stores + 1) 0 (whole + 1) t' p'), body_in samples stores 12 (whole + 1) turn p ∙ sym (body_in samples (stores + 1) 0 (whole + 1) t' p'))))
+      (inr (inr (count_in first stores 12 (whole + 1) position p ∙ sym (count_in first (stores + 1) 0 (whole + 1) t' p'), body_in samples stores 12 (whole + 1) position p ∙ sym (body_in samples (stores + 1) 0 (whole + 1) t' p'))))
 
   -- K1: valid 0, with which a sample joins the list
   pub keeps_invalid : (s : Sample) → stores % 13 ≡ 0 → first + length samples < 1_073_741_823 → IsSample s
       → Allows {S = Unit {0}} (HoldsOf first) slots seat me 9 (λ _. 0) (λ _ (after : Me (Unit {0}) View). after ≡ (begun me.0 s, []))
-  keeps_invalid s turn room range =
+  keeps_invalid s position room range =
       let whole : ℕ = stores / 13 in
       let e : stores ≡ 13 * whole + 0 = omega arith in
       let e' : stores + 1 ≡ 13 * whole + 1 = omega arith in
       let next = samples ++ s ∷ [] in
       let p = published_is stores whole 0 e (omega arith) in
-      let t' = turn_is (stores + 1) whole 1 e' (omega arith) in
+      let t' = position_is (stores + 1) whole 1 e' (omega arith) in
       let p' = published_is (stores + 1) whole 1 e' (omega arith) in
       let low : IsSound first samples stores → whole ≤ length samples = λ sound. let reach = sound.reaches in omega arith in
       let body : IsSound first samples stores → body_after samples stores ≡ body_after next (stores + 1) = λ sound.
       let same = sym (body_more samples (s ∷ []) whole (low sound)) in
-      body_in samples stores 0 whole turn p
+      body_in samples stores 0 whole position p
       ∙ (λ i. slice_index (same i) 0 ∷ slice_index (same i) 1 ∷ slice_index (same i) 2 ∷ slice_index (same i) 3 ∷ slice_index (same i) 4 ∷ slice_index (same i) 5 ∷ slice_index (same i) 6 ∷ slice_index (same i) 7 ∷ slice_index (same i) 8 ∷ [])
       ∙ sym (body_in next (stores + 1) 1 whole t' p') in
       let long = length-append samples (s ∷ []) in
@@ -149,7 +149,7 @@ module _ (first slots seat : ℕ) (samples : List Sample) (stores : ℕ) (me : M
           numbers = omega arith;
         },
         stores_invalid first samples stores whole s e (low sound),
-        inr (inr (count_in first stores 0 whole turn p ∙ sym (count_in first (stores + 1) 1 whole t' p'), body sound)),
+        inr (inr (count_in first stores 0 whole position p ∙ sym (count_in first (stores + 1) 1 whole t' p'), body sound)),
       )))
 
 -- the words of the body are among the twelve

@@ -29,13 +29,13 @@ abbrev pub opened : SegmentId → Publishing
 opened segment = record { segment = segment; samples = []; stores = 0; phase = Idle; begun = no_sample }
 
 -- the stores of the sample that were made
-abbrev pub turn_of : Phase → ℕ
-turn_of Idle = 0
-turn_of ToInvalid = 0
-turn_of ToOdd = 1
-turn_of (ToBody place) = place + 2
-turn_of ToEven = 11
-turn_of ToValid = 12
+abbrev pub position_of : Phase → ℕ
+position_of Idle = 0
+position_of ToInvalid = 0
+position_of ToOdd = 1
+position_of (ToBody place) = place + 2
+position_of ToEven = 11
+position_of ToValid = 12
 
 -- how far count is above twice the number of the last sample that has its thirteen stores
 abbrev pub flag_of : Phase → ℕ
@@ -64,13 +64,14 @@ abbrev pub waiting_of : Phase → ℕ
 waiting_of ToInvalid = 1
 waiting_of phase = 0
 
--- what a publisher keeps: the phase is that of the stores, each sample but the one being written has its thirteen stores, and all numbers are at most 1,073,741,823
+-- what a publisher keeps: the phase is that of the stores, each sample but the one being written has its thirteen stores, and all numbers are at most
+-- 1,073,741,823
 pub record IsPublishing (p : Publishing) : Type 0 where
-  pub turn : p.stores % 13 ≡ turn_of p.phase
+  pub position : p.stores % 13 ≡ position_of p.phase
   pub place : IsPlace p.phase
   pub count : length p.samples ≡ (p.stores + 12) / 13
   pub numbers : p.segment.first + length p.samples + waiting_of p.phase ≤ 1_073_741_823
-  pub writes : 0 < turn_of p.phase → p.samples ≡ take (p.stores / 13) p.samples ++ p.begun ∷ []
+  pub writes : 0 < position_of p.phase → p.samples ≡ take (p.stores / 13) p.samples ++ p.begun ∷ []
   pub range : IsSample p.begun
 
 -- the same of the publisher's fields: its number is that of the last sample that has its thirteen stores
@@ -115,7 +116,7 @@ words_now p = words_of p.segment.first p.samples p.stores
 
 -- the store of this word is the next of the sample's thirteen, and it makes the words those of one store more
 pub record IsStore (old : Publishing) (word value : ℕ) (new : Publishing) : Type 0 where
-  pub order : (word, value) ≡ slice_index_or (stores_of (2 * (old.segment.first + old.stores / 13)) old.begun) (turn_of old.phase) (0, 0)
+  pub order : (word, value) ≡ slice_index_or (stores_of (2 * (old.segment.first + old.stores / 13)) old.begun) (position_of old.phase) (0, 0)
   pub leads : slice_set (words_now old) word value ≡ words_now new
   pub becomes : new ≡ stepped old
 
@@ -125,7 +126,7 @@ StepsAs old NothingToStore new = (old.phase ≡ Idle) × (new ≡ old)
 StepsAs old (Stored word value) new = (old.phase ≢ Idle) × IsStore old word value new
 
 -- the seat is this segment's publisher, and has made this number of stores of a sample
-pub record IsWriting (segment : SegmentId) (table : TableId) (me : Me (Unit {0}) View) (turn : ℕ) : Type 0 where
+pub record IsWriting (segment : SegmentId) (table : TableId) (me : Me (Unit {0}) View) (position : ℕ) : Type 0 where
   pub part : table ≡ segment.table
   pub view : me ≡ (publisher segment.first me.0.known.samples me.0.known.stores, [])
-  pub made : me.0.known.stores % 13 ≡ turn
+  pub made : me.0.known.stores % 13 ≡ position

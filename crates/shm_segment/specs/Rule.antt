@@ -1,4 +1,5 @@
--- The rule that every step keeps: what the words are, and what each seat may know. This project's own; that count is odd while the body is written is that of the NTP reference clock driver 28, mode 1.
+-- The rule that every step keeps: what the words are, and what each seat may know. This project's own; that count is odd while the body is written is
+-- that of the NTP reference clock driver 28, mode 1.
 use Rattle.std.specs.Prelude.{◌≡◌, ◌≢◌, ℕ, ◌+◌, ◌-◌, ◌*◌, ◌%◌, ◌<◌, ◌≤◌, List, [], ◌∷◌, ◌++◌, length, take, slice_get, slice_index, Some}
 use Rattle.std.specs.List.{All}
 use mathlib.Core.Option.{some}
@@ -31,7 +32,7 @@ pub record IsPublished (first : ℕ) (samples : List Sample) (stores : ℕ) (pai
   pub reached : pair.number ≤ first + published_after stores
   pub same : slice_get samples (pair.number - first - 1) ≡ Some pair.sample
 
--- the load's value is its word after a number of stores, which is not below the number told before it and not above this one
+-- the load's value is its word after a number of stores, which is not below the number known before it and not above this one
 abbrev pub WasShown : ℕ → List Sample → ℕ → Load → Type 0
 WasShown first samples stores load =
     (n : ℕ) × (load.told ≤ n) × (n ≤ stores) × (slice_index (words_of first samples n) load.word ≡ load.value)
@@ -51,7 +52,7 @@ pub record IsCounted (first stores last count : ℕ) : Type 0 where
   pub below : count ≤ count_after first stores
   pub last_below : 2 * last ≤ count
 
--- the count is even, a sample is published, and the body got so far is the body now
+-- the count is even, a sample is published, and the part of the body that was loaded so far is the body now
 pub record IsWhole (samples : List Sample) (stores count : ℕ) (body : List ℕ) : Type 0 where
   pub even : count % 2 ≡ 0
   pub some : 1 ≤ published_after stores
@@ -93,7 +94,8 @@ pub record SegmentHolds (first : ℕ) (words : List ℕ) (views : List View) : T
 abbrev pub HoldsOf : ℕ → State (Unit {0}) View → Type 0
 HoldsOf first state = SegmentHolds first state.words state.views
 
--- a monitor's pairs are published samples of this list, none excepted, and each of its loads is its word after a number of stores between those that it had been told of and these
+-- a monitor's pairs are published samples of this list, none excepted, and each of its loads is its word after a number of stores between those that
+-- it knew of and these
 pub record IsBorneOut (first : ℕ) (k : KnownSamples) (taken : List Numbered) (loads : List Load) : Type 0 where
   pub pairs : All (IsPublished first k.samples k.stores) taken
   pub rises : Rises 0 taken

@@ -1,4 +1,5 @@
--- A sample and the nine words of its body. Source: the NTP reference clock driver 28, the fields of its shared memory segment; the precision of a negative power as a word of two's complement.
+-- A sample and the nine words of its body. Source: the NTP reference clock driver 28, the fields of its shared memory segment; the precision of a
+-- negative power as a word of two's complement.
 use Rattle.std.specs.Prelude.{◌≡◌, ℕ, ◌/◌, List, [], ◌∷◌, pos, unsigned_abs, slice_index, FitsSigned}
 use Rattle.std.specs.Int.{w8, w64, cast_signed, cast_unsigned}
 use Rattle.gps_fixed.specs.Moment.{IsMoment}

@@ -22,7 +22,7 @@ abbrev pub notice : ℕ → List Sample → ℕ → View
 notice first samples stores =
     record { role = Notices; first = first; known = known samples stores; met = nothing; taken = []; kept = []; reading = [] }
 
--- a monitor that has taken nothing and was told nothing
+-- a monitor that has taken nothing and knows of nothing
 abbrev pub newcomer : ℕ → View
 newcomer first =
     record { role = Monitors; first = first; known = nothing; met = nothing; taken = []; kept = []; reading = [] }

@@ -215,7 +215,7 @@ impl Publisher {
     }
 
     /// Learns of a monitor's pairs and loads: each pair is a sample of the publisher's own list, and each load is its
-    /// word after a number of stores between those that the monitor had been told of and the publisher's.
+    /// word after a number of stores between those that the monitor knew of and the publisher's.
     pub fn hear(&mut self, segment: &Segment, account: Account)
         requires publisher { self.old.segment ≡ segment.now }
         requires account { account.segment ≡ segment.now }

@@ -6,7 +6,7 @@ use gps_fixed::Stamp;
 /// Two clocks read at one moment.
 #[derive(Clone, Copy, Debug, PartialEq, Eq)]
 pub struct Sample {
-    /// The reference time, which the receiver tells.
+    /// The reference time, as the receiver gives it.
     pub reference: Stamp,
     /// The host's time.
     pub host: Stamp,

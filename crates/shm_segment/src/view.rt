@@ -24,19 +24,19 @@ pub struct Numbered {
     pub sample: Sample,
 }
 
-/// A load of a reading: the number of stores that the monitor had been told of before it, the word, and its value.
+/// A load of a reading: the number of stores that the monitor knew of before it, the word, and its value.
 pub struct Load {
     pub told: u64,
     pub word: u64,
     pub value: u64,
 }
 
-/// What a seat knows. It exists in proofs alone: no value of it is made.
+/// What a seat knows. It exists only in proofs: no value of it is made.
 pub struct View {
     pub role: Role,
     /// The segment's first number.
     pub first: u32,
-    /// The publisher's list and number of stores; of another seat what it was told of them.
+    /// The publisher's list and number of stores; for another seat, what it knows of them.
     pub known: KnownSamples,
     /// What a notice said that is being met.
     pub met: KnownSamples,

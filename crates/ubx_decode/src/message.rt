@@ -14,7 +14,7 @@ const SHORTEST_FRAME: usize = 8;
 /// The note of a frame: by its message, with each field in the units of [`Note`].
 ///
 /// A frame of a class, id or payload length that is not read gives a note of kind Other with nothing in it. A field that is not
-/// readable is an absent quantity. The sync characters, the length and the checksum are the framer's to look at: of bytes that are no
+/// readable is an absent quantity. The sync characters, the length and the checksum are checked by the framer: of bytes that are no
 /// frame, the same fields are read. Takes memory only for a NAV-SAT of at least one satellite: `NoMemory` comes if there is none for it,
 /// and for no other frame.
 #[tactic(auto, using(crate::proofs::Short::short_note))]

@@ -34,7 +34,7 @@ unfolding zeros
 length-zeros zero = refl
 length-zeros (suc n) = ap suc (length-zeros n)
 
--- behind the header stand a payload and two sums
+-- the header is followed by a payload and two sums
 record Behind (len : ℕ) (tail : List ℕ) : Type 0 where
   payload : List ℕ
   ck_a : ℕ
@@ -67,7 +67,7 @@ unfolding is_right
 right_here p right more =
     and_from _ _ (eq-eqb (sums_of (covered p)).a p.ck_a (sym right.ck_a)) (eq-eqb (sums_of (covered p)).b p.ck_b (sym right.ck_b))
 
--- the bytes of a frame behind the sync characters, and what follows it
+-- the bytes of a frame after the sync characters, and what follows it
 abbrev rest_of : Parts → List ℕ → List ℕ
 rest_of p more = p.class ∷ p.id ∷ (length p.payload % 256) ∷ (length p.payload / 256) ∷ (p.payload ++ p.ck_a ∷ p.ck_b ∷ more)
 

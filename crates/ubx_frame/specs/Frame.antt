@@ -41,7 +41,7 @@ IsFrame bytes = (p : Parts) × AreParts p × IsRight p × (bytes ≡ spelling p)
 abbrev pub IsProperPrefix : List ℕ → Type 0
 IsProperPrefix bytes = (more : List ℕ) × (0 < length more) × IsShape (bytes ++ more)
 
--- what stands in a frame
+-- what is in a frame
 abbrev pub class_of : List ℕ → ℕ
 class_of frame = slice_index frame 2
 

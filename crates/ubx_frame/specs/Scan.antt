@@ -5,13 +5,13 @@ use Rattle.ubx_frame.specs.declared.frame.Shape.{Shape}
 use Rattle.ubx_frame.specs.declared.frame.Shape.TheVariants.{Whole, Pending, No}
 use Rattle.ubx_frame.specs.Checksum.{sums_of}
 
--- whether the list begins with the right checksum of what stands before it
+-- whether the list begins with the right checksum of what comes before it
 unfoldable pub is_right : List ℕ → List ℕ → Bool
 is_right covered (ck_a ∷ ck_b ∷ more) = (sums_of covered).a == ck_a && (sums_of covered).b == ck_b
 is_right covered (ck_a ∷ []) = false
 is_right covered [] = false
 
--- behind the sync characters, if the payload has n bytes
+-- after the sync characters, if the payload has n bytes
 unfoldable pub shape_of_length : ℕ → List ℕ → Shape
 shape_of_length len rest =
     cond (nat_lt 2048 len) No

@@ -2,7 +2,7 @@
 //!
 //! A list may begin like a long frame at each of its bytes, so the sums are made quickly: the bytes are taken as rows of sixteen, whose
 //! columns are added side by side. A byte counts in the second sum once for each byte from it to the end, so sixteen times for each row
-//! behind its own, and in its own row by its place.
+//! after its own, and in its own row by its place.
 
 ghost use Rattle.std.specs.Prelude.{◌≡◌, ◌+◌, ◌*◌, ◌%◌, ◌≤◌, drop, fold, length, take};
 ghost use Rattle.std.specs.Simd.Lanes.{sum_l, zip2};
@@ -26,7 +26,7 @@ const LANES: usize = 16;
 /// How often each byte of a row counts in the second sum at the end of that row.
 const WEIGHTS: [u8; LANES] = [16, 15, 14, 13, 12, 11, 10, 9, 8, 7, 6, 5, 4, 3, 2, 1];
 
-/// How many rows are added in one turn, while that number is left.
+/// How many rows are added in one round, while that number is left.
 const ROWS: usize = 4;
 
 /// One more row: its bytes go to the columns, and what the columns were before it to their sums after each row.
@@ -47,7 +47,7 @@ fn sum_up(covered: &[u8]) -> Sums
     let mut columns = u8x16::splat(0);
     let mut earlier = u8x16::splat(0);
     let mut at = 0;
-    'turns: while covered.len() - at >= ROWS * LANES {
+    'rounds: while covered.len() - at >= ROWS * LANES {
         add_row(&mut columns, &mut earlier, covered, at);
         add_row(&mut columns, &mut earlier, covered, at + LANES);
         add_row(&mut columns, &mut earlier, covered, at + 2 * LANES);
@@ -89,7 +89,7 @@ fn add_each(sums: Sums, bytes: &[u8]) -> Sums
     })
 }
 
-/// Whether the bytes behind a frame's payload begin with the sums of what they cover.
+/// Whether the bytes after a frame's payload begin with the sums of what they cover.
 #[tactic(auto, unfolding(crate::specs::Scan::is_right))]
 pub(crate) fn is_right(covered: &[u8], behind: &[u8]) -> bool
     ensures { result ≡ is_right covered.now behind.now }

@@ -39,7 +39,7 @@ fn shape_at(bytes: &[u8]) -> Shape
     }
 }
 
-/// The same for what stands behind the two sync characters.
+/// The same for what follows the two sync characters.
 #[tactic(auto, unfolding(crate::specs::Scan::shape_behind_sync))]
 fn shape_behind_sync(rest: &[u8]) -> Shape
     ensures { result ≡ shape_behind_sync rest.now }

@@ -6,7 +6,7 @@ ghost use Rattle.ubx_frame.specs.Scan.{shape_of};
 
 use crate::Shape;
 
-/// What is whole stays whole under more bytes, what is none stays none, a frame has at least 8 bytes and lies in the
+/// A frame stays one under more bytes, and what is none stays none. A frame has at least 8 bytes and is within the
 /// list, and what is pending is shorter than the longest frame.
 pub fn shapes_are_stable()
     ensures whole_stays { (bytes more : List ℕ) (n : ℕ) → shape_of bytes ≡ Shape.Whole n → shape_of (bytes ++ more) ≡ Shape.Whole n }
@@ -15,7 +15,7 @@ pub fn shapes_are_stable()
     ensures pending_short { (bytes : List ℕ) → shape_of bytes ≡ Shape.Pending → length bytes < 2056 }
 {}
 
-/// A frame's class, id and payload stand where they are read.
+/// A frame's class, id and payload are where they are read.
 pub fn parts_are_read()
     ensures class { (p : Parts) → class_of (spelling p) ≡ p.class }
     ensures id { (p : Parts) → id_of (spelling p) ≡ p.id }

@@ -115,7 +115,7 @@ begun c x b = (b.0 ++ drop 18 x, sym (take-append-drop 18 x) ∙ ap (λ t. t ++ 
 pub begin_of_class : (c : Class) (x : List ℕ) → class_in (take 18 x) ≡ Some c → Begins c x
 begin_of_class c x e = begun c x ((class_exact (class_in (take 18 x)) (take 18 x) refl c).0 e)
 
--- whether it can be a line is told by its first 18 bytes too
+-- whether it can be a line is shown by its first 18 bytes too
 pub can_from : (c : Class) (x rest : List ℕ) → Begins c (x ++ rest) → can_begin (take 18 x) ≡ true
 can_from c x rest b = any_can (take 18 x) c (of_parts (divided (take 18 x) (drop 18 x ++ rest) (head_of c) b.0 joined))
   where

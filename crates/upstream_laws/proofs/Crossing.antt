@@ -19,7 +19,7 @@ use Rattle.upstream_laws.proofs.Neat.{replies_are_head}
 use Rattle.upstream_laws.proofs.Watched.{watches_it}
 use Rattle.upstream_laws.proofs.Carrying.{all_of_device, further, gained_packets, packets_are_whole, replies_and_packets}
 
--- behind any head
+-- after any head
 pub across : (bytes head : List ℕ) (packets : List Packet) → IsHead head → AreWhole packets → bytes ≡ head ++ joined packets → ComesAcross bytes packets
 across bytes head packets is whole joins = record {
   handed = handed;

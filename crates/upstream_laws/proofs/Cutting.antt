@@ -73,7 +73,7 @@ one_packet kind (byte ∷ stream) is =
       none = rest_packet head_of_stream byte stream kind (suc (length stream)) at ∙ ap (λ n. rest_from head_of_stream n stream) less ∙ rest_skipped head_of_stream stream;
     }
 
--- a stream of which nothing is a packet yet
+-- a stream that has no packet yet
 pub all_rest : (stream : List Stamped) → head_of (bytes_of stream) ≡ Pending → (packets_of stream ≡ []) × (rest_of stream ≡ stream)
 unfolding parts_from rest_from
 all_rest [] is = (refl, refl)

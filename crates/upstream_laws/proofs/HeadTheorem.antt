@@ -193,7 +193,7 @@ says_all : (bytes : List ℕ) → SaysOf (taken fresh bytes) bytes
 unfolding Says SaysOf
 says_all bytes = says_on fresh [] bytes record { earlier = []; part = []; joined = refl; others = tt; plain = refl; begins = refl; counted = refl; few = omega arith }
 
--- a good head, and what stands behind it
+-- a good head, and what follows it
 pub head_off : (head rest : List ℕ) → IsHead head → behind fresh (head ++ rest) ≡ rest
 head_off head rest is =
     let front : List ℕ = concat is.earlier ++ (is.watch).text in

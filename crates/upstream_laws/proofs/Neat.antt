@@ -26,7 +26,7 @@ use Rattle.upstream_laws.specs.Lines.{IsEarlier, IsHead, IsLine, is_plain}
 use Rattle.upstream_laws.specs.Carried.{AreNames, packets_policy, watch_reply}
 use Rattle.book_replies.specs.ReplyDataView.{ReplyDataView}
 
--- a text of at most this number of bytes, none of which ends a line
+-- a text of at most this number of bytes, without an end of a line
 pub record Neat (most : ℕ) (text : List ℕ) : Type 0 where
   pub plain : is_plain text ≡ true
   pub short : length text ≤ most

@@ -59,7 +59,7 @@ unless_ended Nowhere begin count (byte ∷ bytes) never = refl
 pub nothing_handed : (stand : Stand) (bytes : List ℕ) → ((taken stand bytes).stage ≡ Behind → ⊥) → behind stand bytes ≡ []
 nothing_handed stand bytes never = unless_ended stand.stage stand.begin stand.count bytes never
 
--- the stages behind a line and within one
+-- the stages after a line and within one
 pub behind_other : (c : Class) → c ≢ class.Watch → behind_line (Some c) ≡ Inside
 behind_other class.Version other = refl
 behind_other class.Devices other = refl

@@ -1,4 +1,4 @@
--- The head along lines: good lines lead on, WATCH behind the head, and a bad line nowhere.
+-- The head along lines: good lines lead on, WATCH ends the head, and a bad line leads nowhere.
 use Rattle.std.proofs.Common.{◌≡◌, ◌≤◌, ◌<◌, ◌+◌, ◌==◌, ◌⊎◌, ℕ, Bool, true, false, not, List, [], ◌∷◌, ◌++◌, Option, Some, None, length, take, refl, sym, ap, ◌∙◌, inl, inr, arith, add_assoc, add-zero}
 use Rattle.std.specs.List.{AllByRecursion, concat}
 use Rattle.std.proofs.lemmas.Bool.{cases_Bool, cases_lt, and_parts, not-true, eqb-true}

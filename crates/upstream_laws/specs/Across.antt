@@ -31,7 +31,7 @@ abbrev pub RepliesAreHead : Type 0
 RepliesAreHead = (device : Option (List ℕ)) (names : List (List ℕ)) (known : ReplyDataView) → AreNames device names
     → IsHead (opening_reply ++ watch_reply device names known)
 
--- a session that asked once: the packets of the device behind the mark
+-- a session that asked once: the packets of the device after the mark
 abbrev pub PacketsComeAcross : Type 0
 PacketsComeAcross = (device : Option (List ℕ)) (names : List (List ℕ)) (opening mark end : ℕ) (known : ReplyDataView) (log : List Entry)
     → AreNames device names

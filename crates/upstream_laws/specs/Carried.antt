@@ -22,7 +22,7 @@ unfoldable pub request : Option (List ℕ) → List ℕ
 request None = codes "?WATCH={\"raw\":2};" ++ 10 ∷ []
 request (Some name) = codes "?WATCH={\"raw\":2,\"device\":\"" ++ name ++ codes "\"};" ++ 10 ∷ []
 
--- what is watched behind it
+-- what is watched after it
 abbrev pub packets_policy : Option (List ℕ) → Policy
 packets_policy device = record { enable = true; json = false; nmea = false; raw = 2; pps = false; device = device }
 

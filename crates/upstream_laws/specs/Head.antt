@@ -1,5 +1,5 @@
--- The head of what another daemon sends, byte by byte: lines ended by LF, each of which begins as an object of gpsd_json(5) does with its
--- class, up to and including the first of class WATCH. At most 1,048,576 bytes. What stands behind the head is handed on.
+-- The head of what another daemon sends, byte by byte: lines ended by LF, and each begins as an object of gpsd_json(5) does with its
+-- class, up to and including the first of class WATCH. At most 1,048,576 bytes. What follows the head is handed on.
 use Rattle.std.specs.Prelude.{ℕ, ◌+◌, ◌==◌, Bool, true, false, ◌||◌, List, [], ◌∷◌, ◌++◌, length, take, fold, nat_lt, Option, Some, None, if◌then◌else◌}
 use Rattle.std.specs.Str.{bytes_eq}
 use Rattle.std.specs.List.{list_any}
@@ -26,7 +26,7 @@ can_be begin c = begins c begin || bytes_eq (take (length begin) (head_of c)) be
 unfoldable pub can_begin : List ℕ → Bool
 can_begin begin = list_any (can_be begin) classes
 
--- How far the head was taken: whether it has ended, the first bytes of the open line (18 tell its class), and the number of bytes taken.
+-- How much of the head was read: whether it has ended, the first bytes of the open line (18 show its class), and the number of bytes read.
 pub record Stand : Type 0 where
   pub stage : Stage
   pub begin : List ℕ
@@ -39,7 +39,7 @@ fresh = record { stage = Inside; begin = []; count = 0 }
 abbrev pub longer : List ℕ → ℕ → List ℕ
 longer begin byte = take 18 (begin ++ byte ∷ [])
 
--- behind a line of this class
+-- after a line of this class
 abbrev pub behind_line : Option Class → Stage
 behind_line None = Nowhere
 behind_line (Some class.Watch) = Behind
@@ -76,7 +76,7 @@ step_by Nowhere stand byte = stand
 abbrev pub step : Stand → ℕ → Stand
 step stand byte = step_by stand.stage stand byte
 
--- how far the head was taken by these bytes
+-- how much of the head these bytes are
 abbrev pub taken : Stand → List ℕ → Stand
 taken stand bytes = fold step stand bytes
 

@@ -1,4 +1,4 @@
--- Packets joined, one behind another, and the packets of these bytes: all of them, or the first ones.
+-- Packets joined, one after another, and the packets of these bytes: all of them, or the first ones.
 use Rattle.std.specs.Prelude.{◌≡◌, ◌<◌, ◌≤◌, ℕ, List, [], ◌∷◌, ◌++◌, drop, length, map, take}
 use Rattle.std.specs.List.{AllByRecursion, flat_map}
 use Rattle.gps_report.specs.declared.packet.Packet.{Packet}
@@ -21,7 +21,7 @@ IsWhole packet = head_of packet.bytes ≡ head.Packet packet.kind (length packet
 abbrev pub AreWhole : List Packet → Type 0
 AreWhole packets = AllByRecursion IsWhole packets
 
--- the stream has these packets, and nothing behind them
+-- the stream has these packets, and nothing after them
 pub record HasAll (packets : List Packet) (stream : List Stamped) : Type 0 where
   pub packets_are : map plain (packets_of stream) ≡ map plain packets
   pub none : rest_of stream ≡ []
@@ -31,7 +31,7 @@ abbrev pub Begins : List ℕ → List Packet → Type 0
 Begins part [] = part ≡ []
 Begins part (packet ∷ more) = (after : List ℕ) × (0 < length after) × (packet.bytes ≡ part ++ after)
 
--- the stream has the first k of these packets, and behind them a proper prefix of the next one, or nothing
+-- the stream has the first k of these packets, and after them a proper prefix of the next one, or nothing
 pub record HasFirst (packets : List Packet) (stream : List Stamped) : Type 0 where
   pub k : ℕ
   pub inside : k ≤ length packets

@@ -1,4 +1,4 @@
--- The head in words: which lines stand in it, and when there is none. This project's own; the beginnings of the objects are those of
+-- The head in words: which lines are in it, and when there is none. This project's own; the beginnings of the objects are those of
 -- gpsd_json(5).
 use Rattle.std.specs.Prelude.{◌≡◌, ◌≢◌, ◌≤◌, ◌⊎◌, ◌==◌, ℕ, Bool, true, not, List, [], ◌∷◌, ◌++◌, length}
 use Rattle.std.specs.List.{AllByRecursion, concat, list_all}
@@ -33,7 +33,7 @@ pub record IsHead (head : List ℕ) : Type 0 where
   pub watch : IsLine class.Watch last
   pub short : length head ≤ most
 
--- a head, and what stands behind it
+-- a head, and what follows it
 pub record HasHead (bytes : List ℕ) : Type 0 where
   pub head : List ℕ
   pub rest : List ℕ
@@ -44,7 +44,7 @@ pub record HasHead (bytes : List ℕ) : Type 0 where
 abbrev pub CannotBegin : List ℕ → Type 0
 CannotBegin part = (c : Class) (rest : List ℕ) → Begins c (part ++ rest) → ⊥
 
--- a line that cannot begin as any object does, behind lines of other classes than WATCH
+-- a line that cannot begin as any object does, after lines of other classes than WATCH
 pub record HasBadLine (bytes : List ℕ) : Type 0 where
   pub earlier : List (List ℕ)
   pub part : List ℕ

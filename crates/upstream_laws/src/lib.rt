@@ -1,4 +1,4 @@
-//! Another daemon as a device: the head of lines that it sends before its packets, and what is handed on behind it. This project's own.
+//! Another daemon as a device: the head of lines that it sends before its packets, and what is handed on after it. This project's own.
 #![tactic(auto)]
 
 mod laws;

@@ -1,4 +1,4 @@
-/// Where a place of the bytes stands to the head before them.
+/// How a place of the bytes relates to the head before them.
 #[derive(Clone, Copy, Debug, PartialEq, Eq)]
 pub enum Stage {
     /// The head has not ended.

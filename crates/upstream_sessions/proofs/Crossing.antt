@@ -1,4 +1,4 @@
--- The run of such a session has the two stretches of which `upstream_laws` speaks.
+-- The run of such a session has the two stretches that `upstream_laws` describes.
 use Rattle.std.proofs.Common.{◌≡◌, ℕ, List, [], ◌∷◌, ◌++◌, Option, Some, length, take, drop, sym, ap, subst, ◌∙◌, take-append-drop}
 use Rattle.std.specs.Prelude.{Ok}
 use Rattle.std.specs.List.{concat}

@@ -22,7 +22,7 @@ pub struct Change {
     pub device: Option<Option<Name>>,
 }
 
-/// Why a JSON value gives no [`Change`].
+/// Why a JSON value is no [`Change`].
 #[derive(Clone, Copy, Debug, PartialEq, Eq)]
 pub enum ChangeFault {
     /// The value is no object, or one of its members is there and is not of its kind.
@@ -109,8 +109,8 @@ fn device_member(alloc: Global, value: &Value) -> Result<Option<Option<Name>>, C
 
 /// What a WATCH object changes. `BadWatch` comes exactly if the value is no object, if `enable`,
 /// `json`, `nmea` or `pps` is there and no truth value, if `raw` is there and not the whole number 0, 1
-/// or 2, or if `device` is there and neither a name nor the empty text. Other members are ignored. Memory
-/// is taken for the name of a device alone.
+/// or 2, or if `device` is there and neither a name nor the empty text. Other members are ignored. It
+/// allocates only for the name of a device.
 pub fn change_of(alloc: Global, value: &Value) -> Result<Change, ChangeFault>
     ensures ok { IfOk result (λ change. change_in (view value.now) ≡ Some change) }
     ensures bad { result ≡ Err ChangeFault.BadWatch → change_in (view value.now) ≡ None }

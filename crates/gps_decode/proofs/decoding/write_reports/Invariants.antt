@@ -4,8 +4,8 @@ use Rattle.gps_decode.specs.Texts.{texts_by}
 use Rattle.gps_decode.proofs.UnderWay.{UnderWay}
 use Rattle.gps_decode.proofs.decoding.write_reports.Given as goal
 
-abbrev pub invariant-turns : goal.invariant-turns
-invariant-turns g l = record {
+abbrev pub invariant-rounds : goal.invariant-rounds
+invariant-rounds g l = record {
   under_way : UnderWay (texts_by l.output) l.history l.intake l.device.now
       (g.S.Source.content l.initial.source) (g.S.Source.content l.source)
       (g.S.Source.faults l.initial.source) (g.S.Source.faults l.source)
@@ -19,5 +19,5 @@ invariant-turns g l = record {
   sunk : g.K.Sink.faults l.sink ≡ g.K.Sink.faults l.initial.sink;
 }
 
-abbrev pub decreases-turns : goal.decreases-turns
-decreases-turns g l = work_left l.intake
+abbrev pub decreases-rounds : goal.decreases-rounds
+decreases-rounds g l = work_left l.intake

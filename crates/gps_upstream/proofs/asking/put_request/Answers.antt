@@ -2,7 +2,7 @@ use Rattle.std.proofs.Common.{ℕ, List, [], ◌∷◌, ◌++◌, ◌≡◌, sym
 use Rattle.upstream_laws.specs.Carried.{request}
 use Rattle.gps_upstream.proofs.asking.put_request.Goals as goal
 
--- the end of the request, behind a name
+-- the end of the request, after a name
 ending : (front : List ℕ) → front ++ (34 ∷ 125 ∷ 59 ∷ 10 ∷ []) ≡ (front ++ codes "\"};") ++ (10 ∷ [])
 ending front = sym (append_assoc front (codes "\"};") (10 ∷ []))
 

@@ -5,8 +5,8 @@ use Rattle.line_player.proofs.Causes.{broken}
 use Rattle.line_player.proofs.Reading.{after_piece, after_quiet, begun, broken_at_end, broken_in_last, broken_in_piece, by_rules, ended, filled, on_rules}
 use Rattle.line_player.proofs.playing.read_through.Goals as goal
 
-pub turns-init : goal.turns-init
-turns-init g c =
+pub rounds-init : goal.rounds-init
+rounds-init g c =
     let lines = c.new-lines.ensures in
     record {
       under_way = begun _ _ _ _ _ _ _ _ _ _ c.new-intake.ensures (lines.cutter_limit ∙ c.requires.limit) lines.stands lines.count c.requires.starts;
@@ -19,130 +19,130 @@ turns-init g c =
       sunk = refl;
     }
 
-pub turns-preserved-in-Ok : goal.turns-preserved-in-Ok
-turns-preserved-in-Ok g c =
-    let before = c.turns.invariant in
-    let turn = c.in-Piece.ensures in
+pub rounds-preserved-in-Ok : goal.rounds-preserved-in-Ok
+rounds-preserved-in-Ok g c =
+    let before = c.rounds.invariant in
+    let round = c.in-Piece.ensures in
     let given = c.in-Ok.ensures in
     record {
       under_way = on_rules _ _ _ _ _ _ _ _ _ _ _ _ _ _ _ given.rules_stay
-          (after_piece c.in-Piece.n _ _ _ _ _ _ _ _ _ _ _ _ _ _ _ _ _ _ _ _ _ _ _ before.under_way turn.fits turn.budget turn.bytes turn.fails_only turn.counts_quiet given.wrote given.at given.number);
-      few = let same : c.step.new.self.quiets ≡ c.turns.intake.quiets = ap (λ b. b.quiets) turn.budget.1 in omega (arith, before.few, same);
+          (after_piece c.in-Piece.n _ _ _ _ _ _ _ _ _ _ _ _ _ _ _ _ _ _ _ _ _ _ _ before.under_way round.fits round.budget round.bytes round.fails_only round.counts_quiet given.wrote given.at given.number);
+      few = let same : c.step.new.self.quiets ≡ c.rounds.intake.quiets = ap (λ b. b.quiets) round.budget.1 in omega (arith, before.few, same);
       limit = given.limit_stays ∙ before.limit ∙ ap (λ r. r.limit) (sym given.rules_stay);
       rules = given.rules_stay ∙ before.rules;
-      faults = omega (arith, before.faults, turn.faults_stay);
-      quiets = omega (arith, before.quiets, turn.quiets_stay);
+      faults = omega (arith, before.faults, round.faults_stay);
+      quiets = omega (arith, before.quiets, round.quiets_stay);
       takes = given.takes;
       sunk = given.cause ∙ before.sunk;
     }
 
-pub turns-preserved : goal.turns-preserved
-turns-preserved g c =
-    let before = c.turns.invariant in
-    let turn = c.in-Quiet.ensures in
+pub rounds-preserved : goal.rounds-preserved
+rounds-preserved g c =
+    let before = c.rounds.invariant in
+    let round = c.in-Quiet.ensures in
     record {
-      under_way = after_quiet _ _ c.step.new.buf _ _ _ _ _ _ _ _ _ _ _ _ _ _ _ _ before.under_way turn.budget turn.bytes turn.fails_only turn.counts_quiet;
-      few = let next : c.step.new.self.quiets ≡ c.turns.intake.quiets + 1 = ap (λ b. b.quiets) turn.budget.1 in
-          let less = turn.budget.0 in omega (arith, next, less);
+      under_way = after_quiet _ _ c.step.new.buf _ _ _ _ _ _ _ _ _ _ _ _ _ _ _ _ before.under_way round.budget round.bytes round.fails_only round.counts_quiet;
+      few = let next : c.step.new.self.quiets ≡ c.rounds.intake.quiets + 1 = ap (λ b. b.quiets) round.budget.1 in
+          let less = round.budget.0 in omega (arith, next, less);
       limit = before.limit;
       rules = before.rules;
-      faults = omega (arith, before.faults, turn.faults_stay);
-      quiets = omega (arith, before.quiets, turn.quiets_stay);
+      faults = omega (arith, before.faults, round.faults_stay);
+      quiets = omega (arith, before.quiets, round.quiets_stay);
       takes = before.takes;
       sunk = before.sunk;
     }
 
 pub returns-in-Err-clause-played : goal.returns-in-Err-clause-played
 returns-in-Err-clause-played g c =
-    let before = c.turns.invariant in
-    let turn = c.in-Piece.ensures in
+    let before = c.rounds.invariant in
+    let round = c.in-Piece.ensures in
     by_rules _ _ _ _ _ _ _ _ before.rules
-    (broken_in_piece c.in-Piece.n _ _ _ _ _ _ _ _ _ _ _ _ _ _ _ _ _ _ _ _ _ before.under_way turn.fits turn.budget turn.bytes turn.fails_only turn.counts_quiet c.in-Err.ensures.wrote _ c.outcome.ensures)
+    (broken_in_piece c.in-Piece.n _ _ _ _ _ _ _ _ _ _ _ _ _ _ _ _ _ _ _ _ _ before.under_way round.fits round.budget round.bytes round.fails_only round.counts_quiet c.in-Err.ensures.wrote _ c.outcome.ensures)
 
 pub returns-in-Ok-hand_on-clause-played : goal.returns-in-Ok-hand_on-clause-played
 returns-in-Ok-hand_on-clause-played g c =
-    let before = c.turns.invariant in
-    let turn = c.in-Last.ensures in
+    let before = c.rounds.invariant in
+    let round = c.in-Last.ensures in
     by_rules _ _ _ _ _ _ _ _ before.rules
-    (filled c.in-Last.n _ _ _ _ _ _ _ _ _ _ _ _ _ _ _ _ _ _ before.under_way turn.fits turn.budget turn.bytes c.in-Ok-hand_on.ensures.wrote)
+    (filled c.in-Last.n _ _ _ _ _ _ _ _ _ _ _ _ _ _ _ _ _ _ before.under_way round.fits round.budget round.bytes c.in-Ok-hand_on.ensures.wrote)
 
 pub returns-in-Err-hand_on-clause-played : goal.returns-in-Err-hand_on-clause-played
 returns-in-Err-hand_on-clause-played g c =
-    let before = c.turns.invariant in
-    let turn = c.in-Last.ensures in
+    let before = c.rounds.invariant in
+    let round = c.in-Last.ensures in
     by_rules _ _ _ _ _ _ _ _ before.rules
-    (broken_in_last c.in-Last.n _ _ _ _ _ _ _ _ _ _ _ _ _ _ _ _ _ _ _ before.under_way turn.fits turn.budget turn.bytes c.in-Err-hand_on.ensures.wrote _ c.outcome-in-Err-hand_on.ensures)
+    (broken_in_last c.in-Last.n _ _ _ _ _ _ _ _ _ _ _ _ _ _ _ _ _ _ _ before.under_way round.fits round.budget round.bytes c.in-Err-hand_on.ensures.wrote _ c.outcome-in-Err-hand_on.ensures)
 
 pub returns-in-Ok-close-clause-played : goal.returns-in-Ok-close-clause-played
 returns-in-Ok-close-clause-played g c =
-    let before = c.turns.invariant in
+    let before = c.rounds.invariant in
     by_rules _ _ _ _ _ _ _ _ before.rules
     (ended _ _ c.step.new.buf _ _ _ _ _ _ _ _ _ _ _ _ _ _ before.under_way c.in-End.ensures.bytes c.in-Ok-close.ensures.wrote)
 
 pub returns-in-Err-close-clause-played : goal.returns-in-Err-close-clause-played
 returns-in-Err-close-clause-played g c =
-    let before = c.turns.invariant in
+    let before = c.rounds.invariant in
     by_rules _ _ _ _ _ _ _ _ before.rules
     (broken_at_end _ _ c.step.new.buf _ _ _ _ _ _ _ _ _ _ _ _ _ _ _ before.under_way c.in-End.ensures.bytes c.in-Err-close.ensures.wrote _ c.outcome-in-Err-close.ensures)
 
 pub returns-in-Err-clause-cause : goal.returns-in-Err-clause-cause
 returns-in-Err-clause-cause g c =
-    let before = c.turns.invariant in
-    let turn = c.in-Piece.ensures in
+    let before = c.rounds.invariant in
+    let round = c.in-Piece.ensures in
     broken _ _ _ _ _ c.outcome.ensures
-    (turn.fails_only ∙ before.under_way.taken.no_fault, (c.turns.intake.quiets, (before.few, turn.counts_quiet ∙ before.under_way.taken.quiet)))
+    (round.fails_only ∙ before.under_way.taken.no_fault, (c.rounds.intake.quiets, (before.few, round.counts_quiet ∙ before.under_way.taken.quiet)))
     before.sunk c.in-Err.ensures.cause
 
 pub returns-in-Ok-hand_on-clause-cause : goal.returns-in-Ok-hand_on-clause-cause
 returns-in-Ok-hand_on-clause-cause g c =
-    let before = c.turns.invariant in
-    let turn = c.in-Last.ensures in (
-      (turn.fails_only ∙ before.under_way.taken.no_fault, (c.turns.intake.quiets, (before.few, turn.counts_quiet ∙ before.under_way.taken.quiet))),
+    let before = c.rounds.invariant in
+    let round = c.in-Last.ensures in (
+      (round.fails_only ∙ before.under_way.taken.no_fault, (c.rounds.intake.quiets, (before.few, round.counts_quiet ∙ before.under_way.taken.quiet))),
       c.in-Ok-hand_on.ensures.cause ∙ before.sunk,
     )
 
 pub returns-in-Err-hand_on-clause-cause : goal.returns-in-Err-hand_on-clause-cause
 returns-in-Err-hand_on-clause-cause g c =
-    let before = c.turns.invariant in
-    let turn = c.in-Last.ensures in
+    let before = c.rounds.invariant in
+    let round = c.in-Last.ensures in
     broken _ _ _ _ _ c.outcome-in-Err-hand_on.ensures
-    (turn.fails_only ∙ before.under_way.taken.no_fault, (c.turns.intake.quiets, (before.few, turn.counts_quiet ∙ before.under_way.taken.quiet)))
+    (round.fails_only ∙ before.under_way.taken.no_fault, (c.rounds.intake.quiets, (before.few, round.counts_quiet ∙ before.under_way.taken.quiet)))
     before.sunk c.in-Err-hand_on.ensures.cause
 
 pub returns-in-Ok-close-clause-cause : goal.returns-in-Ok-close-clause-cause
 returns-in-Ok-close-clause-cause g c =
-    let before = c.turns.invariant in
-    let turn = c.in-End.ensures in (
-      (turn.fails_only ∙ before.under_way.taken.no_fault, (c.turns.intake.quiets, (before.few, turn.counts_quiet ∙ before.under_way.taken.quiet))),
+    let before = c.rounds.invariant in
+    let round = c.in-End.ensures in (
+      (round.fails_only ∙ before.under_way.taken.no_fault, (c.rounds.intake.quiets, (before.few, round.counts_quiet ∙ before.under_way.taken.quiet))),
       c.in-Ok-close.ensures.cause ∙ before.sunk,
     )
 
 pub returns-in-Err-close-clause-cause : goal.returns-in-Err-close-clause-cause
 returns-in-Err-close-clause-cause g c =
-    let before = c.turns.invariant in
-    let turn = c.in-End.ensures in
+    let before = c.rounds.invariant in
+    let round = c.in-End.ensures in
     broken _ _ _ _ _ c.outcome-in-Err-close.ensures
-    (turn.fails_only ∙ before.under_way.taken.no_fault, (c.turns.intake.quiets, (before.few, turn.counts_quiet ∙ before.under_way.taken.quiet)))
+    (round.fails_only ∙ before.under_way.taken.no_fault, (c.rounds.intake.quiets, (before.few, round.counts_quiet ∙ before.under_way.taken.quiet)))
     before.sunk c.in-Err-close.ensures.cause
 
 pub returns-in-Failed-clause-cause : goal.returns-in-Failed-clause-cause
 returns-in-Failed-clause-cause g c =
-    let before = c.turns.invariant in
-    let turn = c.in-Failed.ensures in (
+    let before = c.rounds.invariant in
+    let round = c.in-Failed.ensures in (
       (
-        subst (λ n. Rose n (g.S.Source.faults c.step.new.source)) before.under_way.taken.no_fault (turn.failed refl),
-        (c.turns.intake.quiets, (before.few, turn.counts_quiet ∙ before.under_way.taken.quiet)),
+        subst (λ n. Rose n (g.S.Source.faults c.step.new.source)) before.under_way.taken.no_fault (round.failed refl),
+        (c.rounds.intake.quiets, (before.few, round.counts_quiet ∙ before.under_way.taken.quiet)),
       ),
       before.sunk,
     )
 
 pub returns-in-TooQuiet-clause-cause : goal.returns-in-TooQuiet-clause-cause
 returns-in-TooQuiet-clause-cause g c =
-    let before = c.turns.invariant in
-    let turn = c.in-TooQuiet.ensures in (
+    let before = c.rounds.invariant in
+    let round = c.in-TooQuiet.ensures in (
       (
-        turn.fails_only ∙ before.under_way.taken.no_fault,
-        quiet_at_last _ before.under_way.bytes c.turns.intake c.step.new.self _ _ _ _ _ _ _ before.under_way.taken turn.budget turn.counts_quiet,
+        round.fails_only ∙ before.under_way.taken.no_fault,
+        quiet_at_last _ before.under_way.bytes c.rounds.intake c.step.new.self _ _ _ _ _ _ _ before.under_way.taken round.budget round.counts_quiet,
       ),
       before.sunk,
     )

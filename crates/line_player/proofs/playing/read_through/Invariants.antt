@@ -3,8 +3,8 @@ use Rattle.gps_outside.specs.ReadSteps.{work_left}
 use Rattle.line_player.proofs.Reading.{UnderWay}
 use Rattle.line_player.proofs.playing.read_through.Given as goal
 
-abbrev pub invariant-turns : goal.invariant-turns
-invariant-turns g l = record {
+abbrev pub invariant-rounds : goal.invariant-rounds
+invariant-rounds g l = record {
   under_way : UnderWay (g.P.PlaysLines.rules l.player) l.most l.intake l.lines.cutter l.lines.count (g.P.PlaysLines.stands l.player)
       (g.S.Source.content l.initial.source) (g.S.Source.content l.source)
       (g.S.Source.faults l.initial.source) (g.S.Source.faults l.source)
@@ -19,5 +19,5 @@ invariant-turns g l = record {
   sunk : g.K.Sink.faults l.sink ≡ g.K.Sink.faults l.initial.sink;
 }
 
-abbrev pub decreases-turns : goal.decreases-turns
-decreases-turns g l = work_left l.intake
+abbrev pub decreases-rounds : goal.decreases-rounds
+decreases-rounds g l = work_left l.intake

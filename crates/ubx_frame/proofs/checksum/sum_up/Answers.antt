@@ -4,18 +4,18 @@ use Rattle.ubx_frame.specs.Checksum.{after_byte, sums_of}
 use Rattle.ubx_frame.proofs.Rows.{row_added, rows_end}
 use Rattle.ubx_frame.proofs.checksum.sum_up.Goals as goal
 
-pub turns-preserved : goal.turns-preserved
-turns-preserved c =
+pub rounds-preserved : goal.rounds-preserved
+rounds-preserved c =
     let bytes = c.args.covered.now in
-    let at = c.turns.at in
-    let within : at + 64 ≤ length bytes = omega (arith, c.turns-test.true, c.turns.invariant.within) in
+    let at = c.rounds.at in
+    let within : at + 64 ≤ length bytes = omega (arith, c.rounds-test.true, c.rounds.invariant.within) in
     record {
       within = within;
       rows =
-          row_added _ _ _ _ bytes (at + 48) (at + 64) (omega arith) within c.add_row-in-turns-3.ensures.columns c.add_row-in-turns-3.ensures.earlier
-          (row_added _ _ _ _ bytes (at + 32) (at + 48) (omega arith) (omega (arith, within)) c.add_row-in-turns-2.ensures.columns c.add_row-in-turns-2.ensures.earlier
-          (row_added _ _ _ _ bytes (at + 16) (at + 32) (omega arith) (omega (arith, within)) c.add_row-in-turns.ensures.columns c.add_row-in-turns.ensures.earlier
-          (row_added _ _ _ _ bytes at (at + 16) (omega arith) (omega (arith, within)) c.add_row.ensures.columns c.add_row.ensures.earlier c.turns.invariant.rows)));
+          row_added _ _ _ _ bytes (at + 48) (at + 64) (omega arith) within c.add_row-in-rounds-3.ensures.columns c.add_row-in-rounds-3.ensures.earlier
+          (row_added _ _ _ _ bytes (at + 32) (at + 48) (omega arith) (omega (arith, within)) c.add_row-in-rounds-2.ensures.columns c.add_row-in-rounds-2.ensures.earlier
+          (row_added _ _ _ _ bytes (at + 16) (at + 32) (omega arith) (omega (arith, within)) c.add_row-in-rounds.ensures.columns c.add_row-in-rounds.ensures.earlier
+          (row_added _ _ _ _ bytes at (at + 16) (omega arith) (omega (arith, within)) c.add_row.ensures.columns c.add_row.ensures.earlier c.rounds.invariant.rows)));
     }
 
 pub rows-preserved : goal.rows-preserved

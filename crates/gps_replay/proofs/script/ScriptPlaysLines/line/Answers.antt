@@ -4,11 +4,11 @@ use Rattle.replay_player.specs.declared.player.Player.{Player}
 use Rattle.replay_player.specs.Effects.{effect}
 use Rattle.replay_player.specs.Players.{LinePlayed}
 use Rattle.gps_replay.specs.Scripts.{StillStands}
-use Rattle.gps_replay.proofs.Turns.{made}
+use Rattle.gps_replay.proofs.Rounds.{made}
 use Rattle.gps_replay.proofs.script.ScriptPlaysLines.line.Goals as goal
 
-pub returns-in-Some-2-clause-turns : goal.returns-in-Some-2-clause-turns
-returns-in-Some-2-clause-turns c = λ state stands.
+pub returns-in-Some-2-clause-rounds : goal.returns-in-Some-2-clause-rounds
+returns-in-Some-2-clause-rounds c = λ state stands.
     let event : Some c.in-Some.event ≡ event_in c.args.text.now = let exact = c.in_ok-event.ensures.exact in let is = c.in-Some.is in cc in
     let held : c.args.self.now.player ≡ Some c.in-Some-take.player = let value = c.take.ensures.value in let is = c.in-Some-take.is in cc in
     made _ state c.args.text.now _ _ c.in-Some.event c.in-Some-2.player _ event c.put.ensures stands.0 stands.1

@@ -19,7 +19,7 @@ returns-in-Refused-clause-runs g c =
     let steps = subst (λ next. Steps c.lines.self.cutter c.next.new.self c.lines.rest.now next) c.in-Line.is c.in_ok-line.ensures.steps in
     λ bytes at.
     line_refused _ _ bytes _ _ _ _ _ _ _ _ _ _ _ c.in-Line.line c.in-Line.used _ (before.under_way bytes at) steps before.rules
-    (ap (λ l. text_in l (spelling c.in-Line.line)) (before.limit ∙ c.requires.limit)) c.in_ok-run_line-in-Line.ensures.turns c.in-Refused.is
+    (ap (λ l. text_in l (spelling c.in-Line.line)) (before.limit ∙ c.requires.limit)) c.in_ok-run_line-in-Line.ensures.rounds c.in-Refused.is
 
 pub lines-preserved : goal.lines-preserved
 lines-preserved g c =
@@ -29,7 +29,7 @@ lines-preserved g c =
     record {
       under_way = λ bytes at.
           line_made _ _ bytes _ _ _ _ _ _ _ _ _ _ _ c.in-Line.line c.in-Line.used _ (before.under_way bytes at) steps c.in_ok-line.ensures.limit before.rules
-          (ap (λ l. text_in l (spelling c.in-Line.line)) (before.limit ∙ c.requires.limit)) c.in_ok-run_line-in-Line.ensures.turns c.in-Made.is;
+          (ap (λ l. text_in l (spelling c.in-Line.line)) (before.limit ∙ c.requires.limit)) c.in_ok-run_line-in-Line.ensures.rounds c.in-Made.is;
       number = let most = before.number in let some = within.0 in let fits = within.1 in grind (arith, common_steps);
       limit = before.limit;
       rules = c.in_ok-run_line-in-Line.ensures.rules_stay ∙ before.rules;

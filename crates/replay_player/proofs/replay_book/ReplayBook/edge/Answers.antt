@@ -4,7 +4,11 @@ use Rattle.book_log.specs.DeviceLogView.{turns_at}
 use Rattle.replay_player.specs.Playing.{BookStandsFor, ReplayBookView}
 use Rattle.replay_player.proofs.Devices.{entries_act}
 use Rattle.replay_player.proofs.Refusing.{brings_none}
+use Rattle.report_book.proofs.Allowing.{any_lines}
 use Rattle.replay_player.proofs.replay_book.ReplayBook.edge.Goals as goal
+
+pub edge-requires : goal.edge-requires
+edge-requires c = record { may = any_lines _ _ _ }
 
 pub returns-then-not-has_device : goal.returns-then-not-has_device
 returns-then-not-has_device c = record {

@@ -1,7 +1,11 @@
 use Rattle.std.proofs.Common.{◌<◌, length, sym, subst}
 use Rattle.replay_player.specs.Playing.{BookStandsFor, ReplayBookView}
 use Rattle.replay_player.proofs.EndsDevices.{one_ended}
+use Rattle.report_book.proofs.Allowing.{any_lines}
 use Rattle.replay_player.proofs.replay_book.ReplayBook.end_one.Goals as goal
+
+pub end_device-requires : goal.end_device-requires
+end_device-requires c = record { may = any_lines _ _ _ }
 
 pub returns-clause-ended : goal.returns-clause-ended
 returns-clause-ended c = λ state plays.

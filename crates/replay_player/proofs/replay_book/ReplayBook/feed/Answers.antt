@@ -4,7 +4,11 @@ use Rattle.book_log.specs.DeviceLogView.{turns_at}
 use Rattle.replay_player.specs.Playing.{BookStandsFor, ReplayBookView}
 use Rattle.replay_player.proofs.Devices.{entries_act}
 use Rattle.replay_player.proofs.Refusing.{brings_none}
+use Rattle.report_book.proofs.Allowing.{any_lines}
 use Rattle.replay_player.proofs.replay_book.ReplayBook.feed.Goals as goal
+
+pub feed-requires-clause-may : goal.feed-requires-clause-may
+feed-requires-clause-may c = any_lines _ _ _
 
 pub returns-then-not-has_device : goal.returns-then-not-has_device
 returns-then-not-has_device c = record {

@@ -2,7 +2,11 @@ use Rattle.std.proofs.Common.{◌≡◌, false, nat_lt, length, sym, subst, rule
 use Rattle.replay_player.specs.Playing.{BookStandsFor, ReplayBookView}
 use Rattle.replay_player.proofs.Hearing.{hears_act}
 use Rattle.replay_player.proofs.Absent.{hears_none}
+use Rattle.report_book.proofs.Allowing.{any_replies}
 use Rattle.replay_player.proofs.replay_book.ReplayBook.input.Goals as goal
+
+pub input-requires-clause-may : goal.input-requires-clause-may
+input-requires-clause-may c = any_replies _ _ _
 
 pub returns-then-not-has_session : goal.returns-then-not-has_session
 returns-then-not-has_session c = record {

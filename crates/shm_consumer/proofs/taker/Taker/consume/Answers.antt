@@ -1,7 +1,7 @@
 -- Each load of the body goes on with the reading, and the second count or the store that clears ends it.
 use Rattle.std.proofs.Common.{◌≡◌, ℕ, ◌+◌, subst, arith}
 use Rattle.shm_consumer.specs.Taking.{HasLoaded}
-use Rattle.shm_consumer.proofs.Turns.{goes_by, goes_again, ends, clears, rises_once}
+use Rattle.shm_consumer.proofs.Positions.{goes_by, goes_again, ends, clears, rises_once}
 use Rattle.shm_consumer.proofs.taker.Taker.consume.Goals as goal
 
 pub loop-preserved : goal.loop-preserved

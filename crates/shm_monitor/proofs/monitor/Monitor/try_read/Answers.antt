@@ -1,7 +1,7 @@
 -- Each load of the body goes on with the reading, and the second count ends it.
 use Rattle.std.proofs.Common.{◌≡◌, ℕ, ◌+◌, subst, arith}
 use Rattle.shm_monitor.specs.MonitorView.{HasLoaded}
-use Rattle.shm_monitor.proofs.Turns.{goes_by, ends}
+use Rattle.shm_monitor.proofs.Positions.{goes_by, ends}
 use Rattle.shm_monitor.proofs.monitor.Monitor.try_read.Goals as goal
 
 pub loop-preserved : goal.loop-preserved

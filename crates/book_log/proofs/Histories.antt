@@ -90,7 +90,7 @@ pub symbols_got : (d : ℕ) (symbols : List Symbol) → symbols_in (got d symbol
 symbols_got d [] = refl
 symbols_got d (x ∷ symbols) = ap (λ n. suc n) (symbols_got d symbols)
 
--- behind the first byte a device is not announced any more
+-- after the first byte a device is not announced any more
 pub history_known : (before : List Entry) (d : ℕ) (at : Moment) (symbols : List Symbol) → first_stamp (stream d before) ≡ Some at
     → history_after before (got d symbols) ≡ of_device d (reports_from (stream d before) symbols)
 unfolding history_after reports_from

@@ -27,7 +27,7 @@ from_gain s t = beyond_is (device_reports s) (reports_from s t) (device_reports 
 same_reports : (kept : DeviceKept) (s r t : List Symbol) → DeviceStands kept s → DeviceStands kept r → reports_from s t ≡ reports_from r t
 same_reports kept s r t one other = sym (from_gain s t) ∙ gain_decided kept s r t one other ∙ from_gain r t
 
--- what comes behind t is the same, too
+-- what comes after t is the same, too
 same_later : (kept : DeviceKept) (s r t more : List Symbol) → DeviceStands kept s → DeviceStands kept r → reports_from (s ++ t) more ≡ reports_from (r ++ t) more
 same_later kept s r t more one other =
     sym (drop-append_seam (reports_from s t) (reports_from (s ++ t) more))
@@ -64,7 +64,7 @@ some_line : (lines : List DeviceStateView) (d : ℕ) → d < length lines → De
 some_line [] d within = absurd (omega arith)
 some_line (line ∷ lines) d within = line
 
--- one entry adds the same behind both
+-- one entry adds the same after both
 same_entry : (kept : DeviceStatesView) (f g done : List Entry) (entry : Entry) → StandsFor kept f → StandsFor kept g → device_of entry < length kept.lines
     → stops_in (device_of entry) (f ++ done) ≡ false → reports_at (f ++ done) entry ≡ reports_at (g ++ done) entry
 same_entry kept f g done (Lost d) one other within runs = refl

@@ -22,7 +22,7 @@ use Rattle.book_log.proofs.ReadingLaws.{first_of-append, last_of-append, or_none
 use Rattle.book_log.proofs.Histories.{gains_are, given_own, has_end-append, has_lost-append, history-append, history_edge, history_piece, no_end_got, no_loss_got, same, stream-append, stream_after, stream_got}
 use Rattle.std.proofs.lemmas.List.Folds.{list_any-append}
 
--- the last value among a device's reports, behind those of a log
+-- the last value among a device's reports, after those of a log
 pub last_after : {Y : Type 0} (f : Body → Option Y) (d : ℕ) (log entries : List Entry) (bodies : List Body) (value newer : Option Y)
     → history_after log entries ≡ of_device d bodies → value ≡ last_of (given_by f d) (history log) → newer ≡ last_of f bodies
     → option_or newer value ≡ last_of (given_by f d) (history (log ++ entries))

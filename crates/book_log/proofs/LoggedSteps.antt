@@ -97,7 +97,7 @@ pub turned_if_holds : (turns : Bool) (b : DeviceLogView) → LogHolds b → LogH
 turned_if_holds true b h = turned_holds b h
 turned_if_holds false b h = h
 
--- what is seen behind `prepared` and `begin`
+-- what is seen after `prepared` and `begin`
 pub began : (turns : Bool) (now : DeviceStatesView) (limit number later : ℕ) (old current : Generation) (next : Option DeviceStatesView)
     → IsNext turns now next → current ≡ generation_after next old → later ≡ cond (is_some next) (next_generation number) number
     → shown now limit later current ≡ turned_if turns (shown now limit number old)

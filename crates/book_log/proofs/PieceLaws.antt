@@ -13,7 +13,7 @@ no_bytes : (bytes : List ℕ) → 0 ≡ length bytes → bytes ≡ []
 no_bytes [] e = refl
 no_bytes (b ∷ bytes) e = absurd (omega arith)
 
--- an event's entries do not depend on the bytes behind its own
+-- an event's entries do not depend on the bytes after its own
 called_before : (event : LogEvent) (bytes more : List ℕ) → bytes_of event ≤ length bytes → called event (bytes ++ more) ≡ called event bytes
 called_before (Fed d count at) bytes more fits = ap (fed d at) (take-append-le count bytes more fits)
 called_before (Edged d kind seq at) bytes more fits = refl

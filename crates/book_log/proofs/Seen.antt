@@ -1,4 +1,4 @@
--- Lines as a summary, behind a call for one of them.
+-- Lines as a summary, after a call for one of them.
 use Rattle.std.proofs.Common.{◌≡◌, ℕ, refl, subst, List, Option}
 use Rattle.std.specs.Option.{option_or}
 use Rattle.gps_fixed.specs.Moment.{Moment}

@@ -2,6 +2,7 @@
 -- own.
 use Rattle.std.specs.Prelude.{◌≡◌, ◌≤◌, ◌<◌, ◌+◌, ◌*◌, ◌^◌, ◌-◌, ℕ, Bool, true, false, ◌&&◌, List, [], ◌++◌, cond, length, map, max, min, nat_eq, nat_lt, replicate}
 use Rattle.std.specs.List.{filter, list_all}
+use Rattle.gps_fixed.specs.Limits.{longest_piece, most_history}
 use Rattle.gps_report.specs.declared.report.Report.{Report}
 use Rattle.book_log.specs.Entries.{Entry, symbols_in}
 use Rattle.book_log.specs.History.{history_after}
@@ -68,8 +69,8 @@ pub record LogHolds (b : DeviceLogView) : Type 0 where
   pub over : (before : List Entry) → StandsFor b.opening before → FollowsLog b before
   pub devices_go_on : DevicesGoOn b.opening b.present b.log
   pub symbols : b.symbols ≡ symbols_in b.log
-  pub few : b.symbols ≤ max b.limit 512
-  pub limit : b.limit ≤ 33_554_432
+  pub few : b.symbols ≤ max b.limit longest_piece
+  pub limit : b.limit ≤ most_history
   pub bound : b.length + 3 * running b.present ≤ 2057 * b.symbols + 3 * length b.present.lines
   pub count : length b.opening.lines ≡ length b.present.lines
   pub devices : length b.present.lines ≤ 255

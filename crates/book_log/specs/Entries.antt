@@ -56,7 +56,7 @@ is_symbol (Lost d) = false
 abbrev pub symbols_in : List Entry → ℕ
 symbols_in log = length (filter is_symbol log)
 
--- behind a log go entries of the devices numbered below `count`, none of a device that has stopped before it
+-- a log is followed by entries of the devices numbered below `count`, none of a device that has stopped before it
 unfoldable pub GoesOn : ℕ → List Entry → List Entry → Type 0
 GoesOn count before [] = Unit {0}
 GoesOn count before (entry ∷ log) = (device_of entry < count) × (stops_in (device_of entry) before ≡ false) × GoesOn count (before ++ entry ∷ []) log

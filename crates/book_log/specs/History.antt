@@ -1,4 +1,4 @@
--- The history of a log: entry by entry, the reports that each adds behind the entries before it.
+-- The history of a log: entry by entry, the reports that each adds after the entries before it.
 use Rattle.std.specs.Prelude.{ℕ, List, [], ◌∷◌, ◌++◌, Option, Some, None, cond}
 use Rattle.gps_fixed.specs.Moment.{Moment}
 use Rattle.gps_report.specs.declared.edge.Symbol.{Symbol}
@@ -16,7 +16,7 @@ announced (Some first) symbol = []
 announced None (Byte at byte) = Device (Some at) ∷ []
 announced None (EdgeSymbol edge) = []
 
--- what an entry adds behind the entries before it
+-- what an entry adds after the entries before it
 abbrev pub reports_at : List Entry → Entry → List Report
 reports_at before (Got d symbol) = of_device d (announced (first_stamp (stream d before)) symbol ++ gained (stream d before) symbol)
 reports_at before (Ended d) = of_device d (device_close (stream d before) ++ Device None ∷ [])

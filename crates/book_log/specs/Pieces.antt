@@ -1,4 +1,4 @@
--- A log by its pieces: what came, in order, and the bytes of all pieces joined. No public clause speaks of it.
+-- A log by its pieces: what came, in order, and the bytes of all pieces joined. No public clause names it.
 use Rattle.std.specs.Prelude.{◌≡◌, ◌+◌, ◌≤◌, ℕ, List, [], ◌∷◌, ◌++◌, drop, take}
 use Rattle.book_log.specs.declared.log.LogEvent.{LogEvent}
 use Rattle.book_log.specs.declared.log.LogEvent.TheVariants.{Fed, Edged, Ended, Lost}

@@ -1,4 +1,4 @@
--- The first and the last that a list gives of something; and the stamps, the fixes and the skies that stand in symbols, entries and
+-- The first and the last that a list gives of something; and the stamps, the fixes and the skies of symbols, entries and
 -- reports.
 use Rattle.std.specs.Prelude.{ℕ, List, [], ◌∷◌, Option, Some, None, cond, map, nat_eq}
 use Rattle.std.specs.Option.{option_or}

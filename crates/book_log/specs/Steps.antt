@@ -1,4 +1,4 @@
--- Steps of the calls, which no public clause speaks of: what becomes of one device's line and of all lines, and of what is kept of a
+-- Steps of the calls, which no public clause names: what becomes of one device's line and of all lines, and of what is kept of a
 -- generation.
 use Rattle.std.specs.Prelude.{◌≡◌, ◌≤◌, ◌+◌, ℕ, List, [], ◌∷◌, ◌++◌, Option, Some, None, length, get_or}
 use Rattle.std.proofs.Math.ListN.{set}
@@ -38,7 +38,7 @@ abbrev pub most_reports : Option Moment → List Symbol → ℕ
 most_reports (Some at) symbols = 2056 + length symbols
 most_reports None symbols = 1
 
--- a device took symbols, of which the first byte has this stamp, and `out` are the reports that it gained
+-- a device took symbols, whose first byte has this stamp, and `out` are the reports that it gained
 pub record Took (old new : DeviceStateView) (d : ℕ) (symbols : List Symbol) (stamp : Option Moment) (out : List Body) (reports : List Report) : Type 0 where
   pub gains : (s : List Symbol) → DeviceStands old.kept s → Gains s symbols out
   pub stands : (s : List Symbol) → DeviceStands old.kept s → DeviceStands new.kept (s ++ symbols)

@@ -1,4 +1,4 @@
--- A generation with its log by pieces, and what a turn makes ready. Steps, which no public clause speaks of.
+-- A generation with its log by pieces, and what a turn makes ready. Steps, which no public clause names.
 use Rattle.std.specs.Prelude.{◌≡◌, ◌≤◌, ◌+◌, ℕ, Bool, List, Option, Some, None, cond}
 use Rattle.book_log.specs.declared.generation.Generation.{Generation}
 use Rattle.book_log.specs.Standing.{DeviceStatesView}

@@ -1,6 +1,7 @@
 ghost use Rattle.std.specs.Prelude.{◌≡◌, ◌++◌, ◌≤◌, ◌<◌, ◌+◌, ◌*◌, ◌^◌, false, true, [], List, IfOk, OnErr, get_or, length, max, set};
 ghost use Rattle.std.specs.List.{list_all};
 ghost use Rattle.std.specs.Option.{option_copied};
+ghost use Rattle.gps_fixed.specs.Limits.{longest_piece, most_history};
 ghost use Rattle.book_batch.specs.Sharing.{SharesLines, shares_of};
 ghost use Rattle.book_log.specs.Entries.{Entry, edged, ended, fed, lost};
 ghost use Rattle.book_log.specs.Readings.{last_fix, last_sky, last_stamp};
@@ -46,7 +47,7 @@ impl DeviceLog {
     /// The given number of devices that were given nothing yet, an empty log, and room for an end or a loss of each device. A generation holds at
     /// most `limit` symbols, or those of one call if that is more.
     pub fn new(alloc: Global, devices: u8, limit: u32) -> Result<DeviceLog, NoMemory>
-        requires { limit ≤ 33_554_432 }
+        requires { limit ≤ most_history }
         ensures fresh { IfOk result (λ log. IsFresh devices limit log) }
         ensures holds { IfOk result LogHolds }
     {
@@ -78,19 +79,26 @@ impl DeviceLog {
         names: &Names,
         shares: u32,
     ) -> Result<Addition, NoMemory>
+        // The device runs, and has a name. The piece has 1 to 512 bytes.
         requires named { device < length names.now }
         requires shares { shares ≤ 64 }
         requires runs { get_or (stopped_of self.old.present) device true ≡ false }
         requires some { 0 < length bytes.now }
-        requires piece { length bytes.now ≤ 512 }
+        requires piece { length bytes.now ≤ longest_piece }
+
+        // What the log gains.
         ensures adds { IfOk result (λ added. LogAdds (turned_if (turns_at self.old (length bytes.now)) self.old) self.new
             (fed device at bytes.now) added.batch.reports) }
         ensures turned { IfOk result (λ added. added.turned ≡ turns_at self.old (length bytes.now)) }
         ensures first { IfOk result (λ added. added.first ≡ (turned_if (turns_at self.old (length bytes.now)) self.old).length) }
+
+        // What is handed on: the reports and their lines, for the given number of sessions.
         ensures few { IfOk result (λ added. length added.batch.reports ≤ 2056 + length bytes.now) }
         ensures own { IfOk result (λ added. AreOf device added.batch.reports) }
         ensures shares { IfOk result (λ added. shares_of added.batch ≡ shares) }
         ensures lines { IfOk result (λ added. SharesLines names.now added.batch) }
+
+        // What the log is after it, and what a refusal leaves.
         ensures stopped { stopped_of self.new.present ≡ stopped_of self.old.present }
         ensures holds { LogHolds self.new }
         ensures err { OnErr result (self.new ≡ self.old) }
@@ -127,16 +135,23 @@ impl DeviceLog {
         names: &Names,
         shares: u32,
     ) -> Result<Addition, NoMemory>
+        // The device runs, and has a name.
         requires named { device < length names.now }
         requires shares { shares ≤ 64 }
         requires runs { get_or (stopped_of self.old.present) device true ≡ false }
+
+        // What the log gains.
         ensures adds { IfOk result (λ added. LogAdds (turned_if (turns_at self.old 1) self.old) self.new (edged device edge.now) added.batch.reports) }
         ensures turned { IfOk result (λ added. added.turned ≡ turns_at self.old 1) }
         ensures first { IfOk result (λ added. added.first ≡ (turned_if (turns_at self.old 1) self.old).length) }
+
+        // What is handed on: the reports and their lines, for the given number of sessions.
         ensures few { IfOk result (λ added. length added.batch.reports ≤ 1) }
         ensures own { IfOk result (λ added. AreOf device added.batch.reports) }
         ensures shares { IfOk result (λ added. shares_of added.batch ≡ shares) }
         ensures lines { IfOk result (λ added. SharesLines names.now added.batch) }
+
+        // What the log is after it, and what a refusal leaves.
         ensures stopped { stopped_of self.new.present ≡ stopped_of self.old.present }
         ensures holds { LogHolds self.new }
         ensures err { OnErr result (self.new ≡ self.old) }
@@ -163,16 +178,23 @@ impl DeviceLog {
         names: &Names,
         shares: u32,
     ) -> Result<Addition, NoMemory>
+        // The device runs, and has a name.
         requires named { device < length names.now }
         requires shares { shares ≤ 64 }
         requires runs { get_or (stopped_of self.old.present) device true ≡ false }
+
+        // What the log gains.
         ensures adds { IfOk result (λ added. LogAdds self.old self.new (ended device) added.batch.reports) }
         ensures turned { IfOk result (λ added. added.turned ≡ false) }
         ensures first { IfOk result (λ added. added.first ≡ self.old.length) }
+
+        // What is handed on: the reports and their lines, for the given number of sessions.
         ensures few { IfOk result (λ added. length added.batch.reports ≤ 3) }
         ensures own { IfOk result (λ added. AreOf device added.batch.reports) }
         ensures shares { IfOk result (λ added. shares_of added.batch ≡ shares) }
         ensures lines { IfOk result (λ added. SharesLines names.now added.batch) }
+
+        // What the log is after it, and what a refusal leaves.
         ensures stopped { IfOk result (λ added. stopped_of self.new.present ≡ set (stopped_of self.old.present) device true) }
         ensures holds { LogHolds self.new }
         ensures err { OnErr result (self.new ≡ self.old) }
@@ -215,7 +237,7 @@ impl DeviceLog {
     /// The symbols of this generation: at most the larger of the limit and 512.
     pub fn symbols(&self) -> u32
         ensures symbols { result ≡ self.now.symbols }
-        ensures few { result ≤ max self.now.limit 512 }
+        ensures few { result ≤ max self.now.limit longest_piece }
     {
         self.current.symbols
     }

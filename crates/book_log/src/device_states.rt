@@ -104,12 +104,17 @@ impl DeviceStates {
         names: &Names,
         shares: u32,
     ) -> Result<Batch, NoMemory>
+        // The device is there, and has a name.
         requires device { device < length self.old.lines }
         requires named { device < length names.now }
         requires few { shares ≤ 64 }
+
+        // What the device gains, and the lines of its reports.
         ensures takes { IfOk result (λ batch. TakesAt self.old self.new device (piece at bytes.now) (Some at) batch.reports) }
         ensures shares { IfOk result (λ batch. shares_of batch ≡ shares) }
         ensures lines { IfOk result (λ batch. SharesLines names.now batch) }
+
+        // What a refusal leaves.
         ensures err { OnErr result (self.new ≡ self.old) }
     {
         let batch = feed_at(&mut self.list, alloc, device, at, bytes, names, shares)?;
@@ -126,12 +131,17 @@ impl DeviceStates {
         names: &Names,
         shares: u32,
     ) -> Result<Batch, NoMemory>
+        // The device is there, and has a name.
         requires device { device < length self.old.lines }
         requires named { device < length names.now }
         requires few { shares ≤ 64 }
+
+        // What the device gains, and the lines of its reports.
         ensures takes { IfOk result (λ batch. TakesAt self.old self.new device (SymbolValue.Edge edge.now ∷ []) None batch.reports) }
         ensures shares { IfOk result (λ batch. shares_of batch ≡ shares) }
         ensures lines { IfOk result (λ batch. SharesLines names.now batch) }
+
+        // What a refusal leaves.
         ensures err { OnErr result (self.new ≡ self.old) }
     {
         edge_at(&mut self.list, alloc, device, edge, names, shares)
@@ -145,12 +155,17 @@ impl DeviceStates {
         names: &Names,
         shares: u32,
     ) -> Result<Batch, NoMemory>
+        // The device is there, and has a name.
         requires device { device < length self.old.lines }
         requires named { device < length names.now }
         requires few { shares ≤ 64 }
+
+        // What the device gains, and the lines of its reports.
         ensures ends { IfOk result (λ batch. EndsAt self.old self.new device batch.reports) }
         ensures shares { IfOk result (λ batch. shares_of batch ≡ shares) }
         ensures lines { IfOk result (λ batch. SharesLines names.now batch) }
+
+        // What a refusal leaves.
         ensures err { OnErr result (self.new ≡ self.old) }
     {
         finish_at(&mut self.list, alloc, device, names, shares)
@@ -181,6 +196,8 @@ fn copy_all(alloc: Global, lines: &Vec<DeviceState>) -> Result<Vec<DeviceState>,
     Ok(copies)
 }
 
+/// Feeds one device of the list. Like the three functions after it, it only forwards, for the prover: its contract says what changes at
+/// one place of the list.
 fn feed_at(
     lines: &mut Vec<DeviceState>,
     alloc: Global,
@@ -190,18 +207,24 @@ fn feed_at(
     names: &Names,
     shares: u32,
 ) -> Result<Batch, NoMemory>
+    // The device is there, and has a name.
     requires device { device < length lines.old.items }
     requires named { device < length names.now }
     requires few { shares ≤ 64 }
+
+    // What the device gains, and the lines of its reports.
     ensures takes { IfOk result (λ batch. ChangesAt lines.old.items lines.new.items device
         (λ before after. TakesSymbols before after device (piece at bytes.now) (Some at) batch.reports)) }
     ensures shares { IfOk result (λ batch. shares_of batch ≡ shares) }
     ensures lines { IfOk result (λ batch. SharesLines names.now batch) }
+
+    // What a refusal leaves.
     ensures err { OnErr result (lines.new.items ≡ lines.old.items) }
 {
     lines[device as usize].feed(alloc, device, at, bytes, names, shares)
 }
 
+/// The same for an edge.
 fn edge_at(
     lines: &mut Vec<DeviceState>,
     alloc: Global,
@@ -210,18 +233,24 @@ fn edge_at(
     names: &Names,
     shares: u32,
 ) -> Result<Batch, NoMemory>
+    // The device is there, and has a name.
     requires device { device < length lines.old.items }
     requires named { device < length names.now }
     requires few { shares ≤ 64 }
+
+    // What the device gains, and the lines of its reports.
     ensures takes { IfOk result (λ batch. ChangesAt lines.old.items lines.new.items device
         (λ before after. TakesSymbols before after device (SymbolValue.Edge edge.now ∷ []) None batch.reports)) }
     ensures shares { IfOk result (λ batch. shares_of batch ≡ shares) }
     ensures lines { IfOk result (λ batch. SharesLines names.now batch) }
+
+    // What a refusal leaves.
     ensures err { OnErr result (lines.new.items ≡ lines.old.items) }
 {
     lines[device as usize].edge(alloc, device, edge, names, shares)
 }
 
+/// The same for a device's end.
 fn finish_at(
     lines: &mut Vec<DeviceState>,
     alloc: Global,
@@ -229,17 +258,23 @@ fn finish_at(
     names: &Names,
     shares: u32,
 ) -> Result<Batch, NoMemory>
+    // The device is there, and has a name.
     requires device { device < length lines.old.items }
     requires named { device < length names.now }
     requires few { shares ≤ 64 }
+
+    // What the device gains, and the lines of its reports.
     ensures ends { IfOk result (λ batch. ChangesAt lines.old.items lines.new.items device (λ before after. Ends before after device batch.reports)) }
     ensures shares { IfOk result (λ batch. shares_of batch ≡ shares) }
     ensures lines { IfOk result (λ batch. SharesLines names.now batch) }
+
+    // What a refusal leaves.
     ensures err { OnErr result (lines.new.items ≡ lines.old.items) }
 {
     lines[device as usize].finish(alloc, device, names, shares)
 }
 
+/// The same for its loss.
 fn lose_at(lines: &mut Vec<DeviceState>, device: u8)
     requires { device < length lines.old.items }
     ensures { ChangesAt lines.old.items lines.new.items device Loses }

@@ -26,7 +26,7 @@ struct Listed {
     sky: Option<Sky>,
 }
 
-/// A fix takes the place of the last one.
+/// A fix replaces the last one.
 #[inline(always)]
 fn renew_fix(last: &mut Option<Fix>, body: &Body)
     ensures { last.new ≡ option_or (fix_in body.now) last.old }
@@ -36,7 +36,7 @@ fn renew_fix(last: &mut Option<Fix>, body: &Body)
     }
 }
 
-/// A sky takes the place of the last one.
+/// A sky replaces the last one.
 #[inline(always)]
 fn renew_sky(last: &mut Option<Sky>, body: &Body) -> Result<(), NoMemory>
     ensures { OnOk result (last.new ≡ option_or (sky_in body.now) last.old) }
@@ -86,7 +86,7 @@ fn last_sky(bodies: &[Body]) -> Result<Option<Sky>, NoMemory>
     Ok(sky)
 }
 
-/// The reports of a device's new bodies, behind the announcement. A report has some 170 bytes: the loop does nothing else, so that the compiler copies
+/// The reports of a device's new bodies, after the announcement. A report has some 170 bytes: the loop does nothing else, so that the compiler copies
 /// it as seldom as it can.
 #[tactic(auto, using(crate::proofs::ReadingLaws::of_device_more))]
 fn reported(
@@ -104,7 +104,7 @@ fn reported(
     Ok(reports)
 }
 
-/// The reports of a device's new bodies, behind the announcement of its first byte, if it came with them.
+/// The reports of a device's new bodies, after the announcement of its first byte, if it came with them.
 fn list(
     alloc: Global,
     device: u8,
@@ -142,12 +142,17 @@ fn batched(
     names: &Names,
     shares: u32,
 ) -> Result<Gathered, NoMemory>
+    // The reports are of a device that has a name.
     requires own { AreOf device listed.reports.items }
     requires named { device < length names.now }
     requires few { shares ≤ 64 }
+
+    // The reports and their lines.
     ensures reports { IfOk result (λ out. out.batch.reports ≡ listed.reports.items) }
     ensures shares { IfOk result (λ out. shares_of out.batch ≡ shares) }
     ensures lines { IfOk result (λ out. SharesLines names.now out.batch) }
+
+    // The last fix and the last sky among them.
     ensures fix { IfOk result (λ out. out.fix ≡ listed.fix) }
     ensures sky { IfOk result (λ out. out.sky ≡ listed.sky) }
 {
@@ -156,7 +161,7 @@ fn batched(
     Ok(Gathered { batch, fix, sky })
 }
 
-/// The reports of a device's new bodies, behind the announcement of its first byte, if it came with them, and their lines.
+/// The reports of a device's new bodies, after the announcement of its first byte, if it came with them, and their lines.
 #[tactic(auto, using(crate::proofs::Owned::own_ones))]
 pub fn gather(
     alloc: Global,
@@ -166,11 +171,16 @@ pub fn gather(
     names: &Names,
     shares: u32,
 ) -> Result<Gathered, NoMemory>
+    // The device has a name.
     requires named { device < length names.now }
     requires few { shares ≤ 64 }
+
+    // The reports and their lines.
     ensures reports { IfOk result (λ out. out.batch.reports ≡ of_device device (announcement first ++ bodies.items)) }
     ensures shares { IfOk result (λ out. shares_of out.batch ≡ shares) }
     ensures lines { IfOk result (λ out. SharesLines names.now out.batch) }
+
+    // The last fix and the last sky among them.
     ensures fix { IfOk result (λ out. out.fix ≡ last_of fix_in bodies.items) }
     ensures sky { IfOk result (λ out. out.sky ≡ last_of sky_in bodies.items) }
 {
@@ -188,11 +198,16 @@ pub fn gather_end(
     names: &Names,
     shares: u32,
 ) -> Result<Gathered, NoMemory>
+    // The device has a name.
     requires named { device < length names.now }
     requires few { shares ≤ 64 }
+
+    // The reports and their lines.
     ensures reports { IfOk result (λ out. out.batch.reports ≡ of_device device (bodies.items ++ Body.Device None ∷ [])) }
     ensures shares { IfOk result (λ out. shares_of out.batch ≡ shares) }
     ensures lines { IfOk result (λ out. SharesLines names.now out.batch) }
+
+    // The last fix and the last sky among them.
     ensures fix { IfOk result (λ out. out.fix ≡ last_of fix_in bodies.items) }
     ensures sky { IfOk result (λ out. out.sky ≡ last_of sky_in bodies.items) }
 {

@@ -1,4 +1,5 @@
 ghost use Rattle.std.specs.Prelude.{◌≡◌, ◌≤◌, ◌+◌, ◌&&◌, Bool, cond, is_some, nat_lt, IfOk, length};
+ghost use Rattle.gps_fixed.specs.Limits.{longest_piece};
 ghost use Rattle.book_log.specs.DeviceLogView.{next_generation};
 ghost use Rattle.book_log.specs.Turning.{IsNext, IsReady, generation_after, log_of};
 
@@ -18,13 +19,13 @@ pub struct Generation {
 
 /// Whether a new generation begins before `more` further symbols.
 pub fn turns_due(symbols: u32, limit: u32, more: u32) -> bool
-    requires { more ≤ 512 }
+    requires { more ≤ longest_piece }
     ensures { result ≡ (nat_lt 0 symbols && nat_lt limit (symbols + more)) }
 {
     0 < symbols && u64::from(limit) < u64::from(symbols) + u64::from(more)
 }
 
-/// Takes what a call with the given number of bytes will need: if a turn is due the opening of the next generation, which is copies of the devices;
+/// Allocates what a call with the given number of bytes will need: if a turn is due the opening of the next generation, which is copies of the devices;
 /// and room in the log that the call goes to, beside one event for each device's end or loss.
 pub fn prepared(
     alloc: Global,
@@ -51,7 +52,7 @@ pub fn prepared(
 }
 
 /// Begins the next generation, if there is an opening of one. It goes on in the room of the log that is forgotten: to give a full log back to the
-/// system and to take its room anew would take two milliseconds.
+/// system and to allocate its room again would take two milliseconds.
 pub fn begin(next: Option<DeviceStates>, current: &mut Generation, number: &mut u64)
     ensures current { current.new ≡ generation_after next current.old }
     ensures number { number.new ≡ cond (is_some next) (next_generation number.old) number.old }

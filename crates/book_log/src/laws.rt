@@ -6,14 +6,14 @@ ghost use Rattle.book_log.specs.History.{history, history_after};
 ghost use Rattle.book_log.specs.Standing.{DeviceStateView, StandsFor, DeviceStatesView, is_ended, is_lost};
 ghost use Rattle.book_log.specs.DeviceLogView.{LogHolds, DeviceLogView, stopped_of, turned};
 
-/// A longer log has the history of its beginning, and then what the rest adds behind it.
+/// A longer log has the history of its beginning, and then what the rest adds after it.
 #[tactic(auto, using(crate::proofs::HistoryLaws::whole_history, crate::proofs::HistoryLaws::parts_of_history))]
 pub fn history_goes_on()
     ensures whole { (before log : List Entry) → history (before ++ log) ≡ history before ++ history_after before log }
     ensures parts { (before log more : List Entry) → history_after before (log ++ more) ≡ history_after before log ++ history_after (before ++ log) more }
 {}
 
-/// What more of a log adds is the same behind all logs that one summary stands for, and so is the history of a generation.
+/// What more of a log adds is the same after all logs that one summary stands for, and so is the history of a generation.
 #[tactic(auto, using(crate::proofs::HistoryLaws::history_decided, crate::proofs::ReadLaws::generation_decided))]
 pub fn later_history_is_decided()
     ensures generation { (b : DeviceLogView) (before other : List Entry) → LogHolds b → StandsFor b.opening before → StandsFor b.opening other

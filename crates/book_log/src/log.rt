@@ -1,5 +1,6 @@
 ghost use Rattle.std.specs.Prelude.{◌≡◌, ◌≤◌, ◌<◌, ◌+◌, ◌++◌, true, false, [], IfOk, OnOk, length};
 ghost use Rattle.std.specs.Vec.{vec_len, vec_capacity};
+ghost use Rattle.gps_fixed.specs.Limits.{longest_piece};
 ghost use Rattle.book_log.specs.Entries.{edged, ended, fed, lost};
 ghost use Rattle.book_log.specs.Pieces.{Keeps, LengthensLast, emptied};
 
@@ -8,7 +9,7 @@ use gps_report::{Edge, EdgeKind};
 use std::alloc::Global;
 use std::marker::Model;
 
-/// What came of a device: bytes at one stamp, by their number, a pulse edge, its end or its loss. It takes 24 bytes.
+/// What came of a device: bytes at one stamp, by their number, a pulse edge, its end or its loss. It has 24 bytes.
 #[derive(Clone, Copy, Debug, PartialEq, Eq)]
 pub enum LogEvent {
     Fed {
@@ -57,7 +58,7 @@ const MOST_BEFORE: u16 = 65_023;
 /// Adds bytes to the last event, if that is of the same device and the same stamp: pieces of few bytes that come at one stamp
 /// take one event together.
 fn lengthens(events: &mut Vec<LogEvent>, device: u8, at: Stamp, more: u16) -> bool
-    requires { more ≤ 512 }
+    requires { more ≤ longest_piece }
     ensures joined { result ≡ true → LengthensLast device more at events.old.items events.new.items }
     ensures apart { result ≡ false → events.new.items ≡ events.old.items }
     ensures capacity { vec_capacity events.new ≡ vec_capacity events.old }
@@ -148,7 +149,7 @@ impl Log {
     pub fn push_piece(&mut self, device: u8, at: Stamp, bytes: &[u8])
         requires room { 0 < self.old.room }
         requires spare { length bytes.now ≤ self.old.spare }
-        requires piece { length bytes.now ≤ 512 }
+        requires piece { length bytes.now ≤ longest_piece }
         ensures { Keeps self.old self.new (fed device at bytes.now) }
     {
         let count = bytes.len() as u16;

@@ -17,7 +17,7 @@ AnswersJoin = (known : ReplyDataView) (names : List (List ℕ)) (policy : Policy
     → answered known names policy (first ++ then)
     ≡ answered known names policy first ++ answered known names (fold policy_with policy first) then
 
--- after some requests, the answer to the k-th one behind them has the policy after all of these
+-- after some requests, the answer to the k-th one after them has the policy after all of these
 abbrev pub HasPolicyAfter : Type 0
 HasPolicyAfter = (known : ReplyDataView) (names : List (List ℕ)) (before requests : List RawCommand) (k : ℕ) (other : Answer)
     → k < length requests

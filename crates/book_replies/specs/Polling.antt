@@ -1,4 +1,4 @@
--- Which replies show reports: those to ?POLL alone. After gpsd_json(5).
+-- Which replies show reports: only those to ?POLL. After gpsd_json(5).
 use Rattle.std.specs.Prelude.{◌≡◌, ℕ, Bool, true, false, List, [], take, drop, codes, Option, Some, None, is_some, Result, Ok, Err, if◌then◌else◌}
 use Rattle.std.specs.List.{list_any}
 use Rattle.std.specs.Str.{bytes_eq}
@@ -25,7 +25,7 @@ polls_by (Err fault) = false
 abbrev pub is_poll : RawCommand → Bool
 is_poll request = polls_by (command_in request)
 
--- what stands behind `?POLL`
+-- what follows `?POLL`
 abbrev pub poll_text : List ℕ → Option (List ℕ)
 poll_text text = if bytes_eq (take 5 text) (codes "?POLL") then Some (drop 5 text) else None
 

@@ -54,10 +54,13 @@ impl ReplyData {
         fixes: Vec<Report>,
         skies: Vec<Report>,
     ) -> ReplyData
+        // The reports are of the right kind, each of one of the devices.
         requires fixes { list_all (λ report. is_tpv report.body) fixes.items ≡ true }
         requires skies { list_all (λ report. is_sky report.body) skies.items ≡ true }
         requires fixes_named { AreOfDevices (length firsts.items) fixes.items }
         requires skies_named { AreOfDevices (length firsts.items) skies.items }
+
+        // It keeps what it is given.
         ensures firsts { result.firsts ≡ firsts.items }
         ensures last { result.last ≡ last }
         ensures fixes { result.fixes ≡ fixes.items }

@@ -90,7 +90,7 @@ module _ (exact : Bool) (place : ℕ) where
   end_put why old is_open = still_put old (closed_at place why old.session) refl refl refl refl refl refl refl (λ lines history stretches at holding.
       gaining.close_gains place why old.session (closed_at place why old.session) is_open refl lines history stretches at holding.agrees)
 
-  one_put : (answer : Answer) (old : MemberView) → old.session.closing ≡ None → 0 < length old.session.marks → old.session.requests < most_requests
+  pub one_put : (answer : Answer) (old : MemberView) → old.session.closing ≡ None → 0 < length old.session.marks → old.session.requests < most_requests
       → Puts place old (put place answer old) (answer ∷ [])
   one_put answer old is_open marked few =
       let some : (length old.session.marks == 0) ≡ false = ne_eqb (length old.session.marks) 0 (λ none. absurd (omega (arith, none, marked))) in

@@ -6,3 +6,4 @@ pub mod Places
 pub mod Rosters
 pub mod Listening
 pub mod Overruns
+pub mod Allowing

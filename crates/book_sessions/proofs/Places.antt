@@ -1,4 +1,4 @@
--- Which places are behind all marks after a call, and what a new session holds.
+-- Which places are after all marks once a call has ended, and what a new session holds.
 use Rattle.std.proofs.Common.{◌≡◌, ◌<◌, ◌≤◌, ℕ, Bool, List, [], ◌∷◌, ◌++◌, length, map, get_or, set, take, Option, Some, None, Result, Ok, Err, OnOk, refl, sym, ap, subst, arith}
 use Rattle.std.specs.List.{AllZip}
 use Rattle.std.proofs.lemmas.List.Elements.{All-cons, All-head, All-map, All-push, All-set, All-tail}

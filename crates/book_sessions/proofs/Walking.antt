@@ -34,7 +34,7 @@ at_end : {A : Type 0} (front : List A) (x : A) (rest : List A) (free : A) → ge
 at_end [] x rest free = refl
 at_end (y ∷ front) x rest free = at_end front x rest free
 
-got_at : {A : Type 0} (front : List A) (x : A) (rest : List A) (n : ℕ) (free : A) → length front ≡ n → get_or (front ++ x ∷ rest) n free ≡ x
+pub got_at : {A : Type 0} (front : List A) (x : A) (rest : List A) (n : ℕ) (free : A) → length front ≡ n → get_or (front ++ x ∷ rest) n free ≡ x
 got_at {A} front x rest n free at = let P : ℕ → Type 0 = λ k. get_or (front ++ x ∷ rest) k free ≡ x in subst P at (at_end front x rest free)
 
 module _ {A : Type 0} (test : A → Bool) (R : A → A → Type 0) (still : (x : A) → test x ≡ false → R x x) where

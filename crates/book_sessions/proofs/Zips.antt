@@ -1,4 +1,4 @@
--- Two lists of which each pair of elements is related.
+-- Two lists whose elements are related pair by pair.
 use Rattle.std.proofs.Common.{ℕ, zero, suc, List, [], ◌∷◌, map, get_or, set}
 use Rattle.std.specs.List.{AllZip}
 

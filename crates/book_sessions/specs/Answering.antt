@@ -40,7 +40,7 @@ put place answer a = record a {
   watched = a.watched || answer.policy.enable;
 }
 
--- These answers are put in order. After 65,536 answered requests the next one closes the session; so does an outlet that is full.
+-- These answers are pushed in order. After 65,536 answered requests the next one closes the session; so does an outlet that is full.
 abbrev pub PutsAnswers : Bool → ℕ → MemberView → List Answer → MemberView → Type 0
 PutsAnswers exact place old [] new = new ≡ old
 PutsAnswers exact place old (answer ∷ more) new =
@@ -63,18 +63,18 @@ stretch_at place answer = answer_stretch place answer.policy answer.reply
 abbrev pub enables : Answer → Bool
 enables answer = answer.policy.enable
 
--- why so much was not put
+-- why not all was pushed
 abbrev pub Causes : SessionView → Close → Type 0
 Causes s TooManyRequests = most_requests ≤ s.requests
 Causes s Overrun = (s.requests < most_requests) × (s.cap ≤ length s.kept)
 Causes s _ = ⊥
 
--- if the session is closed now, some answers were not put, else all were
+-- if the session is closed now, some answers were not pushed, else all were
 abbrev pub Stops : ℕ → ℕ → SessionView → Option (ℕ × Close) → Type 0
 Stops place left s None = left ≡ 0
 Stops place left s (Some closing) = (0 < left) × (closing.0 ≡ place) × Causes s closing.1
 
--- exactly these answers were put, at this place
+-- exactly these answers were pushed, at this place
 pub record Puts (place : ℕ) (old new : MemberView) (answers : List Answer) : Type 0 where
   pub kept : new.session.kept ≡ old.session.kept ++ map (λ answer. answer.reply) answers
   pub marks : new.session.marks ≡ old.session.marks ++ map (mark_at place) answers
@@ -87,7 +87,7 @@ pub record Puts (place : ℕ) (old new : MemberView) (answers : List Answer) : T
   pub gains : (lines : Selection) (history : List Report) (stretches : List Stretch) → length history ≡ place → Holding lines history old.session stretches
       → SessionGains lines history history old.session new.session stretches (stretches ++ map (stretch_at place) answers) (map (λ answer. answer.reply) answers)
 
--- the requests that a piece ends behind all input of the session before it, and its cutter behind that piece
+-- the requests that a piece ends after all input of the session before it, and its cutter after that piece
 abbrev pub IsCut : List ℕ → MemberView → List RawCommand → CommandCutterView → Type 0
 IsCut piece a requests cutter = (bytes : List ℕ) → input.StandsFor a.cutter bytes → input.Gains bytes piece requests × input.StandsFor cutter (bytes ++ piece)
 
@@ -104,7 +104,7 @@ pub record AnswersCut (exact : Bool) (known : ReplyDataView) (names : List (List
 -- a piece of input at one place: its requests are answered by what is known, until the session is closed
 pub record Inputs (exact : Bool) (known : ReplyDataView) (names : List (List ℕ)) (place : ℕ) (piece : List ℕ) (old new : MemberView) : Type 0 where
   pub requests : List RawCommand
-  -- these are the requests that the piece ends, behind all input before it
+  -- these are the requests that the piece ends, after all input before it
   pub gains : (bytes : List ℕ) → input.StandsFor old.cutter bytes → input.Gains bytes piece requests
   pub cutter : (bytes : List ℕ) → input.StandsFor old.cutter bytes → new.session.closing ≡ None → input.StandsFor new.cutter (bytes ++ piece)
   -- how many are answered

@@ -3,3 +3,4 @@ pub mod Answering
 pub mod Roster
 pub mod Spreading
 pub mod Walks
+pub mod Allowing

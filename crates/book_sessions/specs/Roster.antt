@@ -78,7 +78,7 @@ pub record IsAtRest (a : MemberView) : Type 0 where
   pub closing : (why : Close) × (a.session.closing ≡ Some (0, why))
 
 -- What a roster keeps beside its sessions: the numbers of the open ones, some numbers such that all other sessions were closed before this
--- generation, and how many were ever watched. No public clause speaks of it.
+-- generation, and how many were ever watched. No public clause names it.
 pub record IsRoster (live recent : List ℕ) (watched : ℕ) (roster : List MemberView) : Type 0 where
   pub live_ones : live ≡ numbers is_open 0 roster
   pub recent_ones : (k : ℕ) (free : MemberView) → k < length roster → list_any (nat_eq k) recent ≡ false → IsAtRest (slice_index_or roster k free)

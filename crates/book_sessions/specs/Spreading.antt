@@ -21,17 +21,17 @@ pub record Due : Type 0 where
 abbrev pub due_at : ℕ → List ℕ → Due
 due_at place line = record { place = place; line = line }
 
--- what was given up is what a session kept that was open
+-- what a session that was open drops of its input when it closes
 abbrev pub cutter_by : Option (ℕ × Close) → Option (ℕ × Close) → CommandCutterView → CommandCutterView
 cutter_by None now cutter = cutter_left now cutter
 cutter_by (Some closing) now cutter = cutter
 
--- what is due of these reports, the first of which stands at this place
+-- what is due of these reports, which begin at this place
 abbrev pub due : Selection → Policy → ℕ → List Report → List Due
 due lines policy place [] = []
 due lines policy place (report ∷ reports) = map (due_at place) (lines policy report) ++ due lines policy (place + 1) reports
 
--- each is put, in order, until the outlet is full, which closes the session
+-- each is pushed, in order, until the outlet is full, which closes the session
 abbrev pub TakesDue : Bool → List Due → SessionView → SessionView → Type 0
 TakesDue exact [] old new = new ≡ old
 TakesDue exact (d ∷ more) old new = (push : Push) × MayAnswer exact old push
@@ -44,8 +44,8 @@ room_of s = s.cap - length s.kept
 abbrev pub overrun_at : Due → ℕ × Close
 overrun_at d = (d.place, Overrun)
 
--- What is due is put as far as there is room, and the first line beyond it closes the session. So the session is open still exactly if
--- what it kept and what was due come to at most its capacity.
+-- What is due is pushed as far as there is room, and the first line beyond it closes the session. So the session is open still exactly if
+-- what it kept and what was due are together at most its capacity.
 pub record TakesByRoom (dues : List Due) (old new : SessionView) : Type 0 where
   pub kept : new.kept ≡ old.kept ++ map (λ d. d.line) (take (room_of old) dues)
   pub closing : new.closing ≡ option_map overrun_at (slice_get dues (room_of old))
@@ -59,7 +59,7 @@ pub record Stays (old new : SessionView) : Type 0 where
   pub policy : new.policy ≡ old.policy
   pub requests : new.requests ≡ old.requests
 
--- these lines were put: over any history before the reports, what is kept gains what the items gain
+-- these lines were pushed: over any history before the reports, what is kept gains what the items gain
 pub record Gets (lines : Selection) (first : ℕ) (reports : List Report) (old new : SessionView) (more : List (List ℕ)) : Type 0 where
   pub kept : new.kept ≡ old.kept ++ more
   pub items : new.items ≡ raised old.items (length more)

@@ -6,8 +6,8 @@ ghost use Rattle.session_core.specs.Holding.{Selection};
 ghost use Rattle.session_core.specs.SessionView.{SessionView};
 ghost use Rattle.book_sessions.specs.Spreading.{Reports, TakesByRoom, due};
 
-/// Over exact outlets, whose room is known: what is due is put as far as there is room, and the first line beyond it closes the session. So
-/// an open session whose outlet keeps no more than it may hold stays open exactly if that and what is due come to at most its capacity.
+/// Over exact outlets, whose room is known: what is due is pushed as far as there is room, and the first line beyond it closes the session. So
+/// an open session whose outlet keeps no more than it may hold stays open exactly if that and what is due are together at most its capacity.
 #[tactic(auto, using(crate::proofs::Overruns::overrun_is_by_room))]
 pub fn exact_outlets_overrun_by_room()
     ensures { (lines : Selection) (first : ℕ) (reports : List Report) (old new : SessionView) → old.closing ≡ None

@@ -1,4 +1,4 @@
-ghost use Rattle.std.specs.Prelude.{◌≡◌, ◌≤◌, ◌<◌, ◌+◌, ◌^◌, ◌||◌, ◌&&◌, not, ℕ, true, false, List, [], length, map, Option, Some, None, slice_get, drop, IfOk, IfErr, IfNone, OnOk, OnErr, is_some, ◌++◌};
+ghost use Rattle.std.specs.Prelude.{◌≡◌, ◌≤◌, ◌<◌, ◌+◌, ◌^◌, ◌||◌, ◌&&◌, not, ℕ, true, false, List, [], ◌∷◌, length, map, Option, Some, None, slice_get, drop, IfOk, IfErr, IfNone, OnOk, OnErr, is_some, ◌++◌};
 ghost use Rattle.std.specs.Option.{option_to_list};
 ghost use Rattle.gps_command.specs.Kept.{kept_open};
 ghost use Rattle.book_replies.specs.Replies.{answered, opening_reply};
@@ -6,7 +6,9 @@ ghost use Rattle.session_core.specs.declared.mark.Close.{Close};
 ghost use Rattle.session_core.specs.declared.outlet.Push.{Push};
 ghost use Rattle.session_core.specs.Pushing.{MatchPush};
 ghost use Rattle.session_core.specs.SessionView.{last_place};
+ghost use Rattle.session_core.specs.Allowing.{AllowsAll, MayReport};
 ghost use Rattle.book_sessions.specs.MemberView.{MemberView, closed, is_open, listens, opened, renewed, rested, with_cutter, with_kept};
+ghost use Rattle.book_sessions.specs.Allowing.{MayReply, replies_left};
 ghost use Rattle.book_sessions.specs.Answering.{AnswersCut, IsCut, MayAnswer, PutsAnswers, ended, put};
 ghost use Rattle.book_sessions.specs.Roster.{shut_at};
 ghost use Rattle.book_sessions.specs.Spreading.{Spreads};
@@ -47,7 +49,7 @@ impl<O: Outlet> Model for Member<O> {
     ghost invariant = { λ m. m.session.closing ≡ None → 0 < length m.session.marks };
 }
 
-/// An answer whose reply can be put.
+/// An answer whose reply can be pushed.
 #[derive(Drop)]
 struct Reply {
     policy: Policy,
@@ -69,7 +71,7 @@ fn opening_item(alloc: Global) -> Result<Item, NoMemory>
     Item::of(alloc, reply)
 }
 
-/// A cutter that keeps nothing. Takes no memory.
+/// A cutter that keeps nothing. Takes no memory. It only forwards, for the prover: its contract names what the cutter keeps.
 #[tactic(auto, unfolding(gps_command::specs::Kept::kept_from))]
 fn new_cutter(alloc: Global) -> CommandCutter
     ensures { result ≡ kept_open [] }
@@ -114,11 +116,12 @@ fn count_of(replies: &Vec<Reply>) -> Result<u32, NoMemory>
 }
 
 impl<O: Outlet> Member<O> {
-    /// A new session, whose first item is the opening reply. If memory is refused, the outlet comes back.
+    /// A new session, whose first item is the opening reply. Out of memory, the outlet comes back.
     pub(crate) fn new(alloc: Global, outlet: O, place: u64) -> Result<Member<O>, O>
         requires empty { O.kept outlet ≡ [] }
         requires cap { 1 ≤ O.cap outlet }
         requires takes { O.takes outlet }
+        requires may { O.may (O.name outlet) (opening_reply ∷ []) }
         ensures opened { IfOk result (λ m. m ≡ opened (O.name outlet) (O.cap outlet) place) }
         ensures outlet { IfErr result (λ back. back ≡ outlet) }
     {
@@ -172,6 +175,7 @@ impl<O: Outlet> Member<O> {
         requires open { self.old.session.closing ≡ None }
         requires room { 1 ≤ self.old.session.spare }
         requires after { last_place 0 self.old.session.marks ≤ place }
+        requires may { O.may self.old.session.name (self.old.session.kept ++ reply.reply ∷ []) }
         ensures now { MatchPush result (self.new ≡ put place reply self.old) (self.new ≡ ended place Close.Overrun self.old) }
         ensures may { MayAnswer O.exact self.old.session result }
     {
@@ -191,7 +195,7 @@ impl<O: Outlet> Member<O> {
         self.session.close(place, why);
     }
 
-    /// Gives up the bytes of an open request if the session is closed.
+    /// Drops the bytes of an open request if the session is closed.
     fn rest(&mut self, alloc: Global)
         ensures { self.new ≡ rested self.old }
     {
@@ -209,11 +213,12 @@ impl<O: Outlet> Member<O> {
         self.cutter = new_cutter(alloc);
     }
 
-    #[tactic(auto, using(crate::proofs::Answered::put_too_many, crate::proofs::Answered::put_full, crate::proofs::Answered::put_done, crate::proofs::Answered::last_place_push))]
+    #[tactic(auto, using(crate::proofs::Answered::put_too_many, crate::proofs::Answered::put_full))]
     fn put_all(&mut self, place: u64, replies: Vec<Reply>)
         requires open { self.old.session.closing ≡ None }
         requires room { length replies.items ≤ self.old.session.spare }
         requires after { last_place 0 self.old.session.marks ≤ place }
+        requires may { AllowsAll O.may self.old.session (replies_left self.old.session replies.items) }
         ensures { PutsAnswers O.exact place self.old replies.items self.new }
     {
         'replies: for reply in replies {
@@ -251,6 +256,7 @@ impl<O: Outlet> Member<O> {
         requires few { first + length reports.now < 2 ^ 63 }
         requires named { AreNamed names.now reports.now }
         requires row { row ≡ row_of names.now reports.now }
+        requires may { MayReport O.may (line_for names.now) reports.now self.old.session }
         ensures spreads { Spreads O.exact (line_for names.now) first reports.now self.old self.new }
         ensures marks { self.new.session.marks ≡ self.old.session.marks }
     {
@@ -260,14 +266,14 @@ impl<O: Outlet> Member<O> {
         }
     }
 
-    /// The requests that a piece of its input ends, and its cutter behind the piece. Nothing changes.
+    /// The requests that a piece of its input ends, and its cutter after the piece. Nothing changes.
     pub(crate) fn cut(&self, piece: &[u8]) -> Result<RequestCut, NoMemory>
         ensures { IfOk result (λ cut. IsCut piece.now self.now cut.requests.items cut.cutter) }
     {
         self.cutter.cut(piece)
     }
 
-    /// Puts a cutter in place behind a piece that ended no request.
+    /// Puts a cutter in place after a piece that ended no request.
     pub(crate) fn go_on(&mut self, cut: RequestCut)
         ensures { self.new ≡ with_cutter cut.cutter self.old }
     {
@@ -284,12 +290,18 @@ impl<O: Outlet> Member<O> {
         names: &Names,
         cut: RequestCut,
     ) -> Result<bool, NoMemory>
+        // The session is open, and the place is not before its last mark.
         requires open { self.old.session.closing ≡ None }
         requires after { last_place 0 self.old.session.marks ≤ place }
         requires named { length names.now ≡ length known.now.firsts }
+        requires may { MayReply O.may known.now names.now cut.requests.items self.old.session }
+
+        // What is answered, and whether the session is watched for the first time.
         ensures answers { OnOk result (AnswersCut O.exact known.now names.now place cut.requests.items cut.cutter self.old self.new) }
         ensures watched { IfOk result (λ more. self.new.watched ≡ (self.old.watched || more)) }
         ensures fresh { IfOk result (λ more. more ≡ true → self.old.watched ≡ false) }
+
+        // What a refusal leaves.
         ensures err { OnErr result (self.new ≡ self.old) }
     {
         let before = self.watched;

@@ -9,6 +9,7 @@ ghost use Rattle.book_replies.specs.Replies.{opening_reply};
 ghost use Rattle.book_batch.specs.Lines.{line_for};
 ghost use Rattle.book_batch.specs.Sharing.{AreNamed, SharesLines, shares_of};
 ghost use Rattle.book_sessions.specs.MemberView.{MemberView, is_open, opened, renewed, with_cutter, with_kept};
+ghost use Rattle.book_sessions.specs.Allowing.{MayReply, MayReportEach};
 ghost use Rattle.book_sessions.specs.Answering.{AnswersCut, IsCut};
 ghost use Rattle.book_sessions.specs.Roster.{Changes, Closes, IsAfter, IsAfterAll, IsOpenAt, Refuses, Shuts, MemberTurns, listening_in, live_in, was_watched};
 ghost use Rattle.book_sessions.specs.Spreading.{Spreads};
@@ -133,7 +134,7 @@ impl<O: Outlet> Roster<O> {
         self.members[s as usize].is_open()
     }
 
-    /// The number of items put to a session, or `None` if there is no such session.
+    /// The number of items pushed to a session, or `None` if there is no such session.
     pub fn items(&self, s: u32) -> Option<u64>
         ensures { result ≡ option_map (λ a. a.session.items) (slice_get self.now s) }
     {
@@ -154,18 +155,24 @@ impl<O: Outlet> Roster<O> {
     }
 
     /// Opens the next session, numbered from 0; its first item is the opening reply. Refused if 64 are live or 100,000
-    /// were opened, and then if memory is refused. A refusal changes nothing, and the outlet comes back.
+    /// were opened, and then if memory runs out. A refusal changes nothing, and the outlet comes back.
     #[tactic(auto, using(crate::proofs::Places::opening_holds))]
     pub fn admit(&mut self, outlet: O, place: u64) -> Result<u32, (O, AdmitFault)>
+        // The outlet is empty, has room, and is open.
         requires empty { O.kept outlet ≡ [] }
         requires cap { 1 ≤ O.cap outlet }
         requires takes { O.takes outlet }
+        requires may { O.may (O.name outlet) (opening_reply ∷ []) }
+
+        // What an opening does.
         ensures number { IfOk result (λ s. s ≡ length self.old) }
         ensures admitted { OnOk result (self.new ≡ self.old ++ opened (O.name outlet) (O.cap outlet) place ∷ []) }
         ensures few { OnOk result ((live_in self.old < 64) × (length self.old < 100000)) }
         ensures opens { (lines : Selection) (history : List Report) → length history ≡ place
             → Holding lines history (opened (O.name outlet) (O.cap outlet) place).session (answer_stretch place opening_policy opening_reply ∷ []) }
         ensures after { (later : ℕ) → place ≤ later → IsAfterAll later self.old → IsAfterAll later self.new }
+
+        // When it is refused, and what a refusal leaves.
         ensures refuses { IfErr result (λ refusal. Refuses self.old refusal.1) }
         ensures outlet { IfErr result (λ refusal. refusal.0 ≡ outlet) }
         ensures err { OnErr result (self.new ≡ self.old) }
@@ -189,7 +196,7 @@ impl<O: Outlet> Roster<O> {
         }
     }
 
-    /// The requests that a piece of a session's input ends, and its cutter behind the piece. Nothing changes.
+    /// The requests that a piece of a session's input ends, and its cutter after the piece. Nothing changes.
     pub fn cut(&self, s: u32, piece: &[u8]) -> Result<RequestCut, NoMemory>
         requires { s < length self.now }
         ensures { IfOk result (λ cut. (free : MemberView) → IsCut piece.now (slice_index_or self.now s free) cut.requests.items cut.cutter) }
@@ -197,7 +204,7 @@ impl<O: Outlet> Roster<O> {
         self.members[s as usize].cut(piece)
     }
 
-    /// Puts a session's cutter in place behind a piece that ended no request. Takes no memory.
+    /// Puts a session's cutter in place after a piece that ended no request. Takes no memory.
     pub fn go_on(&mut self, s: u32, cut: RequestCut)
         requires exists { s < length self.old }
         ensures goes_on { Changes s (λ a b. b ≡ with_cutter cut.cutter a) self.old self.new }
@@ -216,12 +223,18 @@ impl<O: Outlet> Roster<O> {
         names: &Names,
         cut: RequestCut,
     ) -> Result<(), NoMemory>
+        // The session is open, and the place is not before its last mark.
         requires exists { s < length self.old }
         requires open { IsOpenAt s self.old }
         requires after { IsAfter place s self.old }
         requires named { length names.now ≡ length known.now.firsts }
+        requires may { (free : MemberView) → MayReply O.may known.now names.now cut.requests.items (slice_index_or self.old s free).session }
+
+        // What is answered.
         ensures answers { OnOk result (Changes s (AnswersCut O.exact known.now names.now place cut.requests.items cut.cutter) self.old self.new) }
         ensures after { (later : ℕ) → place ≤ later → IsAfterAll later self.old → IsAfterAll later self.new }
+
+        // What a refusal leaves.
         ensures err { OnErr result (self.new ≡ self.old) }
     {
         let alloc = self.alloc;
@@ -261,11 +274,15 @@ impl<O: Outlet> Roster<O> {
     /// the report's index, until a full outlet closes that session. Takes no memory.
     #[tactic(auto, using(crate::proofs::Walking::numbers_within, crate::proofs::Walking::numbers_count))]
     pub fn spread(&mut self, first: u64, batch: Batch, names: &Names)
+        // The batch has a share for each session that listens, and its reports come after all marks.
         requires shares { listening_in self.old ≤ shares_of batch }
         requires after { IsAfterAll first self.old }
         requires few { first + length batch.reports < 2 ^ 63 }
         requires named { AreNamed names.now batch.reports }
         requires lines { SharesLines names.now batch }
+        requires may { MayReportEach O.may (line_for names.now) batch.reports self.old }
+
+        // What each session is sent.
         ensures spreads { AllZip (Spreads O.exact (line_for names.now) first batch.reports) self.old self.new }
         ensures after { (later : ℕ) → IsAfterAll later self.old → IsAfterAll later self.new }
     {
@@ -285,7 +302,7 @@ impl<O: Outlet> Roster<O> {
         keep_listening(&self.members, &mut self.listening);
     }
 
-    /// A new generation begins: an open session keeps its policy alone, from place 0 on, and a closed one ends there. Takes no
+    /// A new generation begins: an open session keeps only its policy, from place 0 on, and a closed one ends there. Takes no
     /// memory.
     #[tactic(auto, using(crate::proofs::Rosters::turned_map, crate::proofs::Rosters::turned_zip))]
     pub fn turn(&mut self)
@@ -330,11 +347,16 @@ impl Roster<PlainOutlet> {
 }
 
 impl<O: TwoEnded> Roster<O> {
-    /// Takes one item at the far end of the session's outlet and hands it on. Takes no memory.
+    /// Takes one item at the far end of the session's outlet and returns it. Takes no memory.
     pub fn settle(&mut self, s: u32, far: &mut O::Far) -> Option<Item>
+        // The far end belongs to the outlet of the session.
         requires exists { s < length self.old }
         requires belongs { (free : MemberView) → O.belongs (O.far_name far.old) (slice_index_or self.old s free).session.name }
+
+        // What stays.
         ensures same { self.new ≡ self.old }
+
+        // What the far end gets: a prefix of what was kept, and all of it once there is no item.
         ensures item { O.got far.new ≡ O.got far.old ++ option_to_list result }
         ensures prefix { (free : MemberView) → (rest : List (List ℕ)) × ((slice_index_or self.new s free).session.kept ≡ O.got far.new ++ rest) }
         ensures all { IfNone result ((free : MemberView) → O.got far.new ≡ (slice_index_or self.new s free).session.kept) }

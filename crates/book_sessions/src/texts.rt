@@ -7,7 +7,7 @@ use std::alloc::Global;
 /// How many texts are kept: one for each session that may be open.
 const MOST_TEXTS: usize = 64;
 
-/// The reply texts that were used last, each once, so that a text which comes again is shared. The last one is the first.
+/// The reply texts that were used last, each once, so that a text that comes again is shared. The latest is the first.
 #[derive(Drop)]
 pub(crate) struct ReplyTexts {
     items: Vec<Item>,
@@ -47,7 +47,7 @@ impl ReplyTexts {
         }
     }
 
-    /// Takes an item of this text out, or makes one.
+    /// Takes out the item of this text, or makes one.
     fn found_or_made(&mut self, alloc: Global, text: &[u8]) -> Result<Item, NoMemory>
         ensures { IfOk result (λ item. item ≡ text.now) }
     {
@@ -57,7 +57,7 @@ impl ReplyTexts {
         }
     }
 
-    /// Keeps an item as the first one, and no longer the last one if there are too many.
+    /// Keeps an item as the first one, and drops the last one if there are too many.
     fn keep(&mut self, item: Item) -> Result<(), NoMemory> {
         if self.items.len() >= MOST_TEXTS {
             let _oldest = self.items.pop();
@@ -66,7 +66,7 @@ impl ReplyTexts {
         Ok(())
     }
 
-    /// An item of this text: a share of the one that is kept, or else a new one, of which a share is kept.
+    /// An item of this text: a share of the one that is kept, or a new one that is kept and shared.
     pub(crate) fn item_of(&mut self, alloc: Global, text: &[u8]) -> Result<Item, NoMemory>
         ensures { IfOk result (λ item. item ≡ text.now) }
     {

@@ -1,15 +1,18 @@
-//! What the roster does over its vectors. No contract of these functions is public.
+//! What the roster does over its vectors. Functions here that only forward are there for the prover: each contract says what changes
+//! at one place of a vector. None of these contracts is public.
 
-ghost use Rattle.std.specs.Prelude.{◌≡◌, ◌≤◌, ◌<◌, ◌+◌, ◌^◌, filter, length, count_by, vec_len, vec_capacity, IfOk, OnOk, OnErr};
+ghost use Rattle.std.specs.Prelude.{◌≡◌, ◌≤◌, ◌<◌, ◌+◌, ◌^◌, filter, length, count_by, slice_index_or, vec_len, vec_capacity, IfOk, OnOk, OnErr};
 ghost use Rattle.std.specs.Int.{from_bool};
 ghost use Rattle.std.specs.List.{All};
 ghost use Rattle.book_batch.specs.Lines.{line_for};
 ghost use Rattle.book_batch.specs.Sharing.{AreNamed, SharesLines, shares_of};
 ghost use Rattle.book_sessions.specs.MemberView.{MemberView, is_open, listens, renewed, with_cutter};
+ghost use Rattle.session_core.specs.Allowing.{MayReport};
+ghost use Rattle.book_sessions.specs.Allowing.{MayReply};
 ghost use Rattle.book_sessions.specs.Answering.{AnswersCut};
 ghost use Rattle.book_sessions.specs.Roster.{Changes, Closes, IsAfter, IsAfterAll, IsOpenAt, shut_at, was_watched};
 ghost use Rattle.book_sessions.specs.Spreading.{Spreads};
-ghost use Rattle.book_sessions.specs.Walks.{Walks, passes_at};
+ghost use Rattle.book_sessions.specs.Walks.{MayWalk, Walks, passes_at};
 
 use crate::member::Member;
 use crate::texts::ReplyTexts;
@@ -30,7 +33,7 @@ fn is_open_at<O: Outlet>(members: &Vec<Member<O>>, n: u32) -> bool
     }
 }
 
-/// Of these numbers those of open sessions stay.
+/// Only the numbers of open sessions stay.
 pub(crate) fn keep_open<O: Outlet>(members: &Vec<Member<O>>, numbers: &mut Vec<u32>)
     ensures { numbers.new.items ≡ filter (passes_at is_open members.now.items) numbers.old.items }
 {
@@ -46,7 +49,7 @@ fn listens_at<O: Outlet>(members: &Vec<Member<O>>, n: u32) -> bool
     }
 }
 
-/// Of these numbers those of sessions that listen stay.
+/// Only the numbers of sessions that listen stay.
 pub(crate) fn keep_listening<O: Outlet>(members: &Vec<Member<O>>, numbers: &mut Vec<u32>)
     ensures { numbers.new.items ≡ filter (passes_at listens members.now.items) numbers.old.items }
 {
@@ -99,12 +102,18 @@ pub(crate) fn input_at<O: Outlet>(
     names: &Names,
     cut: RequestCut,
 ) -> Result<bool, NoMemory>
+    // The session is open, and the place is not before its last mark.
     requires exists { s < length members.old.items }
     requires open { IsOpenAt s members.old.items }
     requires after { IsAfter place s members.old.items }
     requires named { length names.now ≡ length known.now.firsts }
+    requires may { (free : MemberView) → MayReply O.may known.now names.now cut.requests.items (slice_index_or members.old.items s free).session }
+
+    // What is answered, and whether the session is watched for the first time.
     ensures answers { OnOk result (Changes s (AnswersCut O.exact known.now names.now place cut.requests.items cut.cutter) members.old.items members.new.items) }
     ensures watched { IfOk result (λ more. count_by was_watched members.new.items ≡ count_by was_watched members.old.items + from_bool more) }
+
+    // What a refusal leaves.
     ensures err { OnErr result (members.new.items ≡ members.old.items) }
 {
     let member = &mut members[s];
@@ -162,12 +171,16 @@ pub(crate) fn receive_each<O: Outlet>(
     mut batch: Batch,
     names: &Names,
 )
+    // The batch has a share for each of these sessions, and its reports come after all marks.
     requires within { All (λ n. n < length members.old.items) numbers.now.items }
     requires shares { length numbers.now.items ≤ shares_of batch }
     requires after { IsAfterAll first members.old.items }
     requires few { first + length batch.reports < 2 ^ 63 }
     requires named { AreNamed names.now batch.reports }
     requires lines { SharesLines names.now batch }
+    requires may { MayWalk (λ a. MayReport O.may (line_for names.now) batch.reports a.session) numbers.now.items members.old.items }
+
+    // What each session is sent.
     ensures { Walks (Spreads O.exact (line_for names.now) first batch.reports) numbers.now.items members.old.items members.new.items }
 {
     'numbers: for n in numbers {

@@ -144,7 +144,7 @@ steps (Stored word value) old new (ready, is_ready, stores) = by_case is_ready
 steps Empty old new (idle, none, is) = unmoved Empty old new (idle, none, is) (ap (λ (v : UnitView). all_of v) is) (ap (λ (v : UnitView). v.from) is) (ap (λ (v : UnitView). v.carry) is)
 steps Spent old new (idle, some, full, is) = unmoved Spent old new (idle, some, full, is) (ap (λ (v : UnitView). all_of v) is) (ap (λ (v : UnitView). v.from) is) (ap (λ (v : UnitView). v.carry) is)
 
--- the first of the waiting samples, and those behind it
+-- the first of the waiting samples, and those after it
 pub first_and_rest : (xs ys : List Sample) (x : Sample) → 0 < length xs → x ≡ get_or xs 0 x → ys ≡ drop 1 xs → xs ≡ x ∷ ys
 first_and_rest [] ys x some at rest = absurd (omega (arith, some))
 first_and_rest (y ∷ xs) ys x some at rest = ap (λ (s : Sample). s ∷ xs) (sym at) ∙ ap (λ (l : List Sample). x ∷ l) (sym rest)

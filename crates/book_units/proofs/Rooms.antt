@@ -130,7 +130,7 @@ pub record IsAdded (reports : List Report) (i : ℕ) (old new : UnitsView) : Typ
 pub added_none : (reports : List Report) (s : UnitsView) → HasRoom s.spare reports → IsAdded reports 0 s s
 added_none reports s room = record { gains = record { count = refl; each = λ u x low. gained_none (get_or s.units u x) }; room = room }
 
--- the samples of the next report, and of those behind it
+-- the samples of the next report, and of those after it
 next_samples : (reports : List Report) (i : ℕ) (r : Report) (u : ℕ) → i < length reports → r ≡ get_or reports i r → samples_of u (drop i reports) ≡ samples_in u r.device r.body ++ samples_of u (drop (i + 1) reports)
 next_samples reports i r u low at =
     ap (λ (l : List Report). samples_of u l) (drop_more reports i r low ∙ ap (λ (q : Report). q ∷ drop (i + 1) reports) (sym at))

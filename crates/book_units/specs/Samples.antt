@@ -1,4 +1,5 @@
--- The samples that a history gives to each unit of a book: unit 2d has the Toffs of device d, unit 2d + 1 its Pps. This project's own; a precision is a power of two of a second, as in the NTP reference clock driver 28.
+-- The samples that a history gives to each unit of a book: unit 2d has the Toffs of device d, unit 2d + 1 its Pps. This project's own; a precision is
+-- a power of two of a second, as in the NTP reference clock driver 28.
 use Rattle.std.specs.Prelude.{ℕ, ◌+◌, ◌*◌, ℤ, negsuc, List, [], ◌∷◌, ◌==◌, if◌then◌else◌}
 use Rattle.std.specs.List.{flat_map}
 use Rattle.gps_report.specs.declared.fix.Pair.{Pair}

@@ -99,7 +99,7 @@ impl Unit {
         Ok(())
     }
 
-    /// Lets a sample wait behind the others. Takes no memory.
+    /// Queues a sample after the others. Takes no memory.
     pub(crate) fn add(&mut self, sample: Sample)
         requires { 0 < self.old.spare }
         ensures gains { UnitGains (sample ∷ []) self.old.unit self.new.unit }

@@ -105,7 +105,7 @@ impl Units {
         unit.reserve(more)
     }
 
-    /// Lets the samples of these reports wait, each at its unit and in order. Takes no memory.
+    /// Queues the samples of these reports, each at its unit and in order. Takes no memory.
     #[tactic(auto, using(crate::proofs::Rooms::added_none, crate::proofs::Rooms::next_room, crate::proofs::Rooms::added_more, crate::proofs::Rooms::added_all))]
     pub fn add_all(&mut self, reports: &[Report])
         requires { HasRoom self.old.spare reports.now }
@@ -168,7 +168,7 @@ impl Units {
         unit.monitor_seat()
     }
 
-    /// What the unit's publisher has published, for a monitor to meet. Takes no memory.
+    /// What the unit's publisher has published, as a notice for a monitor. Takes no memory.
     pub fn notice(&mut self, u: u8) -> Notice
         requires { u < length self.old.units }
         ensures notice { (x : UnitView) → result ≡ noticed (slice_index_or self.old.units u x).publisher }

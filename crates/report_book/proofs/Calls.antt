@@ -45,7 +45,7 @@ use Rattle.report_book.proofs.Turning.{book_turned_if}
 use Rattle.report_book.specs.Knowing.{known_in, shown_in}
 use Rattle.book_sessions.proofs.Answered.{heard, heard_on}
 
--- entries came, behind a turn if one was due
+-- entries came, after a turn if one was due
 pub record Moved (exact turns : Bool) (old new : BookView) (entries : List Entry) (reports : List Report) : Type 0 where
   pub holds : BookHolds new
   pub adds : BookAdds exact (turned_if turns old) new entries reports
@@ -80,7 +80,7 @@ pub limit_kept : (turns : Bool) (old new : DeviceLogView) (entries : List Entry)
 limit_kept true old new entries reports adds = adds.limit
 limit_kept false old new entries reports adds = adds.limit
 
--- no mark stands behind the place of the next report
+-- no mark is after the place of the next report
 marks_first : (policy : Policy) (closing : Option (ℕ × Close)) → last_place 0 (turned_marks closing policy) ≤ 0
 marks_first policy None = omega arith
 marks_first policy (Some closing) = omega arith
@@ -134,7 +134,7 @@ after_all_at b place held place_is =
     let F : ℕ → Type 0 = λ n. IsAfterAll n b.sessions in
     subst F (sym place_is) (after_all b held.log.some.0 held held.log.some.1)
 
--- one session becomes another, of which it is known what it has over any history as long as the place
+-- one session becomes another, and what that one has is known over any history as long as the place
 pub one_changed : (R : MemberView → MemberView → Type 0) (b : BookView) (s place : ℕ) (members : List MemberView)
     → ((history : List Report) (old next : MemberView) → length history ≡ place → R old next → SessionHolds b.names history old.session → SessionHolds b.names history next.session)
     → BookHolds b → s < length b.sessions → place ≡ b.log.length → Changes s R b.sessions members

@@ -22,7 +22,7 @@ use Rattle.report_book.specs.BookView.{BookView}
 use Rattle.report_book.specs.Refusals.{RefusesOnly, fault_of, missing}
 use Rattle.report_book.specs.Standing.{BookHolds, FollowsReports, SessionHolds, history_of}
 
--- no mark stands behind the history's end
+-- no mark is after the history's end
 next_within : (end : ℕ) (stretches : List Stretch) → AreInOrder end stretches → next_place end stretches ≤ end
 next_within end [] order = omega arith
 next_within end (stretch ∷ more) order = let rest = next_within end more order.1 in let first = order.0 in omega arith

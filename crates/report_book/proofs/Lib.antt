@@ -5,3 +5,4 @@ pub mod Changing
 pub mod Reading
 pub mod Ending
 pub mod Calls
+pub mod Allowing

@@ -4,3 +4,4 @@ pub mod Standing
 pub mod Moves
 pub mod Refusals
 pub mod Faults
+pub mod Allowing

@@ -66,7 +66,7 @@ pub record SameButSessions (old new : BookView) : Type 0 where
   pub log : new.log ≡ old.log
   pub units : new.units ≡ old.units
 
--- a new session stands behind the others: it was sent its opening reply, at the history's end
+-- a new session follows the others: it was sent its opening reply, at the history's end
 pub record Admits (name : OutletName) (cap : ℕ) (old new : BookView) : Type 0 where
   pub same : SameButSessions old new
   pub sessions : new.sessions ≡ old.sessions ++ opened name cap old.log.length ∷ []

@@ -1,16 +1,19 @@
-ghost use Rattle.std.specs.Prelude.{◌≡◌, ◌≤◌, ◌<◌, ◌+◌, ◌*◌, ◌++◌, ◌⊎◌, ℕ, true, false, List, [], length, count_by, get_or, slice_get, option_map, option_and_then, Some, None, IfOk, IfErr, OnOk, OnErr, IfNone};
+ghost use Rattle.std.specs.Prelude.{◌≡◌, ◌≤◌, ◌<◌, ◌+◌, ◌*◌, ◌++◌, ◌⊎◌, ℕ, true, false, List, [], ◌∷◌, length, count_by, get_or, slice_get, option_map, option_and_then, Some, None, IfOk, IfErr, OnOk, OnErr, IfNone};
 ghost use Rattle.std.specs.List.{All, list_all};
 ghost use Rattle.std.specs.Arc.{arc_value};
 ghost use Rattle.std.specs.Option.{option_to_list};
+ghost use Rattle.gps_fixed.specs.Limits.{longest_piece, most_history};
 ghost use Rattle.session_core.specs.declared.mark.Close.{Close as CloseValue};
 ghost use Rattle.shm_segment.specs.Publishing.{noticed};
 ghost use Rattle.book_log.specs.Entries.{edged, ended, fed, lost};
 ghost use Rattle.book_log.specs.DeviceLogView.{turns_at};
 ghost use Rattle.book_log.specs.Standing.{DevicesGoOn, has_stopped};
+ghost use Rattle.book_replies.specs.Replies.{opening_reply};
 ghost use Rattle.book_sessions.specs.MemberView.{MemberView};
 ghost use Rattle.book_sessions.specs.Roster.{live_in, was_watched};
 ghost use Rattle.book_units.specs.Steps.{BearsOut, state_of};
 ghost use Rattle.book_units.specs.Units.{UnitView, IsInOrder, IsUnit, segment_of};
+ghost use Rattle.report_book.specs.Allowing.{MayAdd, MayInput};
 ghost use Rattle.report_book.specs.BookView.{turned_if};
 ghost use Rattle.report_book.specs.Moves.{AddsQuietly, Admits, Earns, HangsUp, AnswersRequests, IsNewBook, Moves, PublishesAt, ShutsAll, TakesFirst};
 ghost use Rattle.report_book.specs.Refusals.{RefusesAs, RefusesOnly, RefusesWith, crowd_fault, device_fault, missing_session, missing_unit, session_fault};
@@ -72,7 +75,7 @@ impl<O: Outlet> Book<O> {
         firsts: [u32; 16],
     ) -> Result<Book<O>, NoMemory>
         requires some { 1 ≤ limit }
-        requires most { limit ≤ 33554432 }
+        requires most { limit ≤ most_history }
         requires firsts { All (λ first. first ≤ 1073741823) firsts }
         ensures new { IfOk result (λ b. IsNewBook names limit firsts b) }
         ensures holds { IfOk result BookHolds }
@@ -137,10 +140,16 @@ impl<O: Outlet> Book<O> {
     ///
     /// A new generation begins first exactly if the log holds a symbol and would come to more than the limit.
     pub fn feed(&mut self, d: u8, at: Stamp, bytes: &[u8]) -> Result<(), BookFault>
+        // The piece has 1 to 512 bytes.
         requires some { 1 ≤ length bytes.now }
-        requires piece { length bytes.now ≤ 512 }
+        requires piece { length bytes.now ≤ longest_piece }
+        requires may { MayAdd O.may d (fed d at bytes.now) self.old }
+
+        // What the book gains.
         ensures fed { OnOk result (Moves O.exact (turns_at self.old.log (length bytes.now)) self.old self.new (fed d at bytes.now)) }
         ensures earns { OnOk result (Earns (turned_if (turns_at self.old.log (length bytes.now)) self.old) self.new (fed d at bytes.now)) }
+
+        // When it is refused, and what a refusal leaves.
         ensures refusal { RefusesAs (device_fault self.old d) result }
         ensures limit { self.new.log.limit ≡ self.old.log.limit }
         ensures unchanged { OnErr result (self.new ≡ self.old) }
@@ -155,6 +164,7 @@ impl<O: Outlet> Book<O> {
 
     /// Gives a device its next pulse edge. A new generation begins first as at [`Book::feed`].
     pub fn edge(&mut self, d: u8, edge: Edge) -> Result<(), BookFault>
+        requires may { MayAdd O.may d (edged d edge) self.old }
         ensures edged { OnOk result (Moves O.exact (turns_at self.old.log 1) self.old self.new (edged d edge)) }
         ensures earns { OnOk result (Earns (turned_if (turns_at self.old.log 1) self.old) self.new (edged d edge)) }
         ensures refusal { RefusesAs (device_fault self.old d) result }
@@ -171,6 +181,7 @@ impl<O: Outlet> Book<O> {
 
     /// Ends a device: its running epoch is closed, and then it is announced that it has ended. No unit is given a sample.
     pub fn end_device(&mut self, d: u8) -> Result<(), BookFault>
+        requires may { MayAdd O.may d (ended d) self.old }
         ensures ended { OnOk result (Moves O.exact false self.old self.new (ended d)) }
         ensures earns { OnOk result (Earns self.old self.new (ended d)) }
         ensures refusal { RefusesAs (device_fault self.old d) result }
@@ -199,11 +210,17 @@ impl<O: Outlet> Book<O> {
 
     /// Opens the next session, whose first item is the VERSION line. If it is refused, the outlet comes back.
     pub fn admit(&mut self, outlet: O) -> Result<u32, (O, BookFault)>
+        // The outlet is empty, has room, and is open.
         requires empty { O.kept outlet ≡ [] }
         requires cap { 1 ≤ O.cap outlet }
         requires takes { O.takes outlet }
+        requires may { O.may (O.name outlet) (opening_reply ∷ []) }
+
+        // What an opening does.
         ensures number { IfOk result (λ s. s ≡ length self.old.sessions) }
         ensures admits { OnOk result (Admits (O.name outlet) (O.cap outlet) self.old self.new) }
+
+        // When it is refused, and what a refusal leaves.
         ensures refusal { RefusesWith (crowd_fault self.old) result }
         ensures outlet { IfErr result (λ refusal. refusal.0 ≡ outlet) }
         ensures limit { self.new.log.limit ≡ self.old.log.limit }
@@ -218,7 +235,8 @@ impl<O: Outlet> Book<O> {
     /// Gives a session the next piece of its input: each request that it ends is answered, in order, until the session is closed.
     pub fn input(&mut self, s: u32, piece: &[u8]) -> Result<(), BookFault>
         requires some { 1 ≤ length piece.now }
-        requires piece { length piece.now ≤ 512 }
+        requires piece { length piece.now ≤ longest_piece }
+        requires may { MayInput O.may s piece.now self.old }
         ensures hears { OnOk result (AnswersRequests O.exact s piece.now self.old self.new) }
         ensures refusal { RefusesAs (session_fault self.old s) result }
         ensures limit { self.new.log.limit ≡ self.old.log.limit }
@@ -347,7 +365,7 @@ impl<O: Outlet> Book<O> {
         self.roster.watched()
     }
 
-    /// The number of items put to a session; none exactly if there is no such session.
+    /// The number of items pushed to a session; none exactly if there is no such session.
     pub fn items(&self, s: u32) -> Option<u64>
         ensures { result ≡ option_map (λ a. a.session.items) (slice_get self.now.sessions s) }
     {
@@ -385,7 +403,7 @@ impl<O: Outlet> Book<O> {
 }
 
 impl Book<PlainOutlet> {
-    /// The item that was put first of those that a session's outlet holds; none exactly if it holds nothing. Takes no memory.
+    /// The item that was pushed first of those that a session's outlet holds; none exactly if it holds nothing. Takes no memory.
     pub fn take(&mut self, s: u32) -> Result<Option<Item>, BookFault>
         ensures item { IfOk result (λ item. (free : MemberView) → item ≡ slice_get (get_or self.old.sessions s free).session.kept 0) }
         ensures takes { OnOk result (TakesFirst s self.old self.new) }
@@ -400,14 +418,19 @@ impl Book<PlainOutlet> {
 }
 
 impl<O: TwoEnded> Book<O> {
-    /// Takes one item at the far end of a session's outlet and hands it on: what the far end has got begins what the outlet keeps, and is
+    /// Takes one item at the far end of a session's outlet and returns it: what the far end has received begins what the outlet keeps, and is
     /// all of it if there was none. Takes no memory.
     pub fn settle(&mut self, s: u32, far: &mut O::Far) -> Result<Option<Item>, BookFault>
+        // The far end belongs to the outlet of the session.
         requires { s < length self.old.sessions → (free : MemberView) → O.belongs (O.far_name far.old) (get_or self.old.sessions s free).session.name }
+
+        // What the far end gets: a prefix of what was kept, and all of it once there is no item.
         ensures got { IfOk result (λ item. O.got far.new ≡ O.got far.old ++ option_to_list item) }
         ensures prefix { OnOk result ((free : MemberView) → (rest : List (List ℕ)) × ((get_or self.new.sessions s free).session.kept ≡ O.got far.new ++ rest)) }
         ensures all { IfOk result (λ item. IfNone item ((free : MemberView) → O.got far.new ≡ (get_or self.new.sessions s free).session.kept)) }
         ensures far_name { O.far_name far.new ≡ O.far_name far.old }
+
+        // When it is refused, and what a refusal leaves.
         ensures refusal { RefusesOnly (missing_session self.old s) result }
         ensures unchanged { self.new ≡ self.old }
         ensures far_stays { OnErr result (far.new ≡ far.old) }

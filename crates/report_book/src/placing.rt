@@ -4,6 +4,7 @@ ghost use Rattle.std.specs.Prelude.{◌≡◌, ◌≤◌, ◌<◌, ◌+◌, ◌^
 ghost use Rattle.std.specs.List.{AllZip};
 ghost use Rattle.book_batch.specs.Lines.{line_for};
 ghost use Rattle.book_batch.specs.Sharing.{AreNamed, SharesLines, shares_of};
+ghost use Rattle.book_sessions.specs.Allowing.{MayReportEach};
 ghost use Rattle.book_sessions.specs.MemberView.{renewed};
 ghost use Rattle.book_sessions.specs.Roster.{IsAfterAll, MemberTurns, listening_in};
 ghost use Rattle.book_sessions.specs.Spreading.{Spreads};
@@ -39,14 +40,22 @@ pub(crate) fn put<O: Outlet>(
     names: &Names,
     added: Addition,
 )
+    // The batch has a share for each session that listens, and its reports come after all marks.
     requires shares { listening_in roster.old ≤ shares_of added.batch }
     requires after { IsAfterAll added.first (renewed_if added.turned roster.old) }
     requires few { added.first + length added.batch.reports < 2 ^ 63 }
     requires named { AreNamed names.now added.batch.reports }
     requires lines { SharesLines names.now added.batch }
+    requires may { MayReportEach O.may (line_for names.now) added.batch.reports (renewed_if added.turned roster.old) }
+
+    // The units have room for the samples.
     requires room { HasRoom units.old.spare added.batch.reports }
+
+    // If a new generation began, it has come first.
     ensures turned { added.turned ≡ true → AllZip MemberTurns roster.old (map renewed roster.old) }
     ensures carried { added.turned ≡ true → EachUnit (λ _. UnitTurns) units.old.units (map turned_unit units.old.units) }
+
+    // What each session is sent, and what each unit gains.
     ensures sessions { AllZip (Spreads O.exact (line_for names.now) added.first added.batch.reports) (renewed_if added.turned roster.old) roster.new }
     ensures units { EachUnit (λ u. UnitGains (samples_of u added.batch.reports)) (units_turned_if added.turned units.old.units) units.new.units }
 {

@@ -87,7 +87,7 @@ module _ (lines : Selection) where
       let P : List (List ℕ) → Type 0 = λ kept. SessionGains lines history (history ++ more) s (record s { kept = kept; items = s.items }) stretches stretches [] in
       subst P (append-nil s.kept) (grown history more s s.items [] stretches is_open (sym none) holding)
 
-  -- a closing at the end of the history; reports behind it add nothing
+  -- a closing at the end of the history; reports after it add nothing
   pub ended : (place : ℕ) (why : Close) (history more : List Report) (s : SessionView) (stretches : List Stretch) → s.closing ≡ None → length history ≡ place
       → Agrees lines history s stretches → SessionGains lines history (history ++ more) s (closed_at place why s) stretches stretches []
   ended place why history more s stretches is_open at agrees =
@@ -115,7 +115,7 @@ module _ (lines : Selection) where
         };
       }
 
-  -- reports behind the closing place add nothing
+  -- reports after the closing place add nothing
   pub over : (closing : ℕ × Close) (history more : List Report) (s : SessionView) (stretches : List Stretch) → s.closing ≡ Some closing
       → Agrees lines history s stretches → SessionGains lines history (history ++ more) s s stretches stretches []
   over closing history more s stretches is_closed agrees =
@@ -187,7 +187,7 @@ module _ (lines : Selection) where
   pub turned_holds : (s : SessionView) → Holding lines [] (turned s) (stretches_left s.closing s.policy)
   turned_holds s = left s s.closing
 
-  -- the last mark stands within the history
+  -- the last mark is within the history
   pub marks_within : (history : List Report) (s : SessionView) (stretches : List Stretch) → Agrees lines history s stretches
       → last_place 0 s.marks ≤ length history
   marks_within history s stretches agrees =

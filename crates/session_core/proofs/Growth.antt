@@ -6,7 +6,7 @@ use Rattle.session_core.specs.Stretches.{Stretch, between, next_place, selected,
 use Rattle.session_core.proofs.Intervals.{next_within, next_marked, between_longer, between_empty, between_to_end}
 
 module _ {R : Type 0} (lines : Policy → R → List (List ℕ)) where
-  -- behind the end nothing is added
+  -- after the end nothing is added
   pub items_stay : (end : ℕ) (stretches : List Stretch) (history more : List R) → end ≤ length history → AreInOrder end stretches
       → items_to lines end stretches (history ++ more) ≡ items_to lines end stretches history
   items_stay end [] history more inside order = refl

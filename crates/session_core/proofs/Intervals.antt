@@ -64,7 +64,7 @@ none_before index end (stretch ∷ more) before order =
     let rest = none_before index end more next order.1 in
     grind (arith, nat_tests, rest, before)
 
--- an index stands in one stretch at most
+-- an index is in one stretch at most
 pub one_stretch : (index end : ℕ) (stretches : List Stretch) → AreInOrder end stretches → stretches_at index end stretches ≤ 1
 one_stretch index end [] order = lit≤ tt
 one_stretch index end (stretch ∷ more) order =
@@ -82,7 +82,7 @@ module _ {R : Type 0} where
   pub between_empty : (place end : ℕ) (history : List R) → place ≡ end → between place end history ≡ []
   between_empty place end history at = let none : end - place ≡ 0 = omega (arith, at) in ap (λ n. take n (drop place history)) none
 
-  -- from a place on: with more reports the part is so much longer
+  -- from a place on: with more reports the part is longer by these
   pub between_to_end : (from : ℕ) (history more : List R) → from ≤ length history
       → between from (length (history ++ more)) (history ++ more) ≡ between from (length history) history ++ more
   between_to_end from history more there =

@@ -69,7 +69,7 @@ module _ {R : Type 0} (lines : Policy → R → List (List ℕ)) where
       ap (λ l. (reply ++ selected lines stretch.policy l) ++ items_to lines (base + end) (map (placed_from base) more) (before ++ history)) part
       ∙ ap (λ l. (reply ++ selected lines stretch.policy (between stretch.place (next_place end more) history)) ++ l) (items_placed end more before history)
 
-  -- behind any earlier stretches, those of one more generation
+  -- after any earlier stretches, those of one more generation
   pub generations : (end : ℕ) (earlier later : List Stretch) (before history : List R) → AreInOrder (length before) earlier
       → items_to lines (length before + end) (earlier ++ map (placed_from (length before)) later) (before ++ history)
       ≡ items_to lines (length before) earlier before ++ items_to lines end (left_of earlier ++ later) history

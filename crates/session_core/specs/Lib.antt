@@ -5,3 +5,4 @@ pub mod SessionView
 pub mod Stretches
 pub mod Holding
 pub mod Generations
+pub mod Allowing

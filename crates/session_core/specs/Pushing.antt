@@ -1,4 +1,4 @@
--- What a push may answer, case by case.
+-- The results of a push, case by case.
 use Rattle.session_core.specs.declared.outlet.Push.{Push}
 use Rattle.session_core.specs.declared.outlet.Push.TheVariants.{Done, Full}
 

@@ -41,12 +41,12 @@ end_of (Some closing) history = closing.0
 abbrev pub session_items : {R : Type 0} → (Policy → R → List (List ℕ)) → Option (ℕ × Close) → List Stretch → List R → List (List ℕ)
 session_items lines closing stretches history = items_to lines (end_of closing history) stretches history
 
--- no stretch begins behind the next one or behind the end
+-- no stretch begins after the next one or after the end
 abbrev pub AreInOrder : ℕ → List Stretch → Type 0
 AreInOrder end [] = Unit {0}
 AreInOrder end (stretch ∷ more) = (stretch.place ≤ next_place end more) × AreInOrder end more
 
--- in how many stretches an index stands
+-- in how many stretches an index is
 abbrev pub stretches_at : ℕ → ℕ → List Stretch → ℕ
 stretches_at index end [] = 0
 stretches_at index end (stretch ∷ more) =

@@ -17,21 +17,21 @@ pub fn items_grow_by_what_is_selected()
         ≡ items_to lines (length history) (first ∷ rest) history ++ selected lines (last_watched first.policy rest) more }
 {}
 
-/// Reports behind the end add nothing.
+/// Reports after the end add nothing.
 #[tactic(auto, using(crate::proofs::Growth::items_stay))]
 pub fn items_before_an_end_stay()
     ensures { (lines : Selection) (end : ℕ) (stretches : List Stretch) (history more : List Report) → end ≤ length history → AreInOrder end stretches
         → items_to lines end stretches (history ++ more) ≡ items_to lines end stretches history }
 {}
 
-/// A mark at the end adds its reply alone.
+/// A mark at the end adds only its reply.
 #[tactic(auto, using(crate::proofs::Growth::items_marked))]
 pub fn a_mark_adds_its_reply()
     ensures { (lines : Selection) (end : ℕ) (stretches : List Stretch) (last : Stretch) (history : List Report) → last.place ≡ end
         → items_to lines end (stretches ++ last ∷ []) history ≡ items_to lines end stretches history ++ option_to_list last.reply }
 {}
 
-/// No report is given twice.
+/// No report is sent twice.
 #[tactic(auto, using(crate::proofs::Intervals::one_stretch))]
 pub fn an_index_stands_in_one_stretch_at_most()
     ensures { (index end : ℕ) (stretches : List Stretch) → AreInOrder end stretches → stretches_at index end stretches ≤ 1 }

@@ -9,6 +9,7 @@ mod marks;
 mod outlet;
 mod plain_outlet;
 mod session;
+mod subject;
 
 pub use item::Item;
 pub use laws::{
@@ -20,3 +21,4 @@ pub use mark::{Close, Mark};
 pub use outlet::{Outlet, Push, TwoEnded};
 pub use plain_outlet::PlainOutlet;
 pub use session::Session;
+pub use subject::{DeviceHeld, Subject};

@@ -13,7 +13,7 @@ pub enum Close {
     TooManyRequests,
     /// Its outlet was full.
     Overrun,
-    /// Memory was refused.
+    /// Out of memory.
     NoMemory,
 }
 

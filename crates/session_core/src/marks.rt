@@ -20,7 +20,7 @@ pub fn add_mark(marks: &mut Vec<Mark>, place: u64, policy: Policy) -> bool
     first
 }
 
-/// Of the marks only the last one stays, at place 0.
+/// Only the last mark stays, at place 0.
 #[tactic(auto, using(crate::proofs::Policies::last_policy_popped))]
 pub fn leave_last(marks: &mut Vec<Mark>)
     requires { 0 < vec_len marks.old }
@@ -35,7 +35,7 @@ pub fn leave_last(marks: &mut Vec<Mark>)
     }
 }
 
-/// No mark stays, nor room for one; the policy of the last one goes where it is kept.
+/// Drops all marks and their room; the policy of the last one is kept apart.
 #[tactic(auto, using(crate::proofs::Policies::last_policy_popped, crate::proofs::Policies::last_policy_kept))]
 pub fn leave_none(marks: &mut Vec<Mark>, unmarked: &mut Policy)
     ensures marks { marks.new.items ≡ [] }

@@ -6,7 +6,7 @@ use std::alloc::Global;
 use std::collections::VecDeque;
 use std::marker::Model;
 
-/// An outlet whose items are taken where it stands: first in, first out.
+/// An outlet that holds its items itself: first in, first out.
 #[derive(Drop)]
 pub struct PlainOutlet {
     items: VecDeque<Item>,
@@ -26,7 +26,7 @@ impl Model for PlainOutlet {
 }
 
 impl PlainOutlet {
-    /// Room for `cap` items is taken at once.
+    /// Room for `cap` items is allocated at once.
     pub fn new(alloc: Global, cap: u32) -> Result<PlainOutlet, NoMemory>
         requires low { 1 ≤ cap }
         requires high { cap ≤ 65536 }
@@ -37,7 +37,7 @@ impl PlainOutlet {
         Ok(PlainOutlet { items, cap })
     }
 
-    /// The item that was put first; none exactly if nothing is held.
+    /// The item that was pushed first; none exactly if nothing is held.
     pub fn take(&mut self) -> Option<Item>
         ensures item { result ≡ slice_get self.old.held 0 }
         ensures rest { self.new ≡ record self.old { held = drop 1 self.old.held } }

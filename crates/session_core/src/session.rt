@@ -15,7 +15,7 @@ use gps_report::Policy;
 use std::alloc::Global;
 use std::marker::Model;
 
-/// One session: the marks of this generation, the closing, and the outlet to which its items are put.
+/// One session: the marks of this generation, the closing, and the outlet into which its items are pushed.
 #[derive(Drop)]
 pub struct Session<O: Outlet> {
     outlet: O,
@@ -65,7 +65,7 @@ fn counted(requests: u32, opening: bool) -> u32
 }
 
 impl<O: Outlet> Session<O> {
-    /// A session without marks that watches nothing, with room for its opening. If memory is refused, the outlet
+    /// A session without marks that watches nothing, with room for its opening. Out of memory, the outlet
     /// comes back.
     pub fn new(alloc: Global, outlet: O) -> Result<Session<O>, O>
         requires { O.takes outlet }
@@ -95,7 +95,7 @@ impl<O: Outlet> Session<O> {
         }
     }
 
-    /// Takes room for the given number of further marks.
+    /// Allocates room for the given number of further marks.
     #[tactic(auto, using(crate::proofs::Gaining::roomier))]
     pub fn reserve(&mut self, marks: u32) -> Result<(), NoMemory>
         ensures ok { OnOk result (self.new ≡ record self.old { spare = max self.old.spare marks }) }
@@ -116,6 +116,7 @@ impl<O: Outlet> Session<O> {
 
     fn put(&mut self, item: Item) -> Push
         requires open { self.old.closing ≡ None }
+        requires may { O.may self.old.name (self.old.kept ++ item ∷ []) }
         ensures given { MatchPush result (self.new ≡ given item self.old) (self.new ≡ self.old) }
         ensures full { result ≡ Push.Full → self.old.cap ≤ length self.old.kept }
         ensures exact { O.exact ≡ true → (result ≡ Push.Full) ↔ (self.old.cap ≤ length self.old.kept) }
@@ -146,17 +147,23 @@ impl<O: Outlet> Session<O> {
         self.closing = Some((place, Close::Overrun));
     }
 
-    /// Puts the reply to the opening or to a request, and marks where from the policy after it holds. If the outlet is
+    /// Pushes the reply to the opening or to a request, and marks where from the policy after it holds. If the outlet is
     /// full, there is no mark, and the session is closed.
     #[tactic(auto, using(crate::proofs::Gaining::reply_gains, crate::proofs::Policies::last_place_push))]
     pub fn reply(&mut self, place: u64, policy: Policy, item: Item) -> Push
+        // The session is open and has room for a mark, and the place is not before its last one.
         requires open { self.old.closing ≡ None }
         requires room { 1 ≤ self.old.spare }
         requires after { last_place 0 self.old.marks ≤ place }
+        requires may { O.may self.old.name (self.old.kept ++ item ∷ []) }
+
+        // What the session is after it, and when it is full.
         ensures now { MatchPush result (self.new ≡ replied place policy item self.old) (self.new ≡ closed_at place Close.Overrun self.old) }
         ensures full { result ≡ Push.Full → self.old.cap ≤ length self.old.kept }
         ensures exact { O.exact ≡ true → (result ≡ Push.Full) ↔ (self.old.cap ≤ length self.old.kept) }
         ensures placed { last_place 0 self.new.marks ≤ place }
+
+        // What its client is sent.
         ensures items { (lines : Selection) (history : List Report) (stretches : List Stretch) → length history ≡ place
             → Agrees lines history self.old stretches
             → MatchPush result (SessionGains lines history history self.old self.new stretches (stretches ++ answer_stretch place policy item ∷ []) (item ∷ []))
@@ -174,14 +181,20 @@ impl<O: Outlet> Session<O> {
         }
     }
 
-    /// Puts the line of a selected report that stands at this place. If the outlet is full, the session is closed.
+    /// Pushes the line of a selected report at this place. If the outlet is full, the session is closed.
     pub fn report(&mut self, place: u64, item: Item) -> Push
+        // The session is open, and the place is not before its last mark.
         requires open { self.old.closing ≡ None }
         requires after { last_place 0 self.old.marks ≤ place }
+        requires may { O.may self.old.name (self.old.kept ++ item ∷ []) }
+
+        // What the session is after it, and when it is full.
         ensures now { MatchPush result (self.new ≡ given item self.old) (self.new ≡ closed_at place Close.Overrun self.old) }
         ensures full { result ≡ Push.Full → self.old.cap ≤ length self.old.kept }
         ensures exact { O.exact ≡ true → (result ≡ Push.Full) ↔ (self.old.cap ≤ length self.old.kept) }
         ensures placed { last_place 0 self.new.marks ≤ place }
+
+        // What its client is sent.
         ensures items { (lines : Selection) (history : List Report) (last : Report) (stretches : List Stretch) → length history ≡ place
             → lines self.old.policy last ≡ item ∷ [] → Holding lines history self.old stretches
             → MatchPush result (SessionGains lines history (history ++ last ∷ []) self.old self.new stretches stretches (item ∷ []))
@@ -196,7 +209,7 @@ impl<O: Outlet> Session<O> {
         }
     }
 
-    /// From this place on nothing is put any more. Takes no memory.
+    /// From this place on nothing is pushed any more. Takes no memory.
     #[tactic(auto, using(crate::proofs::Gaining::close_gains))]
     pub fn close(&mut self, place: u64, why: Close)
         requires open { self.old.closing ≡ None }
@@ -209,7 +222,7 @@ impl<O: Outlet> Session<O> {
         self.closing = Some((place, why));
     }
 
-    /// The place from which on nothing is put any more, and why; none exactly if the session is open.
+    /// The place from which on nothing is pushed any more, and why; none exactly if the session is open.
     pub fn closing(&self) -> Option<(u64, Close)>
         ensures { result ≡ self.now.closing }
     {
@@ -234,7 +247,7 @@ impl<O: Outlet> Session<O> {
         self.requests
     }
 
-    /// How many items were put.
+    /// How many items were pushed.
     pub fn items(&self) -> u64
         ensures { result ≡ self.now.items }
     {
@@ -250,7 +263,7 @@ impl<O: Outlet> Session<O> {
         outlet
     }
 
-    /// A new generation begins: an open session keeps its policy alone, from place 0 on, and a closed one ends there.
+    /// A new generation begins: an open session keeps only its policy, from place 0 on, and a closed one ends there.
     pub fn turn(&mut self)
         requires { self.old.closing ≡ None → 0 < length self.old.marks }
         ensures now { self.new ≡ turned self.old }
@@ -268,7 +281,7 @@ impl<O: Outlet> Session<O> {
 }
 
 impl Session<PlainOutlet> {
-    /// The item that was put first of those that the outlet holds; none exactly if it holds nothing.
+    /// The item that was pushed first of those that the outlet holds; none exactly if it holds nothing.
     pub fn take(&mut self) -> Option<Item>
         ensures item { result ≡ slice_get self.old.kept 0 }
         ensures now { self.new ≡ record self.old { kept = drop 1 self.old.kept } }
@@ -280,7 +293,7 @@ impl Session<PlainOutlet> {
 }
 
 impl<O: TwoEnded> Session<O> {
-    /// Takes one item at the far end and hands it on. A closed session is given no more, so its outlet may end with this.
+    /// Takes one item at the far end and returns it. A closed session is given no more, so its outlet may end with this.
     pub fn settle(&mut self, far: &mut O::Far) -> Option<Item>
         requires { O.belongs (O.far_name far.old) self.old.name }
         ensures same { self.new ≡ self.old }

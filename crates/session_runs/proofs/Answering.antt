@@ -73,7 +73,7 @@ pub asked_waiting : (names : List (List ℕ)) (log : List Entry) (stretches : Li
 asked_waiting names log [] asked more is = is
 asked_waiting names log (opening ∷ stretches) asked more is = (is.0, is.1, is.2, answers_waiting names log [] is.0 stretches asked more is.3)
 
--- of which some are answered next
+-- some of these are answered next
 answers_joined : (names : List (List ℕ)) (log : List Entry) (done : List RawCommand) (from : ℕ) (stretches added : List Stretch) (asked more : List RawCommand)
     → from ≤ length log → length stretches ≡ length asked → AnswersFirst names log done from stretches asked
     → ((last : ℕ) → last ≤ length log → AnswersFirst names log (done ++ asked) last added more)

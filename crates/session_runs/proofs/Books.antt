@@ -79,7 +79,7 @@ turned_closed : (c : Option (ℕ × Close)) → is_some c ≡ true → is_some (
 turned_closed None some = some
 turned_closed (Some closing) some = refl
 
--- behind a turn
+-- after a turn
 follows_turned : (names : List (List ℕ)) (before log longer : List Entry) (old new : SessionView)
     → Follows names (before ++ log) [] (before ++ log) longer (turned old) new → Follows names before log (before ++ log) longer old new
 follows_turned names before log longer old new follows r run =
@@ -121,7 +121,7 @@ runs_on old new before onward names follows runs zip =
     (next, subst N (sym names) on.1.run, refl))
     old.sessions new.sessions runs follows zip
 
--- entries and their reports were added, behind a turn or none
+-- entries and their reports were added, after a turn or without one
 moved : (exact turns : Bool) (old new : BookView) (entries before : List Entry) (reports : List Report) → BookHolds old → StandsFor old.log.opening before
     → BookAdds exact (turned_if turns old) new entries reports → BookGoesOn turns old new entries before
 moved true_or turns old new entries before reports held stands adds = by turns adds

@@ -1,4 +1,4 @@
--- Two lists of which each pair of elements is related, through a change of the first.
+-- Two lists whose elements are related pair by pair, through a change of the first.
 use Rattle.std.proofs.Common.{ℕ, zero, suc, List, [], ◌∷◌, ◌++◌, map, set}
 use Rattle.std.specs.List.{AllZip}
 

@@ -57,7 +57,7 @@ abbrev pub OthersKeepAccounts : Type 0
 OthersKeepAccounts = (old new : BookView) (before : List Entry) (a : MemberView) (r : SessionRun) (taken : List (List ℕ)) (bytes : List ℕ)
     → SameButSessions old new → AccountIn old before a r taken bytes → AccountIn new before a r taken bytes
 
--- the answers that a piece of input put
+-- the answers that a piece of input pushed
 abbrev pub put_of : (exact : Bool) (names : List (List ℕ)) (log : List Entry) (place : ℕ) (piece : List ℕ) (old new : MemberView)
     → Inputs exact (known_in (length names) log) names place piece old new → List Answer
 put_of exact names log place piece old new heard = take heard.count (answered (known_in (length names) log) names old.session.policy heard.requests)

@@ -1,4 +1,4 @@
--- What the client of a session sent, and how it was answered: behind the opening, stretch k of the run answers request k.
+-- What the client of a session sent, and how it was answered: after the opening, stretch k of the run answers request k.
 use Rattle.std.specs.Prelude.{◌≡◌, ◌≤◌, ◌+◌, ℕ, Bool, List, [], ◌∷◌, ◌++◌, length, take, Some, None}
 use Rattle.std.specs.List.{list_any}
 use Rattle.gps_command.specs.declared.request.RawCommand.{RawCommand}
@@ -25,12 +25,12 @@ pub record BeginsAt (log : List Entry) (from moment : ℕ) (stretch : Stretch) :
   pub within : moment ≤ length log
   pub place : stretch.place ≡ length (history (take moment log))
 
--- Behind the requests that were done it answers this one, by what was known at that moment.
+-- After the requests that were done it answers this one, by what was known at that moment.
 pub record IsAnswer (names : List (List ℕ)) (log : List Entry) (moment : ℕ) (done : List RawCommand) (request : RawCommand) (stretch : Stretch) : Type 0 where
   pub policy : stretch.policy ≡ policy_of (done ++ request ∷ [])
   pub reply : stretch.reply ≡ Some (reply (known_in (length names) (take moment log)) names stretch.policy request)
 
--- behind those done, these stretches answer the first of these requests, in order; the others have no answer
+-- after those done, these stretches answer the first of these requests, in order; the others have no answer
 abbrev pub AnswersFirst : List (List ℕ) → List Entry → List RawCommand → ℕ → List Stretch → List RawCommand → Type 0
 AnswersFirst names log done from [] asked = Unit {0}
 AnswersFirst names log done from (stretch ∷ stretches) [] = ⊥
@@ -48,8 +48,8 @@ Asked names log (opening ∷ stretches) asked = (moment : ℕ) × BeginsAt log 0
 abbrev pub is_enabled : Stretch → Bool
 is_enabled stretch = stretch.policy.enable
 
--- Its client has sent these bytes. It counts its answered requests, one for each stretch behind the opening, and they are no more than may be
--- answered. While it is open each request of the bytes is answered, and it waits for what goes on behind them.
+-- Its client has sent these bytes. It counts its answered requests, one for each stretch after the opening, and they are no more than may be
+-- answered. While it is open each request of the bytes is answered, and it waits for what follows them.
 pub record HasSent (names : List (List ℕ)) (log : List Entry) (a : MemberView) (stretches : List Stretch) (bytes : List ℕ) : Type 0 where
   pub asked : Asked names log stretches (requests bytes)
   pub count : length stretches ≡ 1 + a.session.requests

@@ -1,4 +1,4 @@
--- How what a client sent goes on to be answered.
+-- How further input of a client is answered.
 use Rattle.std.specs.Prelude.{◌≡◌, ◌<◌, ℕ, Bool, List, [], ◌++◌, length, map, take, get_or, None, is_some, true}
 use Rattle.std.specs.List.{AllZip}
 use Rattle.gps_command.specs.declared.request.RawCommand.{RawCommand}

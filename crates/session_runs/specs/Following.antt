@@ -43,7 +43,7 @@ Follows names before log onward longer old new =
 abbrev pub forgotten_if : Bool → List Entry → List Entry → List Entry
 forgotten_if turns before log = cond turns (before ++ log) before
 
--- Entries came to a book, behind a turn or none: the whole log is so much longer, and each session goes on.
+-- Entries came to a book, after a turn or without one: the whole log is longer by these, and each session goes on.
 pub record BookGoesOn (turns : Bool) (old new : BookView) (entries before : List Entry) : Type 0 where
   pub stands : StandsFor new.log.opening (forgotten_if turns before old.log.log)
   pub whole : forgotten_if turns before old.log.log ++ new.log.log ≡ (before ++ old.log.log) ++ entries
@@ -61,7 +61,7 @@ abbrev pub closing_at : ℕ → Option (ℕ × Close) → Option (ℕ × Close)
 closing_at place None = None
 closing_at place (Some closing) = Some (place, closing.1)
 
--- these answers were put after this whole log, and maybe it was closed there
+-- these answers were pushed after this whole log, and maybe it was closed there
 abbrev pub answered_run : List Entry → List Answer → Option (ℕ × Close) → SessionRun → SessionRun
 answered_run log answers now r = record {
   stretches = r.stretches ++ map (stretch_at (length (history log))) answers;

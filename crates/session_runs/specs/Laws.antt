@@ -35,7 +35,7 @@ abbrev pub AdmittedRunBegins : Type 0
 AdmittedRunBegins = (name : OutletName) (cap : ℕ) (old new : BookView) (before : List Entry) → BookHolds old → StandsFor old.log.opening before
     → Admits name cap old new → RunBegins name cap old new before
 
--- The stretches of a run stand in order within the whole history, up to its closing; and it is closed exactly if the book shows it so.
+-- The stretches of a run are in order within the whole history, up to its closing; and it is closed exactly if the book shows it so.
 pub record IsInOrder (before log : List Entry) (s : SessionView) (r : SessionRun) : Type 0 where
   pub order : AreInOrder (end_of r.closing (history (before ++ log))) r.stretches
   pub within : end_of r.closing (history (before ++ log)) ≤ length (history (before ++ log))
@@ -61,7 +61,7 @@ abbrev pub TurnsKeepRuns : Type 0
 TurnsKeepRuns = (names : List (List ℕ)) (before log : List Entry) (s : SessionView) (r : SessionRun) → IsRunOf names before log s r
     → Extends names before log (before ++ log) [] s (turned s) [] r r
 
--- Entries come, behind a turn if one is due.
+-- Entries come, after a turn if one is due.
 abbrev pub MovesExtendRuns : Type 0
 MovesExtendRuns = (exact turns : Bool) (old new : BookView) (entries before : List Entry) → BookHolds old → StandsFor old.log.opening before
     → Moves exact turns old new entries → BookGoesOn turns old new entries before
@@ -70,7 +70,7 @@ abbrev pub QuietEntriesKeepRuns : Type 0
 QuietEntriesKeepRuns = (old new : BookView) (entries before : List Entry) → StandsFor old.log.opening before
     → AddsQuietly old new entries → BookGoesOn Bool.false old new entries before
 
--- Answers that are put to an open session are further stretches after the whole log.
+-- Answers that are pushed to an open session are further stretches after the whole log.
 abbrev pub AnswersExtendRuns : Type 0
 AnswersExtendRuns = (names : List (List ℕ)) (before log : List Entry) (place left : ℕ) (old new : MemberView) (answers : List Answer) (r : SessionRun)
     → length (history_after before log) ≡ place → old.session.closing ≡ None
@@ -94,7 +94,7 @@ TakingKeepsRuns = (names : List (List ℕ)) (before log : List Entry) (a : Membe
     → kept ≡ drop 1 a.session.kept
     → IsRunOf names before log a.session r → IsRunOf names before log (with_kept kept a).session r
 
--- What a run gains is put, and what is taken was put first.
+-- What a run gains is pushed, and what is taken was pushed first.
 abbrev pub GivenMore : Type 0
 GivenMore = (names : List (List ℕ)) (before log onward longer : List Entry) (old new : SessionView) (more taken put : List (List ℕ)) (r next : SessionRun)
     → Extends names before log onward longer old new more r next → IsGiven names (before ++ log) r taken old.kept put

@@ -4,3 +4,4 @@ pub mod Laws
 pub mod Asking
 pub mod AskingLaws
 pub mod Accounts
+pub mod Due

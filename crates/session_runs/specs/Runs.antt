@@ -52,7 +52,7 @@ IsRunOf names before log s r = IsHere names before log s r ⊎ IsOver before s r
 abbrev pub RunsOf : BookView → List Entry → List SessionRun → Type 0
 RunsOf b before runs = AllZip (λ (a : MemberView) r. IsRunOf b.names before b.log.log a.session r) b.sessions runs
 
--- All items that were put to its outlet so far are those of its run; those that were taken come before those that are kept.
+-- All items that were pushed into its outlet so far are those of its run; those that were taken come before those that are kept.
 pub record IsGiven (names : List (List ℕ)) (log : List Entry) (r : SessionRun) (taken kept put : List (List ℕ)) : Type 0 where
   pub items : put ≡ items_over names log r
   pub rest : taken ++ kept ≡ put

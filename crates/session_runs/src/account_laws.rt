@@ -7,7 +7,7 @@ pub fn a_new_session_has_an_account()
     ensures { AdmittedHasAccount }
 {}
 
-/// Entries come to a book, behind a turn or none.
+/// Entries come to a book, after a turn or without one.
 pub fn entries_carry_accounts()
     ensures { EntriesCarryAccounts }
 {}

@@ -12,12 +12,12 @@ pub fn reports_extend_a_run()
     ensures { ReportsExtendRuns }
 {}
 
-/// Reports close a session by an overrun alone, at the place of one of them.
+/// Reports close a session only by an overrun, at the place of one of them.
 pub fn reports_close_by_overrun()
     ensures { ReportsOverrun }
 {}
 
-/// The stretches of a run stand in order, within the whole history.
+/// The stretches of a run are in order, within the whole history.
 pub fn a_run_is_in_order()
     ensures { RunsAreInOrder }
 {}
@@ -27,7 +27,7 @@ pub fn a_turn_keeps_a_run()
     ensures { TurnsKeepRuns }
 {}
 
-/// Entries come to a book, behind a turn or none: each run goes on.
+/// Entries come to a book, after a turn or without one: each run goes on.
 pub fn entries_extend_all_runs()
     ensures { MovesExtendRuns }
 {}
@@ -42,7 +42,7 @@ pub fn answers_extend_a_run()
     ensures { AnswersExtendRuns }
 {}
 
-/// A closing stands after the whole log.
+/// A closing is after the whole log.
 pub fn a_closing_ends_a_run()
     ensures { ClosingsEndRuns }
 {}

@@ -2,7 +2,9 @@
 use Rattle.std.proofs.Common.{◌≡◌, ◌≤◌, ◌+◌, None, drop}
 use Rattle.book_batch.specs.Lines.{line_for}
 use Rattle.book_batch.specs.Sharing.{row_of}
+use Rattle.session_core.specs.Allowing.{AllowsAll}
 use Rattle.session_core.specs.SessionView.{SessionView, last_place}
+use Rattle.session_core.specs.Stretches.{selected}
 use Rattle.book_sessions.specs.Spreading.{TakesDue, due}
 use Rattle.book_sessions.proofs.spreading.report_all.Given as goal
 
@@ -13,5 +15,6 @@ invariant-reports g l = record {
   is_open : l.session.closing ≡ None;
   after : last_place 0 l.session.marks ≤ l.first;
   row : l.row ≡ row_of l.names (drop l.report-index l.reports);
+  allowed : AllowsAll g.O.Outlet.may l.session (selected (line_for l.names) l.session.policy (drop l.report-index l.reports));
   place : l.place ≡ l.first + l.report-index;
 }

@@ -1,6 +1,7 @@
 use Rattle.std.proofs.Common.{◌≡◌, ◌≤◌, ◌<◌, List, length, get_or, sym, ap, ◌∙◌, subst, arith}
 use Rattle.std.specs.Int.{from_bool}
 use Rattle.gps_report.specs.declared.report.Report.{Report}
+use Rattle.session_core.specs.Allowing.{MayReport}
 use Rattle.session_core.specs.SessionView.{SessionView, last_place}
 use Rattle.book_batch.specs.Lines.{line_for}
 use Rattle.book_sessions.specs.Spreading.{Reports, is_live}
@@ -13,6 +14,15 @@ report_row-requires-clause-after g c =
     let within : i < length c.args.sessions.now = c.sessions-test.true in
     let P : SessionView → Type 0 = λ s. last_place 0 s.marks ≤ c.args.first in
     subst P (sym (left_here c.args.sessions.now c.sessions.sessions i c.session-item.result c.sessions.invariant.rest)) (c.requires.after i c.session-item.result within)
+
+pub report_row-requires-clause-may : goal.report_row-requires-clause-may
+report_row-requires-clause-may g c =
+    let i = c.sessions.session-index in
+    let x = c.session-item.result in
+    let P : SessionView → Type 0 = λ s. MayReport g.O.Outlet.may (line_for c.args.names.now) c.args.batch.reports s in
+    let R : List Report → Type 0 = λ l. MayReport g.O.Outlet.may (line_for c.args.names.now) l (get_or c.sessions.sessions i x) in
+    subst R (sym c.sessions.invariant.reports)
+    (subst P (sym (left_here c.args.sessions.now c.sessions.sessions i x c.sessions.invariant.rest)) (c.requires.may i x c.sessions-test.true))
 
 pub sessions-preserved : goal.sessions-preserved
 sessions-preserved g c =

@@ -3,8 +3,17 @@ use Rattle.std.specs.List.{list_any}
 use Rattle.book_replies.specs.Replies.{answered}
 use Rattle.book_sessions.specs.MemberView.{MemberView}
 use Rattle.book_sessions.specs.Answering.{AnswersCut, enables}
+use Rattle.book_sessions.specs.Allowing.{MayReply}
+use Rattle.book_sessions.proofs.Allowing.{replies_allowed}
 use Rattle.book_sessions.proofs.Answered.{answers_put, watched_now}
 use Rattle.book_sessions.proofs.member.Member.input.Goals as goal
+
+pub put_all-requires-clause-may : goal.put_all-requires-clause-may
+put_all-requires-clause-may g c =
+    let P : MemberView → Type 0 = λ a. MayReply g.O.Outlet.may c.args.known.now c.args.names.now c.args.cut.requests.items a.session in
+    replies_allowed g.O.Outlet.may c.args.known.now c.args.names.now c.args.cut.requests.items c.as_slice.result.now c.policy.result.now c.in_ok-replies.replies.items
+    (max c.self.inside.session.spare c.in_ok-count.count) c.self.inside.session c.reserve.new.self
+    c.in_ok-reserve.ensures.ok c.policy.ensures c.as_slice.ensures.value c.in_ok-replies.ensures (subst P (sym c.self.view_is) c.requires.may)
 
 pub returns-clause-answers : goal.returns-clause-answers
 returns-clause-answers g c =

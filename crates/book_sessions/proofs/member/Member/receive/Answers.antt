@@ -1,10 +1,18 @@
 use Rattle.std.proofs.Common.{◌≡◌, true, false, None, refl, sym, ap, ◌∙◌, subst}
+use Rattle.session_core.specs.Allowing.{MayReport}
 use Rattle.book_batch.specs.Lines.{line_for}
 use Rattle.book_sessions.specs.MemberView.{MemberView, is_open}
 use Rattle.book_sessions.specs.Spreading.{Spreads, due}
 use Rattle.book_sessions.proofs.Receiving.{live_means, received, still_marked, takes_stay}
 use Rattle.book_sessions.proofs.Rosters.{spread_closed}
 use Rattle.book_sessions.proofs.member.Member.receive.Goals as goal
+
+pub report_all-requires-clause-may : goal.report_all-requires-clause-may
+report_all-requires-clause-may g c =
+    let P : MemberView → Type 0 = λ a. a.session.closing ≡ None in
+    let M : MemberView → Type 0 = λ a. MayReport g.O.Outlet.may (line_for c.args.names.now) c.args.reports.now a.session in
+    let none = subst P (sym c.self.view_is) (live_means c.args.self.now.session (let e : is_open c.args.self.now ≡ true = cc in e)) in
+    (subst M (sym c.self.view_is) c.requires.may) none
 
 pub invariant_of-self : goal.invariant_of-self
 invariant_of-self g c =

@@ -1,11 +1,18 @@
-use Rattle.std.proofs.Common.{List, sym, subst, arith, ◌<◌, length, ap, ◌∙◌}
+use Rattle.std.proofs.Common.{List, get_or, sym, subst, arith, ◌<◌, length, ap, ◌∙◌}
 use Rattle.book_sessions.specs.MemberView.{MemberView}
+use Rattle.book_sessions.specs.Allowing.{MayReply}
 use Rattle.book_sessions.specs.Answering.{AnswersCut}
 use Rattle.book_sessions.specs.Roster.{IsAfterAll, Changes, IsOpenAt}
 use Rattle.book_sessions.proofs.Listening.{listening_heard}
 use Rattle.book_sessions.proofs.Places.{after_input}
 use Rattle.book_sessions.proofs.Rosters.{changed_roster}
 use Rattle.book_sessions.proofs.roster.Roster.input.Goals as goal
+
+pub input_at-requires-clause-may : goal.input_at-requires-clause-may
+input_at-requires-clause-may g c =
+    let P : List MemberView → Type 0 = λ l. (free : MemberView)
+    → MayReply g.O.Outlet.may c.args.known.now c.args.names.now c.args.cut.requests.items (get_or l c.args.s free).session in
+    subst P (sym c.self.view_is) c.requires.may
 
 pub invariant_of-self-2 : goal.invariant_of-self-2
 invariant_of-self-2 g c =

@@ -3,13 +3,22 @@ use Rattle.std.specs.List.{AllZip}
 use Rattle.std.specs.Vec.{vec_len}
 use Rattle.std.proofs.lemmas.Bool.{eqb-true}
 use Rattle.book_batch.specs.Lines.{line_for}
-use Rattle.book_sessions.specs.MemberView.{MemberView}
+use Rattle.session_core.specs.Allowing.{MayReport}
+use Rattle.book_sessions.specs.Allowing.{MayReportEach}
+use Rattle.book_sessions.specs.MemberView.{MemberView, listens}
 use Rattle.book_sessions.specs.Spreading.{Spreads}
 use Rattle.book_sessions.specs.Roster.{IsAfterAll}
+use Rattle.book_sessions.proofs.Allowing.{walk_over}
 use Rattle.book_sessions.proofs.Listening.{is_nil, listening_spread}
 use Rattle.book_sessions.proofs.Places.{after_spread}
 use Rattle.book_sessions.proofs.Rosters.{spread_roster, spread_to_none, spread_zip}
 use Rattle.book_sessions.proofs.roster.Roster.spread.Goals as goal
+
+pub receive_each-requires-clause-may : goal.receive_each-requires-clause-may
+receive_each-requires-clause-may g c =
+    let P : List MemberView → Type 0 = λ l. MayReportEach g.O.Outlet.may (line_for c.args.names.now) c.args.batch.reports l in
+    walk_over (λ (a : MemberView). MayReport g.O.Outlet.may (line_for c.args.names.now) c.args.batch.reports a.session) listens c.self.inside.listening.items c.self.inside.members.items
+    c.self.invariant.1 (subst P (sym c.self.view_is) c.requires.may)
 
 pub invariant_of-self : goal.invariant_of-self
 invariant_of-self g c =

@@ -1,10 +1,14 @@
-use Rattle.std.proofs.Common.{◌≡◌, ◌≤◌, ◌<◌, ℕ, Bool, false, length, ap, sym, subst, arith, ◌∙◌}
+use Rattle.std.proofs.Common.{◌≡◌, ◌≤◌, ◌<◌, ℕ, Bool, false, length, ap, sym, subst, arith, ◌∙◌, None}
 use Rattle.book_log.proofs.Owned.{are_named}
 use Rattle.book_log.specs.Entries.{fed, edged, ended}
 use Rattle.book_log.specs.DeviceLogView.{turns_at}
+use Rattle.report_book.specs.Allowing.{MayAdd}
 use Rattle.report_book.specs.BookView.{BookView, turned_if}
 use Rattle.report_book.specs.Moves.{Earns}
+use Rattle.report_book.specs.Refusals.{device_fault}
+use Rattle.report_book.proofs.Allowing.{lines_allowed}
 use Rattle.report_book.proofs.Calls.{after_if, is_device, limit_kept, moved, roomy}
+use Rattle.report_book.proofs.Changing.{passes}
 use Rattle.report_book.proofs.book.Book.feed.Goals as goal
 
 pub put-requires-clause-after : goal.put-requires-clause-after
@@ -20,6 +24,15 @@ pub put-requires-clause-room : goal.put-requires-clause-room
 put-requires-clause-room g c =
     let short : length c.in_ok-added.added.batch.reports ≤ 2568 = let short = c.in_ok-added.ensures.few in let piece = c.requires.piece in omega arith in
     roomy c.args.d 2568 c.reserve.new.self.spare c.in_ok-added.added.batch.reports c.in_ok-reserve.ensures.room c.in_ok-added.ensures.own short
+
+pub put-requires-clause-may : goal.put-requires-clause-may
+put-requires-clause-may g c =
+    let M : BookView → Type 0 = λ b. MayAdd g.O.Outlet.may c.args.d (fed c.args.d c.args.at c.args.bytes.now) b in
+    let F : BookView → Type 0 = λ b. device_fault b c.args.d ≡ None in
+    lines_allowed g.O.Outlet.may c.args.d (fed c.args.d c.args.at c.args.bytes.now) c.self.inside.names c.self.inside.log c.feed.new.self c.self.inside.roster c.self.inside.units.units
+    (turns_at c.self.inside.log (length c.args.bytes.now)) c.in_ok-added.added.turned c.in_ok-added.added.batch.reports c.self.invariant c.in_ok-added.ensures.adds
+    (subst F (sym c.self.view_is) (passes (device_fault c.args.self.now c.args.d) c.in_ok-check_device.field-0 c.in_ok-check_device.ensures))
+    (subst M (sym c.self.view_is) c.requires.may)
 
 pub invariant_of-self-2 : goal.invariant_of-self-2
 invariant_of-self-2 g c =

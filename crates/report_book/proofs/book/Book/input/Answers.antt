@@ -1,11 +1,15 @@
-use Rattle.std.proofs.Common.{◌≡◌, ◌<◌, false, ℕ, List, length, refl, rules, sym, subst}
+use Rattle.std.proofs.Common.{◌≡◌, ◌<◌, None, false, ℕ, List, length, refl, rules, sym, subst}
 use Rattle.std.specs.List.{list_any}
 use Rattle.gps_command.specs.declared.request.RawCommand.{RawCommand}
 use Rattle.book_replies.specs.Polling.{is_poll}
 use Rattle.book_sessions.specs.Answering.{AnswersCut}
 use Rattle.book_sessions.specs.Roster.{Changes, IsOpenAt}
+use Rattle.report_book.specs.Allowing.{MayInput}
 use Rattle.report_book.specs.Moves.{AnswersRequests}
+use Rattle.report_book.specs.Refusals.{session_fault}
 use Rattle.report_book.specs.BookView.{BookView}
+use Rattle.report_book.proofs.Allowing.{replies_known}
+use Rattle.report_book.proofs.Changing.{passes}
 use Rattle.report_book.proofs.Calls.{after_at, hears_on, hears_requests, is_open_at, is_session, nothing}
 use Rattle.report_book.proofs.book.Book.input.Goals as goal
 
@@ -22,6 +26,17 @@ input-requires-clause-after g c =
     let N : BookView → Type 0 = λ b. c.args.s < length b.sessions in
     let there = subst N (sym c.self.view_is) (is_session c.args.self.now c.args.s c.in_ok-check_session.field-0 c.in_ok-check_session.ensures) in
     after_at (record { names = c.self.inside.names; log = c.self.inside.log; sessions = c.self.inside.roster; units = c.self.inside.units.units }) c.args.s c.place-place.result c.self.invariant there c.place-place.ensures.place
+
+pub input-requires-clause-may : goal.input-requires-clause-may
+input-requires-clause-may g c =
+    let b : BookView = record { names = c.self.inside.names; log = c.self.inside.log; sessions = c.self.inside.roster; units = c.self.inside.units.units } in
+    let R : List RawCommand → Type 0 = λ r. c.may_poll-polls.result ≡ false → list_any is_poll r ≡ false in
+    let F : BookView → Type 0 = λ x. session_fault x c.args.s ≡ None in
+    let M : BookView → Type 0 = λ x. MayInput g.O.Outlet.may c.args.s c.args.piece.now x in
+    replies_known g.O.Outlet.may c.may_poll-polls.result b c.args.s c.args.piece.now c.in_ok-known.known c.in_ok-cut.cut.requests.items c.in_ok-cut.cut.cutter c.self.invariant
+    (subst R c.as_slice.ensures.value c.may_poll-polls.ensures) c.in_ok-known.ensures.known c.in_ok-cut.ensures
+    (subst F (sym c.self.view_is) (passes (session_fault c.args.self.now c.args.s) c.in_ok-check_session.field-0 c.in_ok-check_session.ensures))
+    (subst M (sym c.self.view_is) c.requires.may)
 
 pub invariant_of-self : goal.invariant_of-self
 invariant_of-self g c =

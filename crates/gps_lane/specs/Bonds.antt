@@ -24,7 +24,7 @@ abbrev pub bond_by : {Q T : Type 0} → Option Q → TableId → List T → Bond
 bond_by (Some queue) id all = open_over id
 bond_by None id all = let_go id all
 
--- before it goes through any
+-- before it goes through any queue
 abbrev pub no_bond : {T : Type 0} → Bond T
 no_bond = open_over (record { words = 0; slots = 0; views_name = 0; atom = 0; block = 0; offset = 0; slot_names = [] })
 

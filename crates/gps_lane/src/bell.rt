@@ -3,10 +3,10 @@ use std::sync::atomic::{AtomicBool, Ordering};
 use std::thread::Parker;
 use std::time::Duration;
 
-/// By a bell one thread sleeps until another rings it. Any number of threads may ring it, and one at most waits on it.
+/// A thread sleeps on a bell until another thread rings it. Any number of threads may ring it, and one at most waits on it.
 ///
 /// A ring stays until the next wait takes it, so a thread that looks for work after each wait misses none that was there
-/// before a ring. A wait may end without a ring. Nothing of this is a clause: no proof speaks of waking.
+/// before a ring. A wait may end without a ring. None of this is in a clause: no proof speaks of waking.
 #[derive(Drop)]
 pub struct Bell {
     parker: Parker,

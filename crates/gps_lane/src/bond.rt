@@ -113,8 +113,8 @@ fn tie<T>(table: &BondTable<T>, seat: &mut BondSeat<T>, pass: &LanePass<T>)
 pub(crate) fn untie<T>(table: &BondTable<T>, seat: &mut BondSeat<T>, pass: &LanePass<T>)
     requires one { table.now.shared.table_id.words ≡ 1 }
     requires seat { IsSeat table.now.shared.table_id seat.old.table_id seat.old.me (both_ends seat.old.me.0.put seat.old.me.0.got) }
-    ensures { IsSeat table.now.shared.table_id seat.new.table_id seat.new.me (both_ends (let_go pass.now.table_id pass.now.me.0.client.put)
-        (let_go pass.now.table_id pass.now.me.0.client.put)) }
+    ensures { IsSeat table.now.shared.table_id seat.new.table_id seat.new.me (both_ends (let_go pass.now.table_id pass.now.me.0.client.put.items)
+        (let_go pass.now.table_id pass.now.me.0.client.put.items)) }
 {
     store::<T, Brand>(table, seat, pass);
 }

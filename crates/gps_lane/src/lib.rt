@@ -4,11 +4,14 @@
 
 mod bell;
 mod bond;
+mod due;
 mod ends;
 mod order;
 mod outlet;
 mod table_name;
 
 pub use bell::Bell;
-pub use ends::{Pushed, Rx, Tx, lane, settle, settle_or_close};
+pub use due::Due;
+pub use ends::{Pushed, Rx, Tx, lane, lane_about, settle, settle_or_close};
+pub use order::About;
 pub use table_name::TableName;

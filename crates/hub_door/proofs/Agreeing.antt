@@ -1,4 +1,4 @@
--- A beginning of a list that is as long as the list is the list.
+-- A prefix of a list that is as long as the list is the list.
 use Rattle.std.proofs.Common.{◌≡◌, ℕ, List, [], ◌∷◌, ◌++◌, length, refl, sym, ap, ◌∙◌, append-nil, arith, length-append}
 use Rattle.hub_door.specs.declared.view.Entry.{Entry}
 use Rattle.hub_door.specs.Views.{BeginsWith}

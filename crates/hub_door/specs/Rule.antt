@@ -1,4 +1,4 @@
--- The rule of the door's table: each note is a beginning of the list that the hub's one seat keeps. The fixed view that a joined seat leaves
+-- The rule of the door's table: each note is a prefix of the list that the hub's one seat keeps. The fixed view that a joined seat leaves
 -- is that of an empty note.
 use Rattle.std.specs.Prelude.{◌≡◌, ℕ, true, List}
 use mathlib.Core.Option.{some}

@@ -13,7 +13,7 @@ keeper list = record { keeps = true; list = list; told = [] }
 abbrev pub noted : List Entry → DoorView
 noted list = record { keeps = false; list = list; told = [] }
 
--- a seat that takes a note in
+-- a seat to which a note is being joined
 abbrev pub meeting : DoorView → List Entry → DoorView
 meeting v told = record { keeps = v.keeps; list = v.list; told = told }
 

@@ -1,12 +1,12 @@
 ghost use Rattle.std.specs.Prelude.{◌≡◌};
-ghost use Rattle.hub_door.specs.Admissions.{admitting, entered, entry_of, finished, link_of};
+ghost use Rattle.hub_door.specs.Admissions.{admitting, drop_entry, dropping, entered, entry_of, finished, link_of};
 
 use crate::naming::{Cut, DoorNaming};
 use crate::plays::{Entering, Finishes};
 use crate::seat::DoorSeat;
 use crate::steps::{add, compare, renew};
 use crate::table::{DoorWord, TableSeat};
-use gps_lane::{Rx, Tx};
+use gps_lane::{Due, Rx, Tx};
 use std::marker::{Brand, Model};
 use std::snapshot::Snapshot;
 use std::sync::ledger::Book;
@@ -34,7 +34,7 @@ impl<J: DoorNaming> Model for Keeper<J> {
 }
 
 impl<J: DoorNaming> Keeper<J> {
-    /// Both sides know the same.
+    /// The hub and the door worker know the same.
     pub fn agree(&mut self, door: &mut DoorSeat<J>)
         ensures same { self.old ≡ door.old }
         ensures keeper { self.new ≡ self.old }
@@ -70,7 +70,7 @@ impl<J: DoorNaming> Keeper<J> {
         ledger.add(&mut door.share, 1);
     }
 
-    fn enter_link<E: Entering, A, B, R>(
+    fn enter_link<E: Entering, A: Due, B: Due, R>(
         &mut self,
         door: &mut DoorSeat<J>,
         outlet: Snapshot<Tx<A, R>>,
@@ -85,8 +85,8 @@ impl<J: DoorNaming> Keeper<J> {
         let _lanes = (outlet, input);
     }
 
-    /// A session was admitted with these lanes.
-    pub fn admit<A, B, R>(
+    /// Notes that a session was admitted with these lanes.
+    pub fn admit<A: Due, B: Due, R>(
         &mut self,
         door: &mut DoorSeat<J>,
         outlet: Snapshot<Tx<A, R>>,
@@ -99,7 +99,32 @@ impl<J: DoorNaming> Keeper<J> {
         self.enter_link::<Brand, A, B, R>(door, outlet, input);
     }
 
-    /// The door has closed or failed.
+    fn enter_drop<N: Entering>(
+        &mut self,
+        door: &mut DoorSeat<J>,
+        live: u32,
+        opened: u32,
+        held: usize,
+    )
+        requires picked { N.entry ≡ drop_entry (record { live = live; opened = opened; held = held }) }
+        ensures same { self.old ≡ door.old }
+        ensures keeper { self.new ≡ dropping (record { live = live; opened = opened; held = held }) self.old }
+        ensures door { door.new ≡ dropping (record { live = live; opened = opened; held = held }) door.old }
+    {
+        self.enter::<N>(door);
+        let _numbers = (live, opened, held);
+    }
+
+    /// Notes that a link was dropped, when this many sessions were live, had been opened, and were not yet released.
+    pub fn drop_link(&mut self, door: &mut DoorSeat<J>, live: u32, opened: u32, held: usize)
+        ensures same { self.old ≡ door.old }
+        ensures keeper { self.new ≡ dropping (record { live = live; opened = opened; held = held }) self.old }
+        ensures door { door.new ≡ dropping (record { live = live; opened = opened; held = held }) door.old }
+    {
+        self.enter_drop::<Brand>(door, live, opened, held);
+    }
+
+    /// Notes that the door has closed or failed.
     pub fn finish(&mut self, door: &mut DoorSeat<J>)
         ensures same { self.old ≡ door.old }
         ensures keeper { self.new ≡ finished self.old }

@@ -1,5 +1,5 @@
-//! What the door worker of the running daemon holds beside the hub: a list of the sessions that were admitted. Each side knows the
-//! same of it. The hub stands behind a lock, which forgets; the seat that the door worker holds does not. This project's own.
+//! The list of admitted sessions and dropped links, on which the hub of the running daemon and its door worker agree. The hub is behind a
+//! lock, so what was known of it is forgotten at each call; what the door worker's seat knows is not. This project's own.
 #![tactic(auto)]
 
 mod keeper;

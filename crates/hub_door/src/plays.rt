@@ -15,7 +15,7 @@ impl Entering for Brand {
     ghost entry = { Done };
 }
 
-/// The entry by which the door has closed or failed.
+/// The entry that says that the door has closed or failed.
 pub struct Finishes;
 
 impl Entering for Finishes {

@@ -6,7 +6,7 @@ use crate::plays::{AddsEntry, ChecksNote, Entering, JoinsNote, Notes};
 use crate::table::{DoorWord, TableSeat};
 use std::mem;
 
-/// A note begins the hub's list; it is renewed.
+/// Shows that a note is a prefix of the hub's list, and renews it.
 pub(crate) fn compare(word: &DoorWord, hub: &mut TableSeat, seat: &mut TableSeat)
     requires one { word.now.shared.table_id.words ≡ 1 }
     requires hub { IsKeeperOf word.now.shared.table_id hub.old.table_id hub.old.me }

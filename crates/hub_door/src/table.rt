@@ -1,5 +1,5 @@
-ghost use Rattle.std.specs.Prelude.{◌≡◌, IfOk, [], false};
-ghost use Rattle.hub_door.specs.Admissions.{Admissions};
+ghost use Rattle.std.specs.Prelude.{◌≡◌, IfOk};
+ghost use Rattle.hub_door.specs.Admissions.{Admissions, none_yet};
 
 use crate::keeper::Keeper;
 use crate::naming::{Cut, DoorNaming};
@@ -41,6 +41,7 @@ impl Model for DoorTable {
 }
 
 impl DoorTable {
+    /// A new table and ledger.
     pub fn new(alloc: Global) -> Result<DoorTable, NoMemory> {
         let (word, seat) = DoorWord::of_words(alloc, &[0], &())?;
         let blank = Blank::new(1);
@@ -53,8 +54,8 @@ impl DoorTable {
         requires ledger { self.ledger ≡ J.name }
         requires parts { self.parts ≡ J.parts }
         requires whole { self.parts ≡ J.whole }
-        ensures keeper { result.0 ≡ record { links = []; done = false } }
-        ensures seat { result.1 ≡ record { links = []; done = false } }
+        ensures keeper { result.0 ≡ none_yet }
+        ensures seat { result.1 ≡ none_yet }
     {
         let DoorTable {
             word,

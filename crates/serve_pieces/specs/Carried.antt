@@ -1,4 +1,4 @@
--- What the pieces of a lane carry, each kind for itself.
+-- What the pieces of a lane carry, by their kinds.
 use Rattle.std.specs.Prelude.{ℕ, List, [], ◌∷◌}
 use Rattle.std.specs.List.{flat_map}
 use Rattle.gps_fixed.specs.Moment.{Moment}

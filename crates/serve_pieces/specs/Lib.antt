@@ -1,2 +1,4 @@
 pub mod Sizes
 pub mod Carried
+pub mod EdgeLines
+pub mod Held

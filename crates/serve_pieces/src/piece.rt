@@ -4,6 +4,7 @@ ghost use Rattle.serve_pieces.specs.Sizes.{IsChunk, IsShort};
 
 use crate::{Chunk, ShortLine};
 use gps_fixed::{NoMemory, Stamp};
+use gps_lane::Due;
 use std::alloc::Global;
 
 /// How a source ended.
@@ -28,6 +29,13 @@ pub enum Piece {
     Input(Chunk),
     /// The last piece: how the source ended.
     Last(Ending),
+}
+
+/// What a reader puts into its lane is a prefix of what its source holds.
+impl Due for Piece {
+    ghost use Rattle.serve_pieces.specs.Held.{AreDue};
+
+    ghost due = { AreDue };
 }
 
 impl Piece {

@@ -10,7 +10,7 @@ pub next-item-requires-clause-rx : goal.next-item-requires-clause-rx
 next-item-requires-clause-rx g c =
     let tx = c.tx.inside in
     let rx = c.rx.inside in
-    let same : bond_by tx.queue tx.pass.table_id tx.pass.me.0.client.put ≡ bond_by rx.queue rx.pass.table_id rx.pass.me.0.client.got =
+    let same : bond_by tx.queue tx.pass.table_id tx.pass.me.0.client.put.items ≡ bond_by rx.queue rx.pass.table_id rx.pass.me.0.client.got.items =
     sym (ap (λ m. m.0.put) c.tx.invariant.4.1) ∙ (c.meet.ensures.same ∙ ap (λ m. m.0.got) c.rx.invariant.2.1) in
     let mine = subst (λ o. IfSome o (λ q. IsPassOf (arc_value q) tx.pass × (ruled_capacity (arc_value q) ≡ tx.cap))) c.in-Some.is c.tx.invariant.3 in
     let theirs = still_there (λ q. IsPassOf (arc_value q) rx.pass) tx.queue rx.queue c.in-Some.queue _ _ _ _ c.in-Some.is same c.rx.invariant.1 in (

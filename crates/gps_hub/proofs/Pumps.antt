@@ -1,7 +1,8 @@
 -- What a look at a device or a session answers, from what it did to the lanes.
-use Rattle.std.proofs.Common.{◌≡◌, ◌<◌, ◌≤◌, ℕ, zero, suc, Bool, true, false, List, [], ◌∷◌, ◌++◌, length, get_or, set, Option, Some, None, refl, sym, ap, ◌∙◌, subst, inl, inr, ◌⊎◌, ⊎_elim, arith, get_or-set_same, get_or-set_other}
-use Rattle.std.specs.Prelude.{is_some, option_map, IfNone, MatchOption}
+use Rattle.std.proofs.Common.{length-set, ◌≡◌, ◌<◌, ◌≤◌, ℕ, zero, suc, Bool, true, false, List, [], ◌∷◌, ◌++◌, length, get_or, set, Option, Some, None, refl, sym, ap, ◌∙◌, subst, inl, inr, ◌⊎◌, ⊎_elim, arith, get_or-set_same, get_or-set_other}
+use Rattle.std.specs.Prelude.{is_some, option_and_then, slice_get, slice_set, option_map, IfNone, MatchOption}
 use Rattle.std.proofs.lemmas.List.{get_or_default, set-get_or}
+use Rattle.std.proofs.lemmas.Option.{slice_get-get_or}
 use Rattle.book_log.specs.Entries.{Entry}
 use Rattle.book_sessions.specs.MemberView.{MemberView}
 use Rattle.book_sessions.specs.Roster.{IsOpenAt}
@@ -12,13 +13,15 @@ use Rattle.session_core.specs.declared.mark.Close.{Close}
 use Rattle.session_core.specs.declared.mark.Close.TheVariants.{NoMemory as CloseNoMemory}
 use Rattle.serve_pieces.specs.declared.piece.Piece.{Piece}
 use Rattle.hub_promise.specs.declared.ends.DeviceEnd.{DeviceEnd}
-use Rattle.hub_promise.specs.DaemonHub.{MayGoOn}
-use Rattle.hub_promise.specs.Keeping.{DeviceKeeps, Lasts}
-use Rattle.hub_promise.specs.Parts.{HubView, InletsView, names_of, parts_of}
+use Rattle.hub_promise.specs.DaemonHub.{DeviceFits, MayGoOn}
+use Rattle.hub_promise.specs.Keeping.{IsClosed, Lasts, end_told, told_of}
+use Rattle.hub_promise.specs.Parts.{HubView, InletsView, device_of, names_of, parts_of}
 use Rattle.hub_promise.specs.Steps.{with_bytes, with_edge, with_got}
+use Rattle.hub_promise.proofs.Going.{no_lanes}
+use Rattle.hub_promise.proofs.Lists.{device_there}
 use Rattle.gps_hub.specs.declared.pumped.Pumped.{Pumped}
 use Rattle.gps_hub.specs.declared.pumped.Pumped.TheVariants.{Fed, Empty, Waiting, Done, Refused}
-use Rattle.gps_hub.specs.Pumping.{ClosedBy, DevicePumped, GetsInput, DeviceGoesOn, GotOne, KeepsOtherInputs, KeepsOthers, Looked, LookedAt, SessionPumped, TakesOne, TookInput, end_told}
+use Rattle.gps_hub.specs.Pumping.{ClosedBy, DeviceHasStopped, DevicePumped, GetsInput, GotOne, HasDevice, KeepsOtherInputs, KeepsOthers, Looked, LookedAt, SessionPumped, TakesOne, TookInput}
 use Rattle.gps_hub.proofs.Told.{told_by_bytes, told_by_line}
 
 pub none_of : {X : Type 0} (o : Option X) → false ≡ is_some o → o ≡ None
@@ -40,10 +43,14 @@ edge_names : (piece : Piece) (o : Option (Taking Piece)) → option_map (λ (y :
 edge_names piece None = refl
 edge_names piece (Some x) = refl
 
+edges_held : (piece : Piece) (o : Option (Taking Piece)) → option_map (λ (y : Taking Piece). y.about.source) (option_map (with_got piece) o) ≡ option_map (λ (y : Taking Piece). y.about.source) o
+edges_held piece None = refl
+edges_held piece (Some x) = refl
+
 one_names : (x y : InletsView) → GotOne x y → names_of y ≡ names_of x
 one_names x y one =
     ⊎_elim (λ (e : y ≡ with_bytes one.0 x). ap names_of e)
-    (λ (e : y ≡ with_edge one.0 x). ap names_of e ∙ (λ i. record { bytes = x.bytes.lane; edges = edge_names one.0 x.edges i })) one.1
+    (λ (e : y ≡ with_edge one.0 x). ap names_of e ∙ (λ i. record { bytes = x.bytes.lane; held = x.bytes.about.source; edges = edge_names one.0 x.edges i; held_edges = edges_held one.0 x.edges i })) one.1
 
 got_one : (d : ℕ) (x y : InletsView) (lasts : Lasts) (end : Option DeviceEnd) (old new : BookView) → Looked Fed d x y lasts end old new → GotOne x y
 got_one d x y lasts end old new (piece, inl (is, took)) = (piece, inl is)
@@ -59,37 +66,40 @@ looked_names (Refused fault) d x y lasts end old new looked = one_names x y look
 set_at : {A : Type 0} (xs : List A) (d : ℕ) (x y : A) → get_or xs d x ≡ x → y ≡ x → set xs d y ≡ xs
 set_at xs d x y here same = ap (set xs d) (same ∙ sym here) ∙ set-get_or xs d x
 
-module _ (h : HubView) (d : ℕ) (book : BookView) (x y : InletsView) (was end : Option DeviceEnd) (lt : d < length h.inlets) (ends_lt : d < length h.ends) (here : get_or h.inlets d x ≡ x) (there : get_or h.ends d was ≡ was) where
+module _ (h : HubView) (d : ℕ) (book : BookView) (x y : InletsView) (was end : Option DeviceEnd) (lt : d < length h.inlets) (both : length h.ends ≡ length h.inlets) (here : get_or h.inlets d x ≡ x) (there : get_or h.ends d was ≡ was) where
   abbrev after : HubView
   after = record h { book = book; inlets = set h.inlets d y; ends = set h.ends d end }
 
-  got_there : GotOne x y → (free : InletsView) → GotOne (get_or h.inlets d free) (get_or (set h.inlets d y) d free)
-  got_there one free =
-      subst (λ (t : InletsView × InletsView). GotOne t.0 t.1) (λ i. ((sym here ∙ get_or_default h.inlets d x free lt) i, sym (get_or-set_same h.inlets d y free lt) i)) one
+  before_is : HasDevice h d (device_of x was)
+  before_is = device_there h.inlets h.ends d x was both lt ∙ (λ i. Some (device_of (here i) (there i)))
 
-  took_one : (log : List Entry) (lasts : Lasts) → DeviceKeeps log d x None lasts → Looked Fed d x y lasts end h.book book → TakesOne d x y end h.book book
-  took_one log lasts k (piece, inl (is, (moves, stop))) = record {
+  after_is : HasDevice after d (device_of y end)
+  after_is =
+      let n = length-set h.inlets d y in
+      let m = length-set h.ends d end in
+      let ends_lt : d < length h.ends = omega arith in
+      device_there (set h.inlets d y) (set h.ends d end) d y end (omega arith) (omega arith)
+      ∙ (λ i. Some (device_of (get_or-set_same h.inlets d y y lt i) (get_or-set_same h.ends d end end ends_lt i)))
+
+  took_one : (log : List Entry) (lasts : Lasts) → lasts ≡ told_of x → DeviceFits log d (device_of x None) → Looked Fed d x y lasts end h.book book → TakesOne d x y end h.book book
+  took_one log lasts told f (piece, inl (is, (moves, stop))) = record {
     piece = piece;
     gets = inl (is, moves);
-    ends = told_by_bytes log d x lasts k piece end stop ∙ ap end_told (sym is);
+    ends = told_by_bytes log d x lasts told f piece end stop ∙ ap end_told (sym is);
   }
-  took_one log lasts k (piece, inr ((is, (lane, has)), (moves, stop))) = record {
+  took_one log lasts told f (piece, inr ((is, (lane, has)), (moves, stop))) = record {
     piece = piece;
     gets = inr ((is, (lane, has)), moves);
-    ends = told_by_line log d x lasts k piece lane end has stop ∙ ap end_told (sym is);
+    ends = told_by_line log d x lasts told f piece lane end has stop ∙ ap end_told (sym is);
   }
 
-  took_there : TakesOne d x y end h.book book → (free : InletsView) → TakesOne d (get_or h.inlets d free) (get_or (set h.inlets d y) d free) (get_or (set h.ends d end) d None) h.book book
-  took_there one free =
-      subst (λ (t : InletsView × InletsView × Option DeviceEnd). TakesOne d t.0 t.1 t.2 h.book book)
-      (λ i. ((sym here ∙ get_or_default h.inlets d x free lt) i, sym (get_or-set_same h.inlets d y free lt) i, sym (get_or-set_same h.ends d end None ends_lt) i)) one
-
-  pub device_pumped : (r : Pumped) (log : List Entry) (lasts : Lasts) → DeviceKeeps log d x None lasts → DeviceGoesOn h d → Looked r d x y lasts end h.book book
-      → (r ≡ Empty → (book ≡ h.book) × (end ≡ was)) → DevicePumped r d h after
-  device_pumped Fed log lasts k goes looked empty = (goes, took_there (took_one log lasts k looked))
-  device_pumped Empty log lasts k goes looked empty =
+  pub device_pumped : (r : Pumped) (log : List Entry) (lasts : Lasts) → lasts ≡ told_of x → DeviceFits log d (device_of x None) → MayGoOn (parts_of h) → was ≡ None
+      → Looked r d x y lasts end h.book book → (r ≡ Empty → (book ≡ h.book) × (end ≡ was)) → DevicePumped r d h after
+  device_pumped Fed log lasts told f may runs looked empty =
+      ((may, (device_of x was, before_is, runs)), (device_of x was, device_of y end, before_is, after_is, took_one log lasts told f looked))
+  device_pumped Empty log lasts told f may runs looked empty =
       let still = empty refl in (
-        goes,
+        (may, (device_of x was, before_is, runs)),
         (λ i. record {
           book = still.0 i;
           inlets = set_at h.inlets d x y here looked i;
@@ -100,32 +110,45 @@ module _ (h : HubView) (d : ℕ) (book : BookView) (x y : InletsView) (was end :
           is_shut = h.is_shut;
         }),
       )
-  device_pumped (Waiting watched) log lasts k goes looked empty = absurd looked
-  device_pumped Done log lasts k goes looked empty = absurd looked
-  device_pumped (Refused fault) log lasts k goes looked empty =
-      (goes, got_there looked.0, looked.1, get_or-set_same h.ends d end None ends_lt ∙ looked.2)
+  device_pumped (Waiting watched) log lasts told f may runs looked empty = absurd looked
+  device_pumped Done log lasts told f may runs looked empty = absurd looked
+  device_pumped (Refused fault) log lasts told f may runs looked empty =
+      ((may, (device_of x was, before_is, runs)), (device_of x was, device_of y end, before_is, after_is, looked.0, looked.2), looked.1)
 
   pub other_devices : KeepsOthers d h after
-  other_devices = record {
-    inlets = λ e free other. get_or-set_other h.inlets d e y free other;
-    ends = λ e free other. get_or-set_other h.ends d e end free other;
-    same = refl;
-  }
+  other_devices = record { lanes = y; end = end; same = refl }
 
 -- a session that was hung up is closed for that reason
-pub hung_closed : (s : ℕ) (why : Close) (old new : BookView) → s < length old.sessions → HangsUp s why old new → (free : MemberView) → ClosedBy why (get_or new.sessions s free)
-hung_closed s why old new lt hangs free = (
-  old.log.length,
-  ap (λ (l : List MemberView). (get_or l s free).session.closing) hangs.session.1
-      ∙ ap (λ (a : MemberView). a.session.closing) (get_or-set_same old.sessions s hangs.session.0 free lt ∙ (hangs.session.2 free).becomes),
-)
+pub hung_closed : (s : ℕ) (why : Close) (old new : BookView) → s < length old.sessions → HangsUp s why old new → (a : MemberView) × (slice_get new.sessions s ≡ Some a) × ClosedBy why a
+hung_closed s why old new lt hangs =
+    let next = hangs.session.0 in
+    let there : s < length (slice_set old.sessions s next) = let n = length-set old.sessions s next in omega arith in (
+      next,
+      ap (λ (l : List MemberView). slice_get l s) hangs.session.1 ∙ slice_get-get_or (slice_set old.sessions s next) s next there
+          ∙ ap Some (get_or-set_same old.sessions s next next lt),
+      (old.log.length, ap (λ (a : MemberView). a.session.closing) (hangs.session.2 next).becomes),
+    )
+
+-- a session whose closing was found
+pub closed_there : (sessions : List MemberView) (s : ℕ) (found : Option (ℕ × Close)) → found ≡ option_and_then (λ (a : MemberView). a.session.closing) (slice_get sessions s)
+    → is_some found ≡ true → (a : MemberView) × (slice_get sessions s ≡ Some a) × IsClosed a
+closed_there sessions s found is some = by_one (slice_get sessions s) refl is
+  where
+    not_some : (o : Option (ℕ × Close)) → o ≡ None → is_some o ≡ true → ⊥
+    not_some None none is_there = absurd (cc)
+    not_some (Some closing) none is_there = absurd (cc)
+
+    by_one : (o : Option MemberView) → slice_get sessions s ≡ o → found ≡ option_and_then (λ (a : MemberView). a.session.closing) o
+        → (a : MemberView) × (slice_get sessions s ≡ Some a) × IsClosed a
+    by_one None there none = absurd (not_some found none some)
+    by_one (Some a) there same = (a, there, ap is_some (sym same) ∙ some)
 
 module _ (h : HubView) (s : ℕ) (book : BookView) (x y : Taking Piece) (lt : s < length h.inputs) (there : s < length h.book.sessions) (here : get_or h.inputs s x ≡ x) where
   abbrev heard : HubView
   heard = record h { book = book; inputs = set h.inputs s y }
 
   gets_there : (piece : Piece) → y ≡ with_got piece x → GetsInput piece s h heard
-  gets_there piece one free = get_or-set_same h.inputs s y free lt ∙ one ∙ ap (with_got piece) (sym here ∙ get_or_default h.inputs s x free lt)
+  gets_there piece one = (x, slice_get-get_or h.inputs s x lt ∙ ap Some here, ap (set h.inputs s) one)
 
   pub session_pumped : (r : Pumped) → IsOpenAt s h.book.sessions → LookedAt r x y s h.book book → (r ≡ Empty → book ≡ h.book) → SessionPumped r s h heard
   session_pumped Fed goes looked empty = (goes, (looked.0, gets_there looked.0 looked.1, looked.2))
@@ -147,14 +170,35 @@ module _ (h : HubView) (s : ℕ) (book : BookView) (x y : Taking Piece) (lt : s 
       (goes, (looked.0.0, gets_there looked.0.0 looked.0.1), looked.1, looked.2, hung_closed s CloseNoMemory h.book book there looked.2)
 
   pub other_inputs : KeepsOtherInputs s h heard
-  other_inputs = record { inputs = λ e free other. get_or-set_other h.inputs s e y free other; same = refl }
+  other_inputs = record { lane = y; same = refl }
 
 -- nothing changed
+same_set : {A : Type 0} (xs : List A) (k : ℕ) (x : A) → xs ≡ slice_set xs k (get_or xs k x)
+same_set [] k x = refl
+same_set (y ∷ xs) zero x = refl
+same_set (y ∷ xs) (suc k) x = ap (λ l. y ∷ l) (same_set xs k x)
+
 pub inputs_stay : (s : ℕ) (old new : HubView) → new ≡ old → KeepsOtherInputs s old new
-inputs_stay s old new same = subst (KeepsOtherInputs s old) (sym same) (record { inputs = λ e free other. refl; same = refl })
+inputs_stay s old new same =
+    let free : Taking Piece = no_lanes.bytes in
+    subst (KeepsOtherInputs s old) (sym same) (record { lane = get_or old.inputs s free; same = λ i. record old { inputs = same_set old.inputs s free i } })
 
 pub others_stay : (d : ℕ) (old new : HubView) → new ≡ old → KeepsOthers d old new
-others_stay d old new same = subst (KeepsOthers d old) (sym same) (record { inlets = λ e free other. refl; ends = λ e free other. refl; same = refl })
+others_stay d old new same =
+    subst (KeepsOthers d old) (sym same) (record {
+      lanes = get_or old.inlets d no_lanes;
+      end = get_or old.ends d None;
+      same = λ i. record old { inlets = same_set old.inlets d no_lanes i; ends = same_set old.ends d None i };
+    })
+
+-- a device that was seen to have stopped
+pub stopped_there : (h : HubView) (d at : ℕ) (seen : Option DeviceEnd) → d < length h.inlets → length h.ends ≡ length h.inlets → at ≡ d → seen ≡ get_or h.ends at seen
+    → true ≡ is_some seen → DeviceHasStopped h d
+stopped_there h d at seen lt both same is stopped = (
+  device_of (get_or h.inlets d no_lanes) (get_or h.ends d seen),
+  device_there h.inlets h.ends d no_lanes seen both lt,
+  ap is_some (sym (is ∙ ap (λ k. get_or h.ends k seen) same)) ∙ sym stopped,
+)
 
 -- a piece that was got was taken
 pub looked_at : (r : Pumped) (piece : Piece) (x y : Taking Piece) (s : ℕ) (old new : BookView) → y ≡ with_got piece x → TookInput r piece s old new → LookedAt r x y s old new

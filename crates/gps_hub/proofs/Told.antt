@@ -2,7 +2,6 @@
 use Rattle.std.proofs.Common.{◌≡◌, ℕ, List, [], ◌∷◌, ◌++◌, Option, Some, None, refl, sym, ap, ◌∙◌, subst, inl, inr, append-nil}
 use Rattle.std.specs.Option.{option_or}
 use Rattle.book_log.specs.Entries.{Entry}
-use Rattle.book_log.proofs.ReadingLaws.{last_of-append}
 use Rattle.gps_lane.specs.Ends.{Taking}
 use Rattle.report_book.specs.BookView.{BookView}
 use Rattle.report_book.specs.declared.fault.BookFault.{BookFault}
@@ -12,47 +11,22 @@ use Rattle.serve_pieces.specs.declared.piece.Piece.{Piece}
 use Rattle.serve_pieces.specs.declared.piece.Piece.TheVariants.{Bytes, Line, Input, Last}
 use Rattle.hub_promise.specs.declared.ends.DeviceEnd.{DeviceEnd}
 use Rattle.hub_promise.specs.declared.ends.DeviceEnd.TheVariants.{NoMemory as LostNoMemory}
-use Rattle.hub_promise.specs.Given.{edge_ending, end_by, ending_in, ending_of, got_of}
-use Rattle.hub_promise.specs.Keeping.{DeviceKeeps, Lasts}
-use Rattle.hub_promise.specs.Parts.{InletsView}
+use Rattle.hub_promise.specs.DaemonHub.{DeviceFits}
+use Rattle.hub_promise.specs.Given.{end_by, ending_in}
+use Rattle.hub_promise.specs.Keeping.{Lasts, end_told, told_of}
+use Rattle.hub_promise.specs.Parts.{InletsView, device_of}
 use Rattle.hub_promise.specs.Steps.{with_bytes, with_edge}
+use Rattle.hub_promise.proofs.Devices.{running, told_bytes, told_edge}
 use Rattle.gps_hub.specs.declared.pumped.Pumped.{Pumped}
 use Rattle.gps_hub.specs.declared.pumped.Pumped.TheVariants.{Fed, Empty, Waiting, Done, Refused}
-use Rattle.gps_hub.specs.Pumping.{Looked, TookBytes, TookLine, bytes_stop, end_told, line_stop}
+use Rattle.gps_hub.specs.Pumping.{Looked, TookBytes, TookLine, bytes_stop, line_stop}
 
 -- ---- what was told of how the sources of its lanes ended
 
-none_refused : (refused : List Piece) (a b : Option Ending) → None ≡ end_by refused a b → refused ≡ []
-none_refused [] a b e = refl
-none_refused (piece ∷ refused) a b e = absurd (cc)
-
-first_none : (xs ys : List Piece) → xs ++ ys ≡ [] → xs ≡ []
-first_none [] ys e = refl
-first_none (x ∷ xs) ys e = absurd (cc)
-
-last_none : (xs ys : List Piece) → xs ++ ys ≡ [] → ys ≡ []
-last_none [] ys e = e
-last_none (x ∷ xs) ys e = absurd (cc)
-
-module _ (log : List Entry) (d : ℕ) (x : InletsView) (lasts : Lasts) (k : DeviceKeeps log d x None lasts) where
-  none_here : k.fits.refused ++ k.fits.refused_lines ≡ []
-  none_here = none_refused (k.fits.refused ++ k.fits.refused_lines) _ _ k.fits.ends
-
-  bytes_told : lasts.bytes ≡ ending_of x.bytes.got
-  bytes_told =
-      let none = first_none k.fits.refused k.fits.refused_lines none_here in
-      k.bytes_last ∙ ap ending_of (sym (k.fits.lane ∙ ap (λ l. k.fits.taken ++ l) none ∙ append-nil k.fits.taken))
-
-  lines_told : lasts.edges ≡ edge_ending x.edges (got_of x.edges)
-  lines_told =
-      let none = last_none k.fits.refused k.fits.refused_lines none_here in
-      k.edges_last ∙ ap (edge_ending x.edges) (sym (k.fits.edge_lane ∙ ap (λ l. k.fits.lines ++ l) none ∙ append-nil k.fits.lines))
-
+module _ (log : List Entry) (d : ℕ) (x : InletsView) (lasts : Lasts) (told : lasts ≡ told_of x) (f : DeviceFits log d (device_of x None)) where
   -- it runs, as its lanes have not both told
   runs : None ≡ end_by [] lasts.bytes lasts.edges
-  runs =
-      subst (λ (refused : List Piece). None ≡ end_by refused lasts.bytes lasts.edges) none_here
-      (k.fits.ends ∙ (λ i. end_by (k.fits.refused ++ k.fits.refused_lines) (sym k.bytes_last i) (sym k.edges_last i)))
+  runs = running log [] d x f ∙ (λ i. end_by [] (sym told i).bytes (sym told i).edges)
 
   stop_bytes : (piece : Piece) → bytes_stop piece lasts ≡ end_by [] (option_or (ending_in piece) lasts.bytes) lasts.edges
   stop_bytes (Bytes at bytes) = runs
@@ -68,17 +42,15 @@ module _ (log : List Entry) (d : ℕ) (x : InletsView) (lasts : Lasts) (k : Devi
 
   pub told_by_bytes : (piece : Piece) (end : Option DeviceEnd) → end ≡ bytes_stop piece lasts → end ≡ end_told (with_bytes piece x)
   told_by_bytes piece end is =
-      let one : ending_of (x.bytes.got ++ piece ∷ []) ≡ option_or (ending_in piece) lasts.bytes =
-      last_of-append ending_in x.bytes.got (piece ∷ []) ∙ ap (option_or (ending_in piece)) (sym bytes_told) in
-      is ∙ stop_bytes piece ∙ (λ i. end_by [] (sym one i) (lines_told i))
+      let next : Lasts = record { bytes = option_or (ending_in piece) lasts.bytes; edges = lasts.edges } in
+      let now = told_bytes piece x lasts next refl refl told in
+      is ∙ stop_bytes piece ∙ (λ i. end_by [] (now i).bytes (now i).edges)
 
   pub told_by_line : (piece : Piece) (lane : Taking Piece) (end : Option DeviceEnd) → x.edges ≡ Some lane → end ≡ line_stop piece lasts → end ≡ end_told (with_edge piece x)
   told_by_line piece lane end there is =
-      let was : lasts.edges ≡ ending_of lane.got = lines_told ∙ ap (λ (o : Option (Taking Piece)). edge_ending o (got_of o)) there in
-      let one : ending_of (lane.got ++ piece ∷ []) ≡ option_or (ending_in piece) lasts.edges =
-      last_of-append ending_in lane.got (piece ∷ []) ∙ ap (option_or (ending_in piece)) (sym was) in
-      let P : Option (Taking Piece) → Type 0 = λ o. end ≡ end_told (with_edge piece (record x { edges = o })) in
-      subst P (sym there) (is ∙ stop_line piece ∙ (λ i. end_by [] (bytes_told i) (sym one i)))
+      let next : Lasts = record { bytes = lasts.bytes; edges = option_or (ending_in piece) lasts.edges } in
+      let now = told_edge piece x lane lasts next there refl refl told in
+      is ∙ stop_line piece ∙ (λ i. end_by [] (now i).bytes (now i).edges)
 
 -- ---- what became of a piece
 

@@ -6,7 +6,7 @@ use Rattle.report_book.specs.BookView.{BookView}
 use Rattle.hub_promise.specs.Parts.{HubView}
 use Rattle.gps_hub.specs.Pumping.{IsOpenIn}
 
--- all that a session's outlet was given was got
+-- all that a session's outlet was given was received
 abbrev pub GotAll : ℕ → BookView → Taking (List ℕ) → Type 0
 GotAll s book items = (free : MemberView) → items.got ≡ (slice_index_or book.sessions s free).session.kept
 

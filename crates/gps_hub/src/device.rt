@@ -1,14 +1,17 @@
 // What each piece of a device's lanes does to the book.
 ghost use Rattle.std.specs.Prelude.{◌≡◌, ℕ, List, [], Some, None, IfOk, OnErr, IfErr};
-ghost use Rattle.book_log.specs.Entries.{lost};
+ghost use Rattle.book_log.specs.Entries.{edged, ended, fed, lost};
 ghost use Rattle.gps_lane.specs.Ends.{Taking};
+ghost use Rattle.gps_lane.specs.Lane.{MayKeep};
+ghost use Rattle.report_book.specs.Allowing.{MayAdd};
 ghost use Rattle.report_book.specs.Moves.{AddsQuietly, Earns};
 ghost use Rattle.report_book.specs.Refusals.{device_fault};
 ghost use Rattle.report_book.specs.Standing.{BookHolds};
 ghost use Rattle.report_book.specs.declared.fault.BookFault.TheVariants.{NoMemory as BookNoMemory};
 ghost use Rattle.serve_pieces.specs.declared.piece.Piece.TheVariants.{Bytes, Line, Last};
+ghost use Rattle.hub_promise.specs.Giving.{MayGiveBytes, MayGiveEdge, MayGiveNext};
 ghost use Rattle.hub_promise.specs.Given.{end_by, end_of as end_value};
-ghost use Rattle.hub_promise.specs.Keeping.{Lasts as LastsView};
+ghost use Rattle.hub_promise.specs.Keeping.{LaneIsRead, Lasts as LastsView};
 ghost use Rattle.hub_promise.specs.Parts.{InletsView};
 ghost use Rattle.hub_promise.specs.Steps.{DeviceStep, MovesOn, stop_entries, with_bytes, with_edge};
 ghost use Rattle.gps_hub.specs.Pumping.{Looked, TookBytes, TookLine};
@@ -26,7 +29,7 @@ use serve_pieces::{Chunk, Ending, Piece, ShortLine};
 use session_core::Item;
 use std::sync::Wait;
 
-/// How a device ends whose two sources ended so.
+/// How a device ends, if its two sources ended so.
 fn end_of(bytes: Ending, edges: Ending) -> DeviceEnd
     ensures { result ≡ end_value bytes edges }
 {
@@ -44,7 +47,7 @@ fn end_of(bytes: Ending, edges: Ending) -> DeviceEnd
     }
 }
 
-/// A device is lost.
+/// Loses a device.
 fn lose<R: Wait + Copy>(book: &mut Book<Tx<Item, R>>, d: u8)
     requires { device_fault book.old d ≡ None }
     ensures lost { AddsQuietly book.old book.new (lost d) }
@@ -56,18 +59,23 @@ fn lose<R: Wait + Copy>(book: &mut Book<Tx<Item, R>>, d: u8)
     }
 }
 
-/// A device is lost, as the book refused a piece of it.
+/// Loses a device, because the book refused a piece of it.
 fn refuse<R: Wait + Copy>(
     book: &mut Book<Tx<Item, R>>,
     end: &mut Option<DeviceEnd>,
     d: u8,
     fault: BookFault,
 ) -> Pumped
+    // The device runs, and the book was out of memory.
     requires runs { device_fault book.old d ≡ None }
     requires fault { fault ≡ BookNoMemory }
+
+    // The device is lost.
     ensures lost { AddsQuietly book.old book.new (lost d) }
     ensures earns { Earns book.old book.new (lost d) }
     ensures end { end.new ≡ Some DeviceEnd.NoMemory }
+
+    // The answer is the book's fault.
     ensures answer { result ≡ Pumped.Refused fault }
     ensures memory { fault ≡ BookNoMemory }
 {
@@ -76,13 +84,14 @@ fn refuse<R: Wait + Copy>(
     Pumped::Refused(fault)
 }
 
-/// Stops a device in the book that ends so.
+/// Stops a device in the book, given how it ended.
 fn stop_as<R: Wait + Copy>(
     book: &mut Book<Tx<Item, R>>,
     d: u8,
     end: DeviceEnd,
 ) -> Result<(), BookFault>
-    requires { device_fault book.old d ≡ None }
+    requires runs { device_fault book.old d ≡ None }
+    requires may { MayAdd MayKeep d (ended d) book.old }
     ensures stops { IfOk result (λ _. MovesOn book.old book.new (stop_entries d (Some end))) }
     ensures refusal { IfErr result (λ fault. fault ≡ BookNoMemory) }
     ensures unchanged { OnErr result (book.new ≡ book.old) }
@@ -107,7 +116,8 @@ fn stop<R: Wait + Copy>(
     bytes: Option<Ending>,
     edges: Option<Ending>,
 ) -> Result<Option<DeviceEnd>, BookFault>
-    requires { device_fault book.old d ≡ None }
+    requires runs { device_fault book.old d ≡ None }
+    requires may { MayAdd MayKeep d (ended d) book.old }
     ensures end { IfOk result (λ end. end ≡ end_by [] bytes edges) }
     ensures stops { IfOk result (λ end. MovesOn book.old book.new (stop_entries d end)) }
     ensures refusal { IfErr result (λ fault. fault ≡ BookNoMemory) }
@@ -135,6 +145,7 @@ fn feed<R: Wait + Copy>(
 ) -> Pumped
     requires runs { device_fault book.old d ≡ None }
     requires going { end.old ≡ None }
+    requires may { MayAdd MayKeep d (fed d at bytes.now) book.old }
     ensures step { (x : InletsView) (lasts : LastsView) → DeviceStep d book.old book.new x (with_bytes (Bytes at bytes.now) x) end.old end.new lasts lasts }
     ensures answer { (lasts : LastsView) → TookBytes result d (Bytes at bytes.now) lasts end.new book.old book.new }
 {
@@ -154,6 +165,7 @@ fn bytes_end<R: Wait + Copy>(
 ) -> Pumped
     requires runs { device_fault book.old d ≡ None }
     requires going { end.old ≡ None }
+    requires may { MayAdd MayKeep d (ended d) book.old }
     ensures step { (x : InletsView) → DeviceStep d book.old book.new x (with_bytes (Last ending) x) end.old end.new lasts.old lasts.new }
     ensures answer { TookBytes result d (Last ending) lasts.old end.new book.old book.new }
 {
@@ -163,11 +175,14 @@ fn bytes_end<R: Wait + Copy>(
             *end = stopped;
             Pumped::Fed
         }
-        Err(fault) => refuse(book, end, d, fault),
+        Err(fault) => {
+            lasts.bytes = Some(ending);
+            refuse(book, end, d, fault)
+        }
     }
 }
 
-/// A piece of a device's lane.
+/// Gives the book a piece of a device's lane.
 fn take_bytes<R: Wait + Copy>(
     book: &mut Book<Tx<Item, R>>,
     lasts: &mut Lasts,
@@ -177,6 +192,7 @@ fn take_bytes<R: Wait + Copy>(
 ) -> Pumped
     requires runs { device_fault book.old d ≡ None }
     requires going { end.old ≡ None }
+    requires may { MayGiveBytes d piece book.old }
     ensures step { (x : InletsView) → DeviceStep d book.old book.new x (with_bytes piece x) end.old end.new lasts.old lasts.new }
     ensures answer { TookBytes result d piece lasts.old end.new book.old book.new }
 {
@@ -196,6 +212,7 @@ fn edge<R: Wait + Copy>(
 ) -> Pumped
     requires runs { device_fault book.old d ≡ None }
     requires going { end.old ≡ None }
+    requires may { MayAdd MayKeep d (edged d edge) book.old }
     ensures step { (line : List ℕ) (x : InletsView) (lane : Taking Piece) (lasts : LastsView) → Some edge ≡ edge_in line → x.edges ≡ Some lane
         → DeviceStep d book.old book.new x (with_edge (Line line) x) end.old end.new lasts lasts }
     ensures answer { (line : List ℕ) (lasts : LastsView) → Some edge ≡ edge_in line → TookLine result d (Line line) lasts end.new book.old book.new }
@@ -207,7 +224,7 @@ fn edge<R: Wait + Copy>(
     }
 }
 
-/// The edge that a line says.
+/// The edge in a line, if it is readable.
 fn read_edge(line: &ShortLine) -> Option<Edge>
     ensures { result ≡ edge_in line.now }
 {
@@ -223,6 +240,7 @@ fn edges_end<R: Wait + Copy>(
 ) -> Pumped
     requires runs { device_fault book.old d ≡ None }
     requires going { end.old ≡ None }
+    requires may { MayAdd MayKeep d (ended d) book.old }
     ensures step { (x : InletsView) (lane : Taking Piece) → x.edges ≡ Some lane
         → DeviceStep d book.old book.new x (with_edge (Last ending) x) end.old end.new lasts.old lasts.new }
     ensures answer { TookLine result d (Last ending) lasts.old end.new book.old book.new }
@@ -233,7 +251,10 @@ fn edges_end<R: Wait + Copy>(
             *end = stopped;
             Pumped::Fed
         }
-        Err(fault) => refuse(book, end, d, fault),
+        Err(fault) => {
+            lasts.edges = Some(ending);
+            refuse(book, end, d, fault)
+        }
     }
 }
 
@@ -245,6 +266,7 @@ fn line<R: Wait + Copy>(
 ) -> Pumped
     requires runs { device_fault book.old d ≡ None }
     requires going { end.old ≡ None }
+    requires may { MayGiveEdge d (Line line.now) book.old }
     ensures step { (x : InletsView) (lane : Taking Piece) (lasts : LastsView) → x.edges ≡ Some lane
         → DeviceStep d book.old book.new x (with_edge (Line line.now) x) end.old end.new lasts lasts }
     ensures answer { (lasts : LastsView) → TookLine result d (Line line.now) lasts end.new book.old book.new }
@@ -255,7 +277,7 @@ fn line<R: Wait + Copy>(
     }
 }
 
-/// A piece of a device's edge lane.
+/// Gives the book a piece of a device's edge lane.
 fn take_edge<R: Wait + Copy>(
     book: &mut Book<Tx<Item, R>>,
     lasts: &mut Lasts,
@@ -265,6 +287,7 @@ fn take_edge<R: Wait + Copy>(
 ) -> Pumped
     requires runs { device_fault book.old d ≡ None }
     requires going { end.old ≡ None }
+    requires may { MayGiveEdge d piece book.old }
     ensures step { (x : InletsView) (lane : Taking Piece) → x.edges ≡ Some lane
         → DeviceStep d book.old book.new x (with_edge piece x) end.old end.new lasts.old lasts.new }
     ensures answer { TookLine result d piece lasts.old end.new book.old book.new }
@@ -278,6 +301,34 @@ fn take_edge<R: Wait + Copy>(
 }
 
 /// Gets a piece of a device's lanes, if there is one, and gives it to the book.
+fn pump_one<R: Wait + Copy>(
+    book: &mut Book<Tx<Item, R>>,
+    inlets: &mut Inlets<R>,
+    lasts: &mut Lasts,
+    end: &mut Option<DeviceEnd>,
+    d: u8,
+) -> Pumped
+    requires runs { device_fault book.old d ≡ None }
+    requires going { end.old ≡ None }
+    requires may { MayGiveNext d inlets.old book.old }
+    ensures step { DeviceStep d book.old book.new inlets.old inlets.new end.old end.new lasts.old lasts.new }
+    ensures answer { Looked result d inlets.old inlets.new lasts.old end.new book.old book.new }
+    ensures empty { result ≡ Pumped.Empty → (book.new ≡ book.old) × (end.new ≡ end.old) }
+{
+    match inlets.next(lasts) {
+        Next::Nothing => Pumped::Empty,
+        Next::Bytes(piece) => {
+            inlets.show_read();
+            take_bytes(book, lasts, end, d, piece)
+        }
+        Next::Edges(piece) => {
+            inlets.show_read();
+            take_edge(book, lasts, end, d, piece)
+        }
+    }
+}
+
+/// The same, and what was received from the device's lanes is a prefix of what their sources hold.
 pub(crate) fn pump<R: Wait + Copy>(
     book: &mut Book<Tx<Item, R>>,
     inlets: &mut Inlets<R>,
@@ -287,13 +338,13 @@ pub(crate) fn pump<R: Wait + Copy>(
 ) -> Pumped
     requires runs { device_fault book.old d ≡ None }
     requires going { end.old ≡ None }
+    requires may { MayGiveNext d inlets.old book.old }
     ensures step { DeviceStep d book.old book.new inlets.old inlets.new end.old end.new lasts.old lasts.new }
     ensures answer { Looked result d inlets.old inlets.new lasts.old end.new book.old book.new }
     ensures empty { result ≡ Pumped.Empty → (book.new ≡ book.old) × (end.new ≡ end.old) }
+    ensures read { LaneIsRead inlets.new }
 {
-    match inlets.next(lasts) {
-        Next::Nothing => Pumped::Empty,
-        Next::Bytes(piece) => take_bytes(book, lasts, end, d, piece),
-        Next::Edges(piece) => take_edge(book, lasts, end, d, piece),
-    }
+    let pumped = pump_one(book, inlets, lasts, end, d);
+    inlets.show_read();
+    pumped
 }

@@ -2,6 +2,7 @@
 ghost use Rattle.std.specs.Prelude.{◌≡◌, ◌<◌, true, [], IfOk, IfErr, OnOk, OnErr, length, vec_len, vec_capacity};
 ghost use Rattle.std.specs.List.{list_all};
 ghost use Rattle.book_log.specs.Standing.{has_stopped};
+ghost use Rattle.hub_promise.specs.Giving.{MayOpen};
 ghost use Rattle.hub_door.specs.Admissions.{finished};
 ghost use Rattle.report_book.specs.BookView.{BookView};
 ghost use Rattle.report_book.specs.Moves.{Admits};
@@ -19,7 +20,7 @@ use serve_pieces::Piece;
 use session_core::Item;
 use std::sync::Wait;
 
-/// The door has closed or failed, or had before.
+/// Notes that the door has closed or failed. It may have been noted before.
 pub(crate) fn finish<J: DoorNaming>(keeper: &mut Keeper<J>, is_done: bool, door: &mut DoorSeat<J>)
     requires { is_done ≡ keeper.old.done }
     ensures keeper { keeper.new ≡ finished keeper.old }
@@ -38,11 +39,18 @@ pub(crate) fn open<R: Wait + Copy>(
     outlet: Tx<Item, R>,
     is_shut: bool,
 ) -> Result<u32, (Tx<Item, R>, BookFault)>
+    // The outlet is new and open. If the book was shut, all its devices have stopped.
     requires empty { outlet.put ≡ [] }
     requires open { outlet.is_open ≡ true }
+    requires may { MayOpen outlet.lane outlet.about }
     requires ended { is_shut ≡ true → list_all (λ line. has_stopped line.stage) book.old.log.present.lines ≡ true }
+
+    // The session is the next one, and is closed if the book was shut.
     ensures number { IfOk result (λ s. s ≡ length book.old.sessions) }
-    ensures admits { IfOk result (λ _. (mid : BookView) × BookHolds mid × Admits (of_table outlet.lane) outlet.cap book.old mid × ShutIf is_shut mid book.new) }
+    ensures admits { IfOk result (λ _. (mid : BookView) × BookHolds mid
+        × Admits (of_table outlet.lane outlet.about) outlet.cap book.old mid × ShutIf is_shut mid book.new) }
+
+    // When it is refused, and what a refusal leaves.
     ensures refusal { RefusesWith (crowd_fault book.old) result }
     ensures outlet { IfErr result (λ refusal. refusal.0 ≡ outlet) }
     ensures unchanged { OnErr result (book.new ≡ book.old) }
@@ -68,7 +76,7 @@ fn shut_if<R: Wait + Copy>(book: &mut Book<Tx<Item, R>>, is_shut: bool)
     }
 }
 
-/// Takes room for one more session.
+/// Makes room for one more session.
 pub(crate) fn take_room<R>(
     inputs: &mut Vec<Rx<Piece, R>>,
     open_sessions: &mut OpenSessions,
@@ -82,7 +90,7 @@ pub(crate) fn take_room<R>(
     open_sessions.reserve()
 }
 
-/// Why no session may be admitted now: by the numbers of the book, or as it is out of memory.
+/// Why no session may be admitted now: the book has too many, or it is out of memory.
 pub(crate) fn refusal_of<R: Wait + Copy>(book: &Book<Tx<Item, R>>) -> BookFault
     ensures { result ≡ fault_or_memory (crowd_fault book.now) }
 {

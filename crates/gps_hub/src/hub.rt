@@ -3,15 +3,15 @@ ghost use Rattle.std.specs.List.{All, list_all};
 ghost use Rattle.std.specs.Option.{option_and_then, option_to_list};
 ghost use Rattle.book_log.specs.Standing.{has_stopped};
 ghost use Rattle.book_sessions.specs.Roster.{was_watched};
-ghost use Rattle.hub_door.specs.Admissions.{SessionLanes, admitting, finished, link_of};
+ghost use Rattle.hub_door.specs.Admissions.{SessionLanes, admitting, dropping, finished, link_of, none_yet};
 ghost use Rattle.report_book.specs.Moves.{PublishesAt, ShutsAll};
 ghost use Rattle.report_book.specs.Refusals.{crowd_fault};
 ghost use Rattle.report_book.specs.Standing.{BookHolds};
 ghost use Rattle.hub_promise.specs.DaemonHub.{DaemonHub, MayGoOn};
 ghost use Rattle.hub_promise.specs.Given.{TellsOnce};
 ghost use Rattle.hub_promise.specs.Keeping.{IsClosed, IsUnused, NothingGot};
-ghost use Rattle.hub_promise.specs.Parts.{AreAdmitted, parts_of, terms_of};
-ghost use Rattle.gps_hub.specs.Admitting.{AdmitsAs, IsCrowded, RefusesLink};
+ghost use Rattle.hub_promise.specs.Parts.{AreAdmitted, devices_of, parts_of, subject_of, terms_of};
+ghost use Rattle.gps_hub.specs.Admitting.{AdmitsAs, HasBound, IsCrowded, RefusesLink, drop_now};
 ghost use Rattle.gps_hub.specs.Emptied.{GotAllOrOpen};
 ghost use Rattle.gps_hub.specs.Pumping.{DevicePumped, IsWaiting, KeepsOtherInputs, KeepsOthers, SessionPumped};
 
@@ -23,7 +23,7 @@ use crate::open_sessions::{Look, OpenSessions};
 use crate::parted::Parted;
 use crate::pumped::Pumped;
 use crate::session::pump as pump_session;
-use crate::settling::{empty, next_item};
+use crate::settling::{empty_and_show, next_item};
 use gps_lane::{Rx, Tx};
 use hub_door::{DoorSeat, DoorTable, Keeper};
 use hub_promise::DeviceEnd;
@@ -35,8 +35,8 @@ use std::marker::Model;
 use std::snapshot::Snapshot;
 use std::sync::Wait;
 
-/// The book of the running daemon, the receiving ends of the lanes of its devices and sessions, and the state of its door. It stands behind
-/// one lock.
+/// The book of the running daemon, the receiving ends of the lanes of its devices and sessions, and the state of its door. One lock protects
+/// all of it.
 #[derive(Drop)]
 pub struct Hub<J: HubNaming, R: Wait + Copy> {
     book: Book<Tx<Item, R>>,
@@ -73,7 +73,7 @@ impl<J: HubNaming, R: Wait + Copy> Model for Hub<J, R> {
         h.lasts.items × (h.is_done ≡ h.keeper.done) };
 }
 
-/// One step of a unit that there is.
+/// One step of a unit of the book.
 fn publish_unit<R: Wait + Copy>(book: &mut Book<Tx<Item, R>>, u: u8) -> UnitStep
     requires { u < length book.old.units }
     ensures { PublishesAt u result book.old book.new }
@@ -95,16 +95,21 @@ impl<J: HubNaming, R: Wait + Copy> Hub<J, R> {
         doors: DoorTable,
         wait: u32,
     ) -> Result<(Hub<J, R>, DoorSeat<J>), (Book<Tx<Item, R>>, Vec<Inlets<R>>)>
+        // `J` is what no call of the hub changes.
         requires terms { J.terms ≡ terms_of book inlets.items wait }
         requires table { doors.table ≡ J.table }
         requires ledger { doors.ledger ≡ J.name }
         requires parts { doors.parts ≡ J.parts }
         requires whole { doors.parts ≡ J.whole }
+
+        // The book is new, and nothing was received from the lanes of its devices.
         requires unused { IsUnused book }
         requires count { length inlets.items ≡ length book.names }
         requires nothing_got { All NothingGot inlets.items }
         requires wait { wait ≤ 64 }
-        ensures seat { IfOk result (λ r. r.1 ≡ record { links = []; done = false }) }
+
+        // The door's worker knows of nothing yet. If it is out of memory, the book and the lanes come back.
+        ensures seat { IfOk result (λ r. r.1 ≡ none_yet) }
         ensures book { IfErr result (λ r. r.0 ≡ book) }
         ensures inlets { IfErr result (λ r. r.1 ≡ inlets) }
     {
@@ -143,8 +148,8 @@ impl<J: HubNaming, R: Wait + Copy> Hub<J, R> {
         }
     }
 
-    /// Gets a piece of one lane of a device and gives it to the book. A device whose lanes have both told how their source ended has stopped;
-    /// so has one if the book refuses a piece of it, and then it is lost.
+    /// Gets a piece of one lane of a device and gives it to the book. A device stops once both of its lanes have told how
+    /// their source ended. It is lost if the book refuses a piece of it.
     pub fn device_piece(&mut self, d: u8) -> Pumped
         requires { d < length J.terms.names }
         ensures pumped { DevicePumped result d self.old self.new }
@@ -168,8 +173,8 @@ impl<J: HubNaming, R: Wait + Copy> Hub<J, R> {
         pumped
     }
 
-    /// Gets a piece of a session's input lane and gives it to the book. A session whose source has ended is hung up; so is one if the
-    /// book refuses a piece of it, and no request of that piece is answered.
+    /// Gets a piece of a session's input lane and gives it to the book. A session is hung up if its source has ended, or if
+    /// the book refuses a piece of it; no request of that piece is answered.
     pub fn session_piece(&mut self, s: u32) -> Pumped
         requires { s < length self.old.inputs }
         ensures pumped { SessionPumped result s self.old self.new }
@@ -194,7 +199,7 @@ impl<J: HubNaming, R: Wait + Copy> Hub<J, R> {
         step
     }
 
-    /// The door has closed or failed.
+    /// Notes that the door has closed or failed.
     pub fn door_done(&mut self, door: &mut DoorSeat<J>)
         ensures hub { self.new ≡ record self.old { door = finished self.old.door } }
         ensures door { door.new ≡ finished door.old }
@@ -210,9 +215,15 @@ impl<J: HubNaming, R: Wait + Copy> Hub<J, R> {
         outlet: Tx<Item, R>,
         input: Rx<Piece, R>,
     ) -> Result<u32, (Tx<Item, R>, Rx<Piece, R>, BookFault)>
+        // The lanes are new, and the outlet is open.
         requires outlet { outlet.put ≡ [] }
         requires open { outlet.is_open ≡ true }
         requires input { input.got ≡ [] }
+
+        // The outlet is about the hub's devices and what the client sends.
+        requires about { outlet.about ≡ subject_of J.terms input.about.source }
+
+        // The session is the next one. Both the hub and the door's worker note its lanes.
         ensures number { IfOk result (λ s. s ≡ length door.old.links) }
         ensures door { OnOk result (door.new ≡ admitting (link_of outlet.lane outlet.cap input.lane) door.old) }
         ensures admits { IfOk result (λ _. AdmitsAs (link_of outlet.lane outlet.cap input.lane) self.old.is_shut self.old.book self.new.book) }
@@ -223,12 +234,14 @@ impl<J: HubNaming, R: Wait + Copy> Hub<J, R> {
                   ++ input ∷ [];
               door = admitting (link_of outlet.lane outlet.cap input.lane) self.old.door;
             }) }
+
+        // When it is refused, and what a refusal leaves.
         ensures refusal { RefusesLink (crowd_fault self.old.book) result }
         ensures outlet { IfErr result (λ r. r.0 ≡ outlet) }
         ensures input { IfErr result (λ r. r.1 ≡ input) }
         ensures unchanged { OnErr result (self.new ≡ self.old) }
         ensures same_door { OnErr result (door.new ≡ door.old) }
-        ensures crowded { IfErr result (λ r. IsCrowded r.2 (length door.old.links)) }
+        ensures crowded { IfErr result (λ r. IsCrowded r.2 self.old.book) }
     {
         let Ok(()) = take_room(&mut self.inputs, &mut self.open_sessions) else {
             self.keeper.agree(door);
@@ -251,7 +264,19 @@ impl<J: HubNaming, R: Wait + Copy> Hub<J, R> {
         }
     }
 
-    /// Shuts the book if each device has ended or was lost: no session is live then, nor will one be. Else it changes nothing.
+    /// Notes in the door's list that a link is dropped now because a bound is reached: 64 sessions are live, 100,000 were opened, or at least
+    /// 64 are not yet released. `held` is the number of unreleased sessions, as the door's worker says.
+    pub fn drop_link(&mut self, door: &mut DoorSeat<J>, held: usize)
+        requires bound { HasBound (drop_now held self.old.book) }
+        ensures opened { length self.old.book.sessions ≡ length door.old.links }
+        ensures hub { self.new ≡ record self.old { door = dropping (drop_now held self.old.book) self.old.door } }
+        ensures door { door.new ≡ dropping (drop_now held self.old.book) door.old }
+    {
+        let (live, opened) = (self.book.live(), self.book.opened());
+        self.keeper.drop_link(door, live, opened, held);
+    }
+
+    /// Shuts the book if each device has ended or was lost: then no session is live, nor will one be. Otherwise changes nothing.
     pub fn shut(&mut self) -> bool
         ensures exact { result ≡ list_all (λ line. has_stopped line.stage) self.old.book.log.present.lines }
         ensures shuts { result ≡ true → ShutsAll self.old.book self.new.book }
@@ -290,12 +315,15 @@ impl<J: HubNaming, R: Wait + Copy> Hub<J, R> {
         }
     }
 
-    /// Lets both ends of a closed session's input lane meet: pieces that it still holds are got, and no request of them is answered. Then the
-    /// lane may be closed, so that nothing can be put into it any more. Nothing changes if the session is not closed.
+    /// Receives the pieces that a closed session's input lane still holds, and answers none of their requests. Then the lane may be closed, so
+    /// that nothing more can be put into it. Nothing changes if the session is not closed.
     pub fn settle_input(&mut self, door: &mut DoorSeat<J>, s: u32, pieces: &mut Tx<Piece, R>)
+        // This is the sending end of the session's input lane. Nothing was put after the piece that tells how its source ended.
         requires there { s < length door.old.links }
         requires input { (free : SessionLanes) → pieces.old.lane ≡ (get_or door.old.links s free).input }
         requires once { TellsOnce pieces.old.put }
+
+        // Only the two ends of this lane change.
         ensures hub { self.new ≡ record self.old { inputs = self.new.inputs } }
         ensures others { KeepsOtherInputs s self.old self.new }
         ensures door { door.new ≡ door.old }
@@ -305,7 +333,7 @@ impl<J: HubNaming, R: Wait + Copy> Hub<J, R> {
             return;
         }
         self.keeper.agree(door);
-        empty(pieces, &mut self.inputs[s as usize]);
+        empty_and_show(pieces, &mut self.inputs[s as usize]);
     }
 
     /// How many devices there are.
@@ -323,13 +351,21 @@ impl<J: HubNaming, R: Wait + Copy> Hub<J, R> {
         2 * devices
     }
 
+    /// What always holds of the hub, whenever the lock is taken. It includes that the log has only what the sources of the devices held, in order.
+    pub fn show(&self)
+        ensures { DaemonHub (parts_of self.now) }
+    {
+        let _wait = &self.wait;
+    }
+
+    /// The book.
     pub fn book(&self) -> &Book<Tx<Item, R>>
         ensures { result.now ≡ self.now.book }
     {
         &self.book
     }
 
-    /// What is new of the session at a place of the list of those that were not closed at the last look; none behind the last. If it is
+    /// What is new of the session at a place of the list of those that were not closed at the last look; none past the end. If it is
     /// closed now, it leaves the list, and the last one takes its place.
     pub fn look(&mut self, place: usize) -> Option<Look>
         ensures session { IfSome result (λ look. look.session < length self.old.inputs) }
@@ -344,12 +380,12 @@ impl<J: HubNaming, R: Wait + Copy> Hub<J, R> {
     pub fn part(mut self, mut door: DoorSeat<J>) -> Parted<R>
         ensures agrees { DaemonHub (record {
           book = result.book;
-          inlets = result.inlets.items;
-          ends = result.ends.items;
+          devices = devices_of result.inlets.items result.ends.items;
           inputs = result.sessions.items;
           done = door.done;
           wait = J.terms.wait;
         }) }
+        ensures count { length result.ends.items ≡ length result.inlets.items }
         ensures terms { terms_of result.book result.inlets.items J.terms.wait ≡ J.terms }
         ensures sessions { AreAdmitted door.links result.book.sessions result.sessions.items }
         ensures holds { BookHolds result.book }

@@ -1,5 +1,5 @@
 ghost use Rattle.std.specs.Prelude.{◌≡◌, IfOk, map};
-ghost use Rattle.hub_promise.specs.Keeping.{fresh_lasts, no_end};
+ghost use Rattle.hub_promise.specs.Keeping.{LaneIsRead, fresh_lasts, no_end};
 ghost use Rattle.gps_hub.specs.Pumping.{MatchNext};
 
 use gps_fixed::NoMemory;
@@ -41,7 +41,7 @@ impl Model for Lasts {
     ghost view = { λ l. record { bytes = l.bytes; edges = l.edges } };
 }
 
-/// A piece that was got of one of a device's lanes.
+/// A piece that was received from one of a device's lanes.
 #[derive(Drop)]
 pub(crate) enum Next {
     Nothing,
@@ -65,7 +65,7 @@ impl Lasts {
     }
 }
 
-/// Before anything is got of these lanes.
+/// How the sources of these lanes ended, before anything is received from them.
 pub(crate) fn lasts_of<R>(alloc: Global, inlets: &Vec<Inlets<R>>) -> Result<Vec<Lasts>, NoMemory>
     ensures { IfOk result (λ lasts. lasts.items ≡ map fresh_lasts inlets.now.items) }
 {
@@ -91,6 +91,17 @@ pub(crate) fn no_ends<R>(
 }
 
 impl<R: Wait + Copy> Inlets<R> {
+    /// What was received from the lanes is a prefix of what their sources hold.
+    #[tactic(auto, using(serve_pieces::proofs::Held::begun_held))]
+    pub(crate) fn show_read(&self)
+        ensures { LaneIsRead self.now }
+    {
+        self.bytes.show_due();
+        if let Some(edges) = &self.edges {
+            edges.show_due();
+        }
+    }
+
     fn next_bytes(&mut self, lasts: &Lasts) -> Next
         ensures { MatchNext result self.old self.new }
     {

@@ -1,6 +1,6 @@
-//! The hub of the running daemon: one book, the lanes of its devices and sessions, and the state of its door, which stand together behind
-//! one lock. Each call is one event. Its type keeps what always holds of the daemon: what the book has is what was got of the
-//! lanes, and what each session was given is what its requests select of that.
+//! The hub of the running daemon: one book, the lanes of its devices and sessions, and the state of its door, all under one lock. Each
+//! call is one event. Its type keeps what always holds of the daemon: what the book has is what was received
+//! from the lanes, and what each session was given is what its requests select of that.
 #![tactic(auto)]
 
 mod device;

@@ -1,7 +1,7 @@
 use hub_door::DoorNaming;
 use std::marker::Brand;
 
-/// What no call of a hub changes, and so what is known of it while it stands behind its lock. A call picks it.
+/// What no call of a hub changes. So it is known of the hub even while that is behind its lock. A call picks it.
 pub trait HubNaming: DoorNaming {
     ghost use Rattle.hub_promise.specs.Parts.{Terms};
 

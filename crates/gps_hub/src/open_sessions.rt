@@ -38,7 +38,7 @@ impl OpenSessions {
         }
     }
 
-    /// Takes room for one more.
+    /// Makes room for one more.
     pub(crate) fn reserve(&mut self) -> Result<(), NoMemory>
         ensures list { self.new.list.items ≡ self.old.list.items }
         ensures room { OnOk result (vec_len self.new.list < vec_capacity self.new.list) }
@@ -47,7 +47,7 @@ impl OpenSessions {
         Ok(())
     }
 
-    /// A new session, for which there is room.
+    /// Adds a new session, for which there is room.
     pub(crate) fn add(&mut self, session: u32)
         requires room { vec_len self.old.list < vec_capacity self.old.list }
         ensures added { self.new.list.items ≡ self.old.list.items ++ record { session = session; items = 0 } ∷ [] }
@@ -55,7 +55,7 @@ impl OpenSessions {
         self.list.push_reserved(OpenSession { session, items: 0 });
     }
 
-    /// Looks at the session at a place of the list; none behind the last. If it is closed, the last one takes its place.
+    /// Looks at the session at a place of the list; none past the end. If it is closed, the last one takes its place.
     pub(crate) fn look<R: Wait + Copy>(
         &mut self,
         book: &Book<Tx<Item, R>>,

@@ -1,8 +1,9 @@
-// Both ends of a closed session's lanes meet.
-ghost use Rattle.std.specs.Prelude.{◌≡◌, ◌<◌, ◌++◌, length, get_or, IfNone};
+// What a closed session's lanes still hold is received, with both ends at hand.
+ghost use Rattle.std.specs.Prelude.{◌≡◌, ◌<◌, ◌++◌, length, get_or, IfNone, Some};
 ghost use Rattle.std.specs.Option.{option_to_list};
 ghost use Rattle.book_sessions.specs.MemberView.{MemberView};
-ghost use Rattle.session_core.specs.Naming.{of_table};
+ghost use Rattle.session_core.specs.Naming.{table_of};
+ghost use Rattle.serve_pieces.specs.Held.{AreDue};
 ghost use Rattle.hub_promise.specs.Given.{TellsOnce};
 ghost use Rattle.hub_promise.specs.Steps.{GetsMore};
 ghost use Rattle.gps_hub.specs.Emptied.{GotAll};
@@ -13,7 +14,7 @@ use serve_pieces::Piece;
 use session_core::Item;
 use std::sync::Wait;
 
-/// As many pieces as an input lane may hold.
+/// The most pieces that an input lane may hold.
 const PIECES: u32 = 64;
 
 /// Gets the next item of a session's outlet, if there is one.
@@ -24,7 +25,7 @@ pub(crate) fn next_item<R: Wait + Copy>(
     items: &mut Rx<Item, R>,
 ) -> Option<Item>
     requires there { s < length book.old.sessions }
-    requires outlet { (free : MemberView) → of_table items.old.lane ≡ (get_or book.old.sessions s free).session.name }
+    requires outlet { (free : MemberView) → Some items.old.lane ≡ table_of (get_or book.old.sessions s free).session.name }
     ensures book { book.new ≡ book.old }
     ensures items { items.new ≡ record items.old { got = items.old.got ++ option_to_list result } }
     ensures all { IfNone result (GotAll s book.new items.new) }
@@ -47,7 +48,7 @@ fn drop_piece<R: Wait + Copy>(pieces: &mut Tx<Piece, R>, input: &mut Rx<Piece, R
 
 /// Gets what a closed session's input lane still holds, and drops it. Then the lane is closed.
 #[tactic(auto, using(gps_lane::proofs::Closing::still_same))]
-pub(crate) fn empty<R: Wait + Copy>(pieces: &mut Tx<Piece, R>, input: &mut Rx<Piece, R>)
+fn empty<R: Wait + Copy>(pieces: &mut Tx<Piece, R>, input: &mut Rx<Piece, R>)
     requires one_lane { input.old.lane ≡ pieces.old.lane }
     requires once { TellsOnce pieces.old.put }
     ensures pieces { pieces.new ≡ record pieces.old { is_open = pieces.new.is_open } }
@@ -58,4 +59,17 @@ pub(crate) fn empty<R: Wait + Copy>(pieces: &mut Tx<Piece, R>, input: &mut Rx<Pi
             return;
         }
     }
+}
+
+/// The same, and what was received from the lane is a prefix of what its source holds.
+#[tactic(auto, using(serve_pieces::proofs::Held::begun_held))]
+pub(crate) fn empty_and_show<R: Wait + Copy>(pieces: &mut Tx<Piece, R>, input: &mut Rx<Piece, R>)
+    requires one_lane { input.old.lane ≡ pieces.old.lane }
+    requires once { TellsOnce pieces.old.put }
+    ensures pieces { pieces.new ≡ record pieces.old { is_open = pieces.new.is_open } }
+    ensures input { GetsMore input.old input.new }
+    ensures heard { AreDue input.new.about input.new.got }
+{
+    empty(pieces, input);
+    input.show_due();
 }

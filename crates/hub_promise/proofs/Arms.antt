@@ -20,22 +20,15 @@ use Rattle.serve_pieces.specs.declared.piece.Piece.TheVariants.{Bytes, Line, Inp
 use Rattle.hub_promise.specs.declared.ends.DeviceEnd.{DeviceEnd}
 use Rattle.hub_promise.specs.declared.ends.DeviceEnd.TheVariants.{Ended, ReadFault, NoMemory as LostNoMemory}
 use Rattle.hub_promise.specs.Given.{edges_by, end_by, ending_in, is_end, is_loss, stamped_in}
-use Rattle.hub_promise.specs.Keeping.{DeviceKeeps, Lasts}
-use Rattle.hub_promise.specs.Parts.{InletsView}
+use Rattle.hub_promise.specs.Keeping.{Lasts, end_told, told_of}
+use Rattle.hub_promise.specs.DaemonHub.{DeviceFits}
+use Rattle.hub_promise.specs.Parts.{InletsView, device_of}
 use Rattle.hub_promise.specs.Steps.{DeviceStep, MovesOn, Onward, stop_entries, with_bytes, with_edge}
-use Rattle.hub_promise.proofs.Devices.{bytes_refused, bytes_taken, edges_refused, edges_taken}
+use Rattle.hub_promise.proofs.Devices.{bytes_refused, bytes_taken, edges_refused, edges_taken, running, told_bytes, told_edge}
 use Rattle.hub_promise.proofs.Forward.{moves_onward, quiet_onward}
 
 quiet_nothing : (e : ℕ) → IsQuiet e []
 quiet_nothing e = record { no_symbols = refl; no_end = refl; no_loss = refl }
-
--- a device that runs has not told both endings
-running : (log : List Entry) (d : ℕ) (x : InletsView) (lasts : Lasts) → DeviceKeeps log d x None lasts → None ≡ end_by [] lasts.bytes lasts.edges
-running log d x lasts k = by_refused (k.fits.refused ++ k.fits.refused_lines) _ _ k.fits.ends ∙ (λ i. end_by [] (sym k.bytes_last i) (sym k.edges_last i))
-  where
-    by_refused : (refused : List Piece) (a b : Option Ending) → None ≡ end_by refused a b → None ≡ end_by [] a b
-    by_refused [] a b e = e
-    by_refused (p ∷ refused) a b e = absurd (cc)
 
 stop_quiet : (d e : ℕ) (end : Option DeviceEnd) → nat_eq d e ≡ false → IsQuiet e (stop_entries d end)
 stop_quiet d e None other = quiet_nothing e
@@ -67,6 +60,10 @@ stop_lost d (Some Ended) = refl
 stop_lost d (Some ReadFault) = ap (λ b. b || false) (same d)
 stop_lost d (Some LostNoMemory) = ap (λ b. b || false) (same d)
 
+-- a device that runs goes on to run by a piece that does not tell an ending
+still_running : (log : List Entry) (d : ℕ) (x y : InletsView) → DeviceFits log d (device_of x None) → told_of y ≡ told_of x → None ≡ end_told y
+still_running log d x y f same = running log [] d x f ∙ (λ i. end_by [] (sym same i).bytes (sym same i).edges)
+
 -- ---- its lane
 
 -- the book took a piece of bytes
@@ -76,22 +73,27 @@ pub fed_step : (exact turns : Bool) (old new : BookView) (d : ℕ) (at : Moment)
 fed_step exact turns old new d at bytes x lasts held moves earns =
     let symbols = stream_piece at bytes in
     let here = stream_got d symbols in
+    let piece = Bytes at bytes in
     record {
       entries = fed d at bytes;
       adds = inr (moves_onward exact turns old new (fed d at bytes) held moves earns);
       quiet = λ e other. quiet_got d e symbols other;
-      fits = λ log k. bytes_taken log (fed d at bytes) d x lasts k (Bytes at bytes) None lasts (ap bytes_in here ∙ bytes_of_piece at bytes) (ap edges_in here ∙ edges_of_piece at bytes) refl refl (running log d x lasts k) (no_end_got d d symbols) (no_loss_got d d symbols);
+      fits = λ log told f. bytes_taken log (fed d at bytes) d x f piece None (ap bytes_in here ∙ bytes_of_piece at bytes) (ap edges_in here ∙ edges_of_piece at bytes)
+          (still_running log d x (with_bytes piece x) f (sym (told_bytes piece x (told_of x) (told_of x) refl refl refl))) (no_end_got d d symbols) (no_loss_got d d symbols);
+      told = told_bytes piece x lasts lasts refl refl;
     }
 
 -- the book refused a piece of its lane
-pub bytes_refused_step : (old new : BookView) (d : ℕ) (piece : Piece) (x : InletsView) (lasts : Lasts) → AddsQuietly old new (lost d) → Earns old new (lost d)
-    → DeviceStep d old new x (with_bytes piece x) None (Some LostNoMemory) lasts lasts
-bytes_refused_step old new d piece x lasts adds earns =
+pub bytes_refused_step : (old new : BookView) (d : ℕ) (piece : Piece) (x : InletsView) (lasts next : Lasts) → AddsQuietly old new (lost d) → Earns old new (lost d)
+    → next.bytes ≡ option_or (ending_in piece) lasts.bytes → next.edges ≡ lasts.edges
+    → DeviceStep d old new x (with_bytes piece x) None (Some LostNoMemory) lasts next
+bytes_refused_step old new d piece x lasts next adds earns bytes edges =
     record {
       entries = lost d;
       adds = inr (quiet_onward old new (lost d) adds earns);
       quiet = λ e other. quiet_loss d e other;
-      fits = λ log k. bytes_refused log d x lasts piece k;
+      fits = λ log told f. bytes_refused log d x piece f;
+      told = told_bytes piece x lasts next bytes edges;
     }
 
 -- its lane has told how its source ended
@@ -103,18 +105,25 @@ bytes_last_step old new d ending x end lasts next moves bytes edges is =
       entries = stop_entries d end;
       adds = moves;
       quiet = λ e other. stop_quiet d e end other;
-      fits = λ log k. bytes_taken log (stop_entries d end) d x lasts k (Last ending) end next (stop_bytes_in d end) (stop_edges_in d end) bytes edges (is ∙ (λ i. end_by [] (sym bytes i) (sym edges i))) (stop_ended d end) (stop_lost d end);
+      fits = λ log told f.
+          let now = told_bytes (Last ending) x lasts next bytes edges told in
+          bytes_taken log (stop_entries d end) d x f (Last ending) end (stop_bytes_in d end) (stop_edges_in d end)
+          (is ∙ (λ i. end_by [] (sym bytes i) (sym edges i)) ∙ (λ i. end_by [] (now i).bytes (now i).edges)) (stop_ended d end) (stop_lost d end);
+      told = told_bytes (Last ending) x lasts next bytes edges;
     }
 
 -- a piece that its lane does not carry does nothing
 pub bytes_useless_step : (book : BookView) (d : ℕ) (piece : Piece) (x : InletsView) (lasts : Lasts) → stamped_in piece ≡ [] → ending_in piece ≡ None
     → DeviceStep d book book x (with_bytes piece x) None None lasts lasts
 bytes_useless_step book d piece x lasts none no_ending =
+    let same = λ (l : Lasts). ap (λ o. option_or o l.bytes) (sym no_ending) in
     record {
       entries = [];
       adds = inl (refl, refl);
       quiet = λ e other. quiet_nothing e;
-      fits = λ log k. bytes_taken log [] d x lasts k piece None lasts (sym none) refl (ap (λ o. option_or o lasts.bytes) (sym no_ending)) refl (running log d x lasts k) refl refl;
+      fits = λ log told f. bytes_taken log [] d x f piece None (sym none) refl
+          (still_running log d x (with_bytes piece x) f (sym (told_bytes piece x (told_of x) (told_of x) (same (told_of x)) refl refl))) refl refl;
+      told = told_bytes piece x lasts lasts (same lasts) refl;
     }
 
 -- ---- its edge lane
@@ -130,17 +139,22 @@ edged_step exact turns old new d line edge x lane lasts there reads held moves e
       entries = edged d edge;
       adds = inr (moves_onward exact turns old new (edged d edge) held moves earns);
       quiet = λ e other. quiet_got d e symbols other;
-      fits = λ log k. edges_taken log (edged d edge) d x lane lasts there (Line line) None lasts (ap bytes_in here) (ap edges_in here ∙ ap option_to_list reads) refl refl (running log d x lasts k) (no_end_got d d symbols) (no_loss_got d d symbols) k;
+      fits = λ log told f. edges_taken log (edged d edge) d x lane there (Line line) None (ap bytes_in here) (ap edges_in here ∙ ap option_to_list reads)
+          (still_running log d x (with_edge (Line line) x) f (sym (told_edge (Line line) x lane (told_of x) (told_of x) there refl refl refl))) (no_end_got d d symbols)
+          (no_loss_got d d symbols) f;
+      told = told_edge (Line line) x lane lasts lasts there refl refl;
     }
 
-pub edges_refused_step : (old new : BookView) (d : ℕ) (piece : Piece) (x : InletsView) (lane : Taking Piece) (lasts : Lasts) → x.edges ≡ Some lane → AddsQuietly old new (lost d) → Earns old new (lost d)
-    → DeviceStep d old new x (with_edge piece x) None (Some LostNoMemory) lasts lasts
-edges_refused_step old new d piece x lane lasts there adds earns =
+pub edges_refused_step : (old new : BookView) (d : ℕ) (piece : Piece) (x : InletsView) (lane : Taking Piece) (lasts next : Lasts) → x.edges ≡ Some lane
+    → AddsQuietly old new (lost d) → Earns old new (lost d) → next.bytes ≡ lasts.bytes → next.edges ≡ option_or (ending_in piece) lasts.edges
+    → DeviceStep d old new x (with_edge piece x) None (Some LostNoMemory) lasts next
+edges_refused_step old new d piece x lane lasts next there adds earns bytes edges =
     record {
       entries = lost d;
       adds = inr (quiet_onward old new (lost d) adds earns);
       quiet = λ e other. quiet_loss d e other;
-      fits = λ log k. edges_refused log d x lane lasts there piece k;
+      fits = λ log told f. edges_refused log d x lane there piece f;
+      told = told_edge piece x lane lasts next there bytes edges;
     }
 
 pub edges_last_step : (old new : BookView) (d : ℕ) (ending : Ending) (x : InletsView) (lane : Taking Piece) (end : Option DeviceEnd) (lasts next : Lasts) → x.edges ≡ Some lane → MovesOn old new (stop_entries d end)
@@ -151,17 +165,24 @@ edges_last_step old new d ending x lane end lasts next there moves bytes edges i
       entries = stop_entries d end;
       adds = moves;
       quiet = λ e other. stop_quiet d e end other;
-      fits = λ log k. edges_taken log (stop_entries d end) d x lane lasts there (Last ending) end next (stop_bytes_in d end) (stop_edges_in d end) bytes edges (is ∙ (λ i. end_by [] (sym bytes i) (sym edges i))) (stop_ended d end) (stop_lost d end) k;
+      fits = λ log told f.
+          let now = told_edge (Last ending) x lane lasts next there bytes edges told in
+          edges_taken log (stop_entries d end) d x lane there (Last ending) end (stop_bytes_in d end) (stop_edges_in d end)
+          (is ∙ (λ i. end_by [] (sym bytes i) (sym edges i)) ∙ (λ i. end_by [] (now i).bytes (now i).edges)) (stop_ended d end) (stop_lost d end) f;
+      told = told_edge (Last ending) x lane lasts next there bytes edges;
     }
 
 pub edges_useless_step : (book : BookView) (d : ℕ) (piece : Piece) (x : InletsView) (lane : Taking Piece) (lasts : Lasts) → x.edges ≡ Some lane → edges_by piece ≡ [] → ending_in piece ≡ None
     → DeviceStep d book book x (with_edge piece x) None None lasts lasts
 edges_useless_step book d piece x lane lasts there none no_ending =
+    let same = λ (l : Lasts). ap (λ o. option_or o l.edges) (sym no_ending) in
     record {
       entries = [];
       adds = inl (refl, refl);
       quiet = λ e other. quiet_nothing e;
-      fits = λ log k. edges_taken log [] d x lane lasts there piece None lasts refl (sym none) refl (ap (λ o. option_or o lasts.edges) (sym no_ending)) (running log d x lasts k) refl refl k;
+      fits = λ log told f. edges_taken log [] d x lane there piece None refl (sym none)
+          (still_running log d x (with_edge piece x) f (sym (told_edge piece x lane (told_of x) (told_of x) there refl (same (told_of x)) refl))) refl refl f;
+      told = told_edge piece x lane lasts lasts there refl (same lasts);
     }
 
 -- nothing came
@@ -171,5 +192,6 @@ nothing_step book d x end lasts =
       entries = [];
       adds = inl (refl, refl);
       quiet = λ e other. quiet_nothing e;
-      fits = λ log k. subst (λ (l : List Entry). DeviceKeeps l d x end lasts) (sym (append-nil log)) k;
+      fits = λ log told f. subst (λ (l : List Entry). DeviceFits l d (device_of x end)) (sym (append-nil log)) f;
+      told = λ told. told;
     }

@@ -19,8 +19,8 @@ use Rattle.hub_promise.specs.declared.ends.DeviceEnd.{DeviceEnd}
 use Rattle.hub_promise.specs.declared.ends.DeviceEnd.TheVariants.{NoMemory as LostNoMemory}
 use Rattle.hub_promise.specs.DaemonHub.{DeviceFits}
 use Rattle.hub_promise.specs.Given.{edge_ending, edges_by, edges_of, end_by, ending_in, ending_of, got_of, is_end, is_loss, stamped_in, stamped_of}
-use Rattle.hub_promise.specs.Keeping.{DeviceKeeps, Lasts}
-use Rattle.hub_promise.specs.Parts.{InletsView}
+use Rattle.hub_promise.specs.Keeping.{Lasts, end_told, told_of}
+use Rattle.hub_promise.specs.Parts.{HubDevice, InletsView, device_of}
 use Rattle.hub_promise.specs.Steps.{with_bytes, with_edge, with_got}
 
 none_refused : (refused : List Piece) (a b : Option Ending) → None ≡ end_by refused a b → refused ≡ []
@@ -53,170 +53,166 @@ end_on d log entries now before is = list_any-append (is_end_of d) log entries �
 loss_on : (d : ℕ) (log entries : List Entry) (now : Bool) → has_lost d log ≡ false → has_lost d entries ≡ now → has_lost d (log ++ entries) ≡ now
 loss_on d log entries now before is = list_any-append (is_loss_of d) log entries ∙ ap (λ b. b || has_lost d entries) before ∙ is
 
-ending_more : (taken : List Piece) (piece : Piece) (was now : Option Ending) → was ≡ ending_of taken → now ≡ option_or (ending_in piece) was → now ≡ ending_of (taken ++ piece ∷ [])
-ending_more taken piece was now w n = n ∙ ap (λ o. option_or (ending_in piece) o) w ∙ sym (last_of-append ending_in taken (piece ∷ []))
+-- ---- what the lanes have told
 
--- a device that runs
-module _ (log entries : List Entry) (d : ℕ) (x : InletsView) (lasts : Lasts) (k : DeviceKeeps log d x None lasts) where
-  fits : DeviceFits log d x None
-  fits = k.fits
+ending_more : (got : List Piece) (piece : Piece) (was now : Option Ending) → was ≡ ending_of got → now ≡ option_or (ending_in piece) was → now ≡ ending_of (got ++ piece ∷ [])
+ending_more got piece was now w n = n ∙ ap (λ o. option_or (ending_in piece) o) w ∙ sym (last_of-append ending_in got (piece ∷ []))
 
-  no_refusal : k.fits.refused ++ k.fits.refused_lines ≡ []
-  no_refusal = none_refused (k.fits.refused ++ k.fits.refused_lines) _ _ k.fits.ends
+-- after one more piece of its lane
+pub told_bytes : (piece : Piece) (x : InletsView) (lasts next : Lasts) → next.bytes ≡ option_or (ending_in piece) lasts.bytes → next.edges ≡ lasts.edges
+    → lasts ≡ told_of x → next ≡ told_of (with_bytes piece x)
+told_bytes piece x lasts next bytes edges told =
+    let one = ending_more x.bytes.got piece lasts.bytes next.bytes (ap (λ (l : Lasts). l.bytes) told) bytes in
+    let other = edges ∙ ap (λ (l : Lasts). l.edges) told in
+    λ i. record { bytes = one i; edges = other i }
 
-  took : x.bytes.got ≡ k.fits.taken
-  took = k.fits.lane ∙ ap (λ l. k.fits.taken ++ l) (first_none _ _ no_refusal) ∙ append-nil k.fits.taken
+-- and of its edge lane
+pub told_edge : (piece : Piece) (x : InletsView) (lane : Taking Piece) (lasts next : Lasts) → x.edges ≡ Some lane → next.bytes ≡ lasts.bytes
+    → next.edges ≡ option_or (ending_in piece) lasts.edges → lasts ≡ told_of x → next ≡ told_of (with_edge piece x)
+told_edge piece x lane lasts next there bytes edges told =
+    let P : Option (Taking Piece) → Type 0 = λ o. lasts ≡ told_of (record { bytes = x.bytes; edges = o }) → next ≡ told_of (with_edge piece (record { bytes = x.bytes; edges = o })) in
+    subst P (sym there)
+    (λ told_there.
+    let one = ending_more lane.got piece lasts.edges next.edges (ap (λ (l : Lasts). l.edges) told_there) edges in
+    let other = bytes ∙ ap (λ (l : Lasts). l.bytes) told_there in
+    λ i. record { bytes = other i; edges = one i }) told
 
-  took_lines : got_of x.edges ≡ k.fits.lines
-  took_lines = k.fits.edge_lane ∙ ap (λ l. k.fits.lines ++ l) (second_none _ _ no_refusal) ∙ append-nil k.fits.lines
+-- ---- a device that runs
+
+module _ (log entries : List Entry) (d : ℕ) (x : InletsView) (f : DeviceFits log d (device_of x None)) where
+  no_refusal : f.refused ++ f.refused_lines ≡ []
+  no_refusal = none_refused (f.refused ++ f.refused_lines) _ _ f.ends
+
+  took : x.bytes.got ≡ f.taken
+  took = f.lane ∙ ap (λ l. f.taken ++ l) (first_none _ _ no_refusal) ∙ append-nil f.taken
+
+  took_lines : got_of x.edges ≡ f.lines
+  took_lines = f.edge_lane ∙ ap (λ l. f.lines ++ l) (second_none _ _ no_refusal) ∙ append-nil f.lines
 
   -- a piece of its lane was taken
-  pub bytes_taken : (piece : Piece) (end : Option DeviceEnd) (next : Lasts)
-      → bytes_in (stream d entries) ≡ stamped_in piece → edges_in (stream d entries) ≡ []
-      → next.bytes ≡ option_or (ending_in piece) lasts.bytes → next.edges ≡ lasts.edges
-      → end ≡ end_by [] next.bytes next.edges → has_end d entries ≡ is_end end → has_lost d entries ≡ is_loss end
-      → DeviceKeeps (log ++ entries) d (with_bytes piece x) end next
-  bytes_taken piece end next bytes edges last same_edges end_is ended lost_is =
-      let taken = k.fits.taken in
-      let last_is = ending_more taken piece lasts.bytes next.bytes k.bytes_last last in
-      let edge_is = same_edges ∙ k.edges_last in
+  pub bytes_taken : (piece : Piece) (end : Option DeviceEnd) → bytes_in (stream d entries) ≡ stamped_in piece → edges_in (stream d entries) ≡ []
+      → end ≡ end_told (with_bytes piece x) → has_end d entries ≡ is_end end → has_lost d entries ≡ is_loss end
+      → DeviceFits (log ++ entries) d (device_of (with_bytes piece x) end)
+  bytes_taken piece end bytes edges end_is ended lost_is =
       record {
-        fits = record {
-          taken = taken ++ piece ∷ [];
-          refused = [];
-          lines = k.fits.lines;
-          refused_lines = [];
-          lane = ap (λ l. l ++ piece ∷ []) took ∙ sym (append-nil (taken ++ piece ∷ []));
-          edge_lane = took_lines ∙ sym (append-nil k.fits.lines);
-          few = omega arith;
-          bytes = one_more stamped_in taken piece (bytes_in (stream d entries)) bytes (bytes_in (stream d log)) _ k.fits.bytes (bytes_on d log entries);
-          edges = edges_on d log entries ∙ ap (λ l. edges_in (stream d log) ++ l) edges ∙ append-nil (edges_in (stream d log)) ∙ k.fits.edges;
-          ends = end_is ∙ (λ i. end_by [] (last_is i) (edge_is i));
-          ended = end_on d log entries (is_end end) k.fits.ended ended;
-          lost = loss_on d log entries (is_loss end) k.fits.lost lost_is;
-        };
-        bytes_last = last_is;
-        edges_last = edge_is;
+        taken = f.taken ++ piece ∷ [];
+        refused = [];
+        lines = f.lines;
+        refused_lines = [];
+        lane = ap (λ l. l ++ piece ∷ []) took ∙ sym (append-nil (f.taken ++ piece ∷ []));
+        edge_lane = took_lines ∙ sym (append-nil f.lines);
+        few = omega arith;
+        bytes = one_more stamped_in f.taken piece (bytes_in (stream d entries)) bytes (bytes_in (stream d log)) _ f.bytes (bytes_on d log entries);
+        edges = edges_on d log entries ∙ ap (λ l. edges_in (stream d log) ++ l) edges ∙ append-nil (edges_in (stream d log)) ∙ f.edges;
+        ends = end_is ∙ (λ i. end_by [] (ending_of (took i ++ piece ∷ [])) (edge_ending x.edges (took_lines i)));
+        ended = end_on d log entries (is_end end) f.ended ended;
+        lost = loss_on d log entries (is_loss end) f.lost lost_is;
       }
 
--- a device that runs and has an edge lane
-module _ (log entries : List Entry) (d : ℕ) (own lane : Taking Piece) (lasts : Lasts) (k : DeviceKeeps log d (record { bytes = own; edges = Some lane }) None lasts) where
+  -- its lanes have not both told
+  pub running : None ≡ end_told x
+  running =
+      subst (λ (refused : List Piece). None ≡ end_by refused (ending_of f.taken) (edge_ending x.edges f.lines)) no_refusal f.ends
+      ∙ (λ i. end_by [] (ending_of (sym took i)) (edge_ending x.edges (sym took_lines i)))
+
+-- that has an edge lane
+module _ (log entries : List Entry) (d : ℕ) (own lane : Taking Piece) (f : DeviceFits log d (device_of (record { bytes = own; edges = Some lane }) None)) where
   -- a piece of its edge lane was taken
-  edges_taken_there : (piece : Piece) (end : Option DeviceEnd) (next : Lasts)
-      → bytes_in (stream d entries) ≡ [] → edges_in (stream d entries) ≡ edges_by piece
-      → next.bytes ≡ lasts.bytes → next.edges ≡ option_or (ending_in piece) lasts.edges
-      → end ≡ end_by [] next.bytes next.edges → has_end d entries ≡ is_end end → has_lost d entries ≡ is_loss end
-      → DeviceKeeps (log ++ entries) d (record { bytes = own; edges = Some (with_got piece lane) }) end next
-  edges_taken_there piece end next bytes edges same_bytes last end_is ended lost_is =
+  edges_taken_there : (piece : Piece) (end : Option DeviceEnd) → bytes_in (stream d entries) ≡ [] → edges_in (stream d entries) ≡ edges_by piece
+      → end ≡ end_told (record { bytes = own; edges = Some (with_got piece lane) }) → has_end d entries ≡ is_end end → has_lost d entries ≡ is_loss end
+      → DeviceFits (log ++ entries) d (device_of (record { bytes = own; edges = Some (with_got piece lane) }) end)
+  edges_taken_there piece end bytes edges end_is ended lost_is =
       let x : InletsView = record { bytes = own; edges = Some lane } in
-      let lines = k.fits.lines in
-      let last_is = ending_more lines piece lasts.edges next.edges k.edges_last last in
-      let bytes_is = same_bytes ∙ k.bytes_last in
+      let own_is = took log entries d x f in
+      let lines_are = took_lines log entries d x f in
       record {
-        fits = record {
-          taken = k.fits.taken;
-          refused = [];
-          lines = lines ++ piece ∷ [];
-          refused_lines = [];
-          lane = took log entries d x lasts k ∙ sym (append-nil k.fits.taken);
-          edge_lane = ap (λ l. l ++ piece ∷ []) (took_lines log entries d x lasts k) ∙ sym (append-nil (lines ++ piece ∷ []));
-          few = omega arith;
-          bytes = bytes_on d log entries ∙ ap (λ l. bytes_in (stream d log) ++ l) bytes ∙ append-nil (bytes_in (stream d log)) ∙ k.fits.bytes;
-          edges = one_more edges_by lines piece (edges_in (stream d entries)) edges (edges_in (stream d log)) _ k.fits.edges (edges_on d log entries);
-          ends = end_is ∙ (λ i. end_by [] (bytes_is i) (last_is i));
-          ended = end_on d log entries (is_end end) k.fits.ended ended;
-          lost = loss_on d log entries (is_loss end) k.fits.lost lost_is;
-        };
-        bytes_last = bytes_is;
-        edges_last = last_is;
+        taken = f.taken;
+        refused = [];
+        lines = f.lines ++ piece ∷ [];
+        refused_lines = [];
+        lane = own_is ∙ sym (append-nil f.taken);
+        edge_lane = ap (λ l. l ++ piece ∷ []) lines_are ∙ sym (append-nil (f.lines ++ piece ∷ []));
+        few = omega arith;
+        bytes = bytes_on d log entries ∙ ap (λ l. bytes_in (stream d log) ++ l) bytes ∙ append-nil (bytes_in (stream d log)) ∙ f.bytes;
+        edges = one_more edges_by f.lines piece (edges_in (stream d entries)) edges (edges_in (stream d log)) _ f.edges (edges_on d log entries);
+        ends = end_is ∙ (λ i. end_by [] (ending_of (own_is i)) (ending_of (lines_are i ++ piece ∷ [])));
+        ended = end_on d log entries (is_end end) f.ended ended;
+        lost = loss_on d log entries (is_loss end) f.lost lost_is;
       }
 
-pub edges_taken : (log entries : List Entry) (d : ℕ) (x : InletsView) (lane : Taking Piece) (lasts : Lasts) → x.edges ≡ Some lane → (piece : Piece) (end : Option DeviceEnd) (next : Lasts)
+pub edges_taken : (log entries : List Entry) (d : ℕ) (x : InletsView) (lane : Taking Piece) → x.edges ≡ Some lane → (piece : Piece) (end : Option DeviceEnd)
     → bytes_in (stream d entries) ≡ [] → edges_in (stream d entries) ≡ edges_by piece
-    → next.bytes ≡ lasts.bytes → next.edges ≡ option_or (ending_in piece) lasts.edges
-    → end ≡ end_by [] next.bytes next.edges → has_end d entries ≡ is_end end → has_lost d entries ≡ is_loss end
-    → DeviceKeeps log d x None lasts → DeviceKeeps (log ++ entries) d (with_edge piece x) end next
-edges_taken log entries d x lane lasts there piece end next bytes edges same_bytes last end_is ended lost_is =
-    let P : Option (Taking Piece) → Type 0 = λ o. DeviceKeeps log d (record { bytes = x.bytes; edges = o }) None lasts
-    → DeviceKeeps (log ++ entries) d (with_edge piece (record { bytes = x.bytes; edges = o })) end next in
-    subst P (sym there) (λ k. edges_taken_there log entries d x.bytes lane lasts k piece end next bytes edges same_bytes last end_is ended lost_is)
+    → end ≡ end_told (with_edge piece x) → has_end d entries ≡ is_end end → has_lost d entries ≡ is_loss end
+    → DeviceFits log d (device_of x None) → DeviceFits (log ++ entries) d (device_of (with_edge piece x) end)
+edges_taken log entries d x lane there piece end bytes edges end_is ended lost_is f =
+    let P : Option (Taking Piece) → Type 0 = λ o. end ≡ end_told (with_edge piece (record { bytes = x.bytes; edges = o }))
+    → DeviceFits log d (device_of (record { bytes = x.bytes; edges = o }) None)
+    → DeviceFits (log ++ entries) d (device_of (with_edge piece (record { bytes = x.bytes; edges = o })) end) in
+    subst P (sym there) (λ is fits. edges_taken_there log entries d x.bytes lane fits piece end bytes edges is ended lost_is) end_is f
 
 lost_now : (d : ℕ) → has_lost d (lost d) ≡ true
 lost_now d = ap (λ b. b || false) (same d)
 
 -- a piece of its lane was refused
-pub bytes_refused : (log : List Entry) (d : ℕ) (x : InletsView) (lasts : Lasts) (piece : Piece)
-    → DeviceKeeps log d x None lasts → DeviceKeeps (log ++ lost d) d (with_bytes piece x) (Some LostNoMemory) lasts
-bytes_refused log d x lasts piece k =
+pub bytes_refused : (log : List Entry) (d : ℕ) (x : InletsView) (piece : Piece)
+    → DeviceFits log d (device_of x None) → DeviceFits (log ++ lost d) d (device_of (with_bytes piece x) (Some LostNoMemory))
+bytes_refused log d x piece f =
     record {
-      fits = record {
-        taken = k.fits.taken;
-        refused = piece ∷ [];
-        lines = k.fits.lines;
-        refused_lines = [];
-        lane = ap (λ l. l ++ piece ∷ []) (took log (lost d) d x lasts k);
-        edge_lane = took_lines log (lost d) d x lasts k ∙ sym (append-nil k.fits.lines);
-        few = omega arith;
-        bytes = bytes_on d log (lost d) ∙ append-nil (bytes_in (stream d log)) ∙ k.fits.bytes;
-        edges = edges_on d log (lost d) ∙ append-nil (edges_in (stream d log)) ∙ k.fits.edges;
-        ends = refl;
-        ended = end_on d log (lost d) false k.fits.ended refl;
-        lost = loss_on d log (lost d) true k.fits.lost (lost_now d);
-      };
-      bytes_last = k.bytes_last;
-      edges_last = k.edges_last;
+      taken = f.taken;
+      refused = piece ∷ [];
+      lines = f.lines;
+      refused_lines = [];
+      lane = ap (λ l. l ++ piece ∷ []) (took log (lost d) d x f);
+      edge_lane = took_lines log (lost d) d x f ∙ sym (append-nil f.lines);
+      few = omega arith;
+      bytes = bytes_on d log (lost d) ∙ append-nil (bytes_in (stream d log)) ∙ f.bytes;
+      edges = edges_on d log (lost d) ∙ append-nil (edges_in (stream d log)) ∙ f.edges;
+      ends = refl;
+      ended = end_on d log (lost d) false f.ended refl;
+      lost = loss_on d log (lost d) true f.lost (lost_now d);
     }
 
-edges_refused_there : (log : List Entry) (d : ℕ) (own lane : Taking Piece) (lasts : Lasts) (piece : Piece)
-    → DeviceKeeps log d (record { bytes = own; edges = Some lane }) None lasts
-    → DeviceKeeps (log ++ lost d) d (record { bytes = own; edges = Some (with_got piece lane) }) (Some LostNoMemory) lasts
-edges_refused_there log d own lane lasts piece k =
+edges_refused_there : (log : List Entry) (d : ℕ) (own lane : Taking Piece) (piece : Piece)
+    → DeviceFits log d (device_of (record { bytes = own; edges = Some lane }) None)
+    → DeviceFits (log ++ lost d) d (device_of (record { bytes = own; edges = Some (with_got piece lane) }) (Some LostNoMemory))
+edges_refused_there log d own lane piece f =
     let x : InletsView = record { bytes = own; edges = Some lane } in
     record {
-      fits = record {
-        taken = k.fits.taken;
-        refused = [];
-        lines = k.fits.lines;
-        refused_lines = piece ∷ [];
-        lane = took log (lost d) d x lasts k ∙ sym (append-nil k.fits.taken);
-        edge_lane = ap (λ l. l ++ piece ∷ []) (took_lines log (lost d) d x lasts k);
-        few = omega arith;
-        bytes = bytes_on d log (lost d) ∙ append-nil (bytes_in (stream d log)) ∙ k.fits.bytes;
-        edges = edges_on d log (lost d) ∙ append-nil (edges_in (stream d log)) ∙ k.fits.edges;
-        ends = refl;
-        ended = end_on d log (lost d) false k.fits.ended refl;
-        lost = loss_on d log (lost d) true k.fits.lost (lost_now d);
-      };
-      bytes_last = k.bytes_last;
-      edges_last = k.edges_last;
+      taken = f.taken;
+      refused = [];
+      lines = f.lines;
+      refused_lines = piece ∷ [];
+      lane = took log (lost d) d x f ∙ sym (append-nil f.taken);
+      edge_lane = ap (λ l. l ++ piece ∷ []) (took_lines log (lost d) d x f);
+      few = omega arith;
+      bytes = bytes_on d log (lost d) ∙ append-nil (bytes_in (stream d log)) ∙ f.bytes;
+      edges = edges_on d log (lost d) ∙ append-nil (edges_in (stream d log)) ∙ f.edges;
+      ends = refl;
+      ended = end_on d log (lost d) false f.ended refl;
+      lost = loss_on d log (lost d) true f.lost (lost_now d);
     }
 
-pub edges_refused : (log : List Entry) (d : ℕ) (x : InletsView) (lane : Taking Piece) (lasts : Lasts) → x.edges ≡ Some lane → (piece : Piece)
-    → DeviceKeeps log d x None lasts → DeviceKeeps (log ++ lost d) d (with_edge piece x) (Some LostNoMemory) lasts
-edges_refused log d x lane lasts there piece =
-    let P : Option (Taking Piece) → Type 0 = λ o. DeviceKeeps log d (record { bytes = x.bytes; edges = o }) None lasts
-    → DeviceKeeps (log ++ lost d) d (with_edge piece (record { bytes = x.bytes; edges = o })) (Some LostNoMemory) lasts in
-    subst P (sym there) (edges_refused_there log d x.bytes lane lasts piece)
+pub edges_refused : (log : List Entry) (d : ℕ) (x : InletsView) (lane : Taking Piece) → x.edges ≡ Some lane → (piece : Piece)
+    → DeviceFits log d (device_of x None) → DeviceFits (log ++ lost d) d (device_of (with_edge piece x) (Some LostNoMemory))
+edges_refused log d x lane there piece =
+    let P : Option (Taking Piece) → Type 0 = λ o. DeviceFits log d (device_of (record { bytes = x.bytes; edges = o }) None)
+    → DeviceFits (log ++ lost d) d (device_of (with_edge piece (record { bytes = x.bytes; edges = o })) (Some LostNoMemory)) in
+    subst P (sym there) (edges_refused_there log d x.bytes lane piece)
 
 -- something came of another device
-pub device_quiet : (log entries : List Entry) (e : ℕ) (x : InletsView) (end : Option DeviceEnd) (lasts : Lasts) → IsQuiet e entries
-    → DeviceKeeps log e x end lasts → DeviceKeeps (log ++ entries) e x end lasts
-device_quiet log entries e x end lasts quiet k =
+pub device_quiet : (log entries : List Entry) (e : ℕ) (x : HubDevice) → IsQuiet e entries → DeviceFits log e x → DeviceFits (log ++ entries) e x
+device_quiet log entries e x quiet f =
     record {
-      fits = record {
-        taken = k.fits.taken;
-        refused = k.fits.refused;
-        lines = k.fits.lines;
-        refused_lines = k.fits.refused_lines;
-        lane = k.fits.lane;
-        edge_lane = k.fits.edge_lane;
-        few = k.fits.few;
-        bytes = bytes_on e log entries ∙ ap (λ s. bytes_in (stream e log) ++ bytes_in s) quiet.no_symbols ∙ append-nil (bytes_in (stream e log)) ∙ k.fits.bytes;
-        edges = edges_on e log entries ∙ ap (λ s. edges_in (stream e log) ++ edges_in s) quiet.no_symbols ∙ append-nil (edges_in (stream e log)) ∙ k.fits.edges;
-        ends = k.fits.ends;
-        ended = has_end-append e log entries quiet.no_end ∙ k.fits.ended;
-        lost = has_lost-append e log entries quiet.no_loss ∙ k.fits.lost;
-      };
-      bytes_last = k.bytes_last;
-      edges_last = k.edges_last;
+      taken = f.taken;
+      refused = f.refused;
+      lines = f.lines;
+      refused_lines = f.refused_lines;
+      lane = f.lane;
+      edge_lane = f.edge_lane;
+      few = f.few;
+      bytes = bytes_on e log entries ∙ ap (λ s. bytes_in (stream e log) ++ bytes_in s) quiet.no_symbols ∙ append-nil (bytes_in (stream e log)) ∙ f.bytes;
+      edges = edges_on e log entries ∙ ap (λ s. edges_in (stream e log) ++ edges_in s) quiet.no_symbols ∙ append-nil (edges_in (stream e log)) ∙ f.edges;
+      ends = f.ends;
+      ended = has_end-append e log entries quiet.no_end ∙ f.ended;
+      lost = has_lost-append e log entries quiet.no_loss ∙ f.lost;
     }

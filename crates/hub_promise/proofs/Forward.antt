@@ -112,6 +112,10 @@ turned_length : (units : List UnitView) → length (map turned_unit units) ≡ l
 turned_length [] = refl
 turned_length (u ∷ units) = ap suc (turned_length units)
 
+turned_count : (turns : Bool) (units : List UnitView) → length (units_turned_if turns units) ≡ length units
+turned_count false units = refl
+turned_count true units = turned_length units
+
 units_on : (turns : Bool) (old new : BookView) (entries : List Entry) → BookHolds old → Earns (turned_if turns old) new entries
     → (before : List Entry) → StandsFor old.log.opening before → (u : ℕ) (x : UnitView) → u < length old.units
     → all_of (get_or new.units u x) ≡ all_of (get_or old.units u x) ++ samples_of u (history_after (before ++ old.log.log) entries)
@@ -124,7 +128,7 @@ turned_limit : (turns : Bool) (old : BookView) → (turned_if turns old).log.lim
 turned_limit false old = refl
 turned_limit true old = refl
 
--- entries came, behind a turn if one was due
+-- entries came, after a turn if one was due
 pub moves_onward : (exact turns : Bool) (old new : BookView) (entries : List Entry) → BookHolds old → Moves exact turns old new entries → Earns (turned_if turns old) new entries → Onward old new entries
 moves_onward exact turns old new entries held moves earns =
     record {
@@ -132,7 +136,10 @@ moves_onward exact turns old new entries held moves earns =
       goes = λ before stands. moves_extend exact turns old new entries before held stands moves;
       carries = λ before stands. entries_carry exact turns old new entries before held stands moves;
       abides = sessions_abide turns exact (line_for (turned_if turns old).names) (turned_if turns old).log.length moves.0 old.sessions new.sessions moves.1.sessions;
-      units = units_on turns old new entries held earns;
+      units = λ before stands. record {
+        count = moves.1.units.count ∙ turned_count turns old.units;
+        each = units_on turns old new entries held earns before stands;
+      };
       segments = gains_segments moves.0 (units_turned_if turns old.units) new.units moves.1.units ∙ turned_segments turns old.units;
       limit = moves.1.log.limit ∙ turned_limit turns old;
     }
@@ -145,7 +152,7 @@ quiet_onward old new entries adds earns =
       goes = λ before stands. quiet_entries old new entries before stands adds;
       carries = λ before stands. quiet_carry old new entries before stands adds;
       abides = subst (λ (l : List MemberView). AllZip Abides old.sessions l) (sym adds.sessions) (zip_same Abides abides_same old.sessions);
-      units = earns.units;
+      units = λ before stands. record { count = ap length adds.units; each = earns.units before stands };
       segments = ap (map segment_of) adds.units;
       limit = adds.log.limit;
     }

@@ -15,15 +15,26 @@ use Rattle.atomic_table.specs.Seated.{TableId}
 use Rattle.report_book.specs.BookView.{BookView}
 use Rattle.report_book.specs.Refusals.{device_fault, fault_of, session_fault}
 use Rattle.session_core.specs.declared.mark.Close.{Close}
+use Rattle.session_core.specs.Naming.{untold}
 use Rattle.hub_promise.specs.declared.ends.DeviceEnd.{DeviceEnd}
 use Rattle.hub_promise.specs.declared.ends.DeviceEnd.TheVariants.{Ended as DeviceEnded, ReadFault as DeviceFault, NoMemory as DeviceNoMemory}
-use Rattle.hub_promise.specs.DaemonHub.{MayGoOn}
+use Rattle.hub_promise.specs.DaemonHub.{DeviceFits, MayGoOn, whole_log}
 use Rattle.hub_promise.specs.Given.{is_end, is_loss}
-use Rattle.hub_promise.specs.Keeping.{HubKeeps, Lasts, fresh_lasts, no_end}
-use Rattle.hub_promise.specs.Parts.{HubView, InletsView, Terms, parts_of}
+use Rattle.hub_promise.specs.Keeping.{HubKeeps, Lasts, no_end}
+use Rattle.hub_promise.specs.Parts.{HubView, InletsView, Terms, device_of, parts_of}
+use Rattle.hub_promise.proofs.Lists.{device_fits}
 
 pub no_table : TableId
 no_table = record { words = 0; slots = 0; views_name = 0; atom = 0; block = 0; offset = 0; slot_names = [] }
+
+pub no_lanes : InletsView
+no_lanes = record { bytes = record { lane = no_table; about = untold; got = [] }; edges = None }
+
+-- a device of a hub fits the log
+pub device_now : (terms : Terms) (h : HubView) (lasts : List Lasts) (d : ℕ) (x : InletsView) (end : Option DeviceEnd) (k : HubKeeps terms h lasts) → d < length h.book.names
+    → DeviceFits (whole_log k.over.0 h.book) d (device_of (get_or h.inlets d x) (get_or h.ends d end))
+device_now terms h lasts d x end k lt =
+    device_fits (whole_log k.over.0 h.book) (length h.book.names) h.inlets h.ends d x end k.count k.ends_count lt k.over.1.hub.devices
 
 running_line : (stage : DeviceStage) → is_ended stage ≡ false → is_lost stage ≡ false → has_stopped stage ≡ false
 running_line Running e l = refl
@@ -55,9 +66,8 @@ device_free terms h lasts d end k lt runs =
     let lines = h.book.log.present.lines in
     let within : d < length lines = subst (λ (n : ℕ). d < n) k.holds.names lt in
     let free = some_line lines d within in
-    let at = ((k.holds.log.over k.over.0 k.over.1.stands).present.lines d free within) in
-    let x : InletsView = record { bytes = record { lane = no_table; got = [] }; edges = None } in
-    let fits = (k.over.1.devices d x end (fresh_lasts x) lt).fits in
+    let at = ((k.holds.log.over k.over.0 k.over.1.hub.opening).present.lines d free within) in
+    let fits = device_now terms h lasts d no_lanes end k lt in
     let stage = (get_or lines d free).stage in
     let stopped : has_stopped stage ≡ false =
     running_line stage (at.ended ∙ fits.ended ∙ ap is_end runs) (at.lost ∙ fits.lost ∙ ap is_loss runs) in
@@ -82,14 +92,13 @@ session_free book s lt none =
 -- a device that has stopped is one that went on
 pub stopped_goes : (terms : Terms) (h : HubView) (lasts : List Lasts) (d : ℕ) (end : Option DeviceEnd) → HubKeeps terms h lasts → d < length h.book.names → is_some (get_or h.ends d end) ≡ true → MayGoOn (parts_of h)
 stopped_goes terms h lasts d end k lt stopped =
-    let x : InletsView = record { bytes = record { lane = no_table; got = [] }; edges = None } in
-    let fits = (k.over.1.devices d x end (fresh_lasts x) lt).fits in
+    let fits = device_now terms h lasts d no_lanes end k lt in
     ⊎_elim (λ (m : MayGoOn (parts_of h)). m)
-    (λ (e : k.over.0 ++ h.book.log.log ≡ []).
+    (λ (e : whole_log k.over.0 h.book ≡ []).
     let no_end : is_end (get_or h.ends d end) ≡ false = sym fits.ended ∙ ap (has_end d) e in
     let no_loss : is_loss (get_or h.ends d end) ≡ false = sym fits.lost ∙ ap (has_lost d) e in
     absurd (no_stop (get_or h.ends d end) no_end no_loss stopped))
-    k.over.1.gate
+    k.over.1.hub.waits
   where
     no_stop : (o : Option DeviceEnd) → is_end o ≡ false → is_loss o ≡ false → is_some o ≡ true → ⊥
     no_stop None e l s = absurd (cc)

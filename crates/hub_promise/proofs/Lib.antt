@@ -2,6 +2,8 @@ pub mod Devices
 pub mod Forward
 pub mod Sessions
 pub mod Lists
+pub mod Reading
+pub mod Clients
 pub mod Hubs
 pub mod Arms
 pub mod Going
@@ -9,3 +11,5 @@ pub mod Shutting
 pub mod Calls
 pub mod Beginning
 pub mod Settling
+pub mod Dues
+pub mod Allowing

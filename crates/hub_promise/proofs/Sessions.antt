@@ -1,7 +1,8 @@
--- How a session goes on fitting the log: entries came, its client was heard, it was closed; or nothing came of it.
+-- How a session goes on fitting the log: entries came, its client was heard, it was closed; or nothing happened to it.
 use Rattle.std.proofs.Common.{◌≡◌, ◌<◌, ◌≤◌, ℕ, zero, suc, ◌+◌, ◌-◌, Bool, true, false, ◌||◌, List, [], ◌∷◌, ◌++◌, length, length-append, length-take, take, get_or, set, Option, Some, None, refl, sym, ap, ◌∙◌, subst, inl, inr, ◌⊎◌, ⊎_elim, append-nil, append_assoc, arith, get_or-set_same}
 use Rattle.std.specs.Prelude.{slice_get, slice_index_or, slice_set, option_and_then, is_some}
 use Rattle.std.proofs.lemmas.List.Concat.{flat_map-append}
+use Rattle.std.proofs.lemmas.Option.{slice_get-get_or}
 use Rattle.book_log.specs.Entries.{Entry}
 use Rattle.book_log.specs.History.{history}
 use Rattle.book_log.specs.Standing.{StandsFor}
@@ -35,7 +36,7 @@ use Rattle.session_runs.proofs.Ordered.{in_order}
 use Rattle.session_runs.proofs.Sending.{requests_more}
 use Rattle.book_log.proofs.ReadingLaws.{last_of-append}
 use Rattle.hub_promise.specs.Given.{ending_in, ending_of, why_of}
-use Rattle.hub_promise.specs.DaemonHub.{AllStop, ClosesFor, CutShort, HeardOut, MayClose, MayLackMemory, SessionFits}
+use Rattle.hub_promise.specs.DaemonHub.{AllStop, ClosesFor, ClosedOutOfMemory, HeardOut, MayClose, MayBeOutOfMemory, SessionFits}
 use Rattle.hub_promise.specs.Steps.{Abides, ClosesBy, SessionStep, with_got}
 
 -- the last piece tells it
@@ -61,7 +62,7 @@ more_requests x y more gets n lt =
     ap (λ b. length (requests b)) bytes ∙ ap length longer.1 ∙ length-append (requests (input_bytes x.got)) longer.0 in
     omega (arith, count, lt)
 
-still_short : (x y : Taking Piece) (s : SessionView) (more : List Piece) → y.got ≡ x.got ++ more → CutShort x s → CutShort y s
+still_short : (x y : Taking Piece) (s : SessionView) (more : List Piece) → y.got ≡ x.got ++ more → ClosedOutOfMemory x s → ClosedOutOfMemory y s
 still_short x y s more gets short = record {
   before = short.before;
   piece = short.piece;
@@ -72,10 +73,10 @@ still_short x y s more gets short = record {
 }
 
 -- the piece that was got last could not be taken
-pub cut_short : (x : Taking Piece) (piece : Piece) (shown : SessionView) → MayLackMemory piece → shown.requests ≡ length (requests (input_bytes x.got)) → CutShort (with_got piece x) shown
+pub cut_short : (x : Taking Piece) (piece : Piece) (shown : SessionView) → MayBeOutOfMemory piece → shown.requests ≡ length (requests (input_bytes x.got)) → ClosedOutOfMemory (with_got piece x) shown
 cut_short x piece shown lacks answered = record { before = x.got; piece = piece; later = []; got = refl; lacks = lacks; answered = answered }
 
--- more was got of a lane, and nothing behind the piece that tells how its source ended
+-- more was got of a lane, and nothing after the piece that tells how its source ended
 pub cause_on : (c : Option (ℕ × Close)) (count : ℕ) (log : List Entry) (x y : Taking Piece) (s : SessionView) (more : List Piece) → y.got ≡ x.got ++ more
     → (is_some (ending_of x.got) ≡ true → more ≡ []) → ClosesFor count log x s c → ClosesFor count log y s c
 cause_on None count log x y s more gets untold cause = tt
@@ -182,71 +183,74 @@ heard_more exact names log place piece x a b inputs stands was left =
     let put : b.session.requests ≡ a.session.requests + length (take inputs.count answers) = inputs.puts.requests in
     omega (arith, size, put, length-take inputs.count answers, was, left)
 
+pub nobody : MemberView
+nobody = opened OutletName.alone 0 0
+
 -- its client was heard
 pub heard_step : (exact : Bool) (old new : BookView) (s : ℕ) (piece : List ℕ) (x : Taking Piece) → BookHolds old → s < length old.sessions → IsOpenAt s old.sessions
     → AnswersRequests exact s piece old new → SessionStep s old new x (with_got (Input piece) x)
 heard_step exact old new s piece x held lt is_open hears =
     let one = hears.session held.log.some.0 held.log.some.1 in
+    let was = slice_index_or old.sessions s nobody in
+    let puts = (one.2 nobody).puts in
     record {
       same = hears.same;
+      was = was;
+      there = slice_get-get_or old.sessions s nobody lt;
       next = one.0;
       sets = one.1;
-      name = λ free. (one.2 free).puts.name;
-      cap = λ free. (one.2 free).puts.cap;
-      watched = λ free was. or_first _ _ _ (one.2 free).puts.watched was;
-      stays_closed = λ free shut. not_closed (slice_index_or old.sessions s free).session.closing (is_open free) shut;
+      name = puts.name;
+      cap = puts.cap;
+      watched = or_first _ _ _ puts.watched;
+      stays_closed = not_closed was.session.closing (is_open nobody);
       lane = refl;
-      fits = λ before stands free f.
+      fits = λ before stands f.
           let other = hears.session before stands in
           let same : other.0 ≡ one.0 = set_same old.sessions s other.0 one.0 lt (sym other.1 ∙ one.1) in
-          let inputs = subst (λ (b : MemberView). Inputs exact (known_in (length old.names) (before ++ old.log.log)) old.names old.log.length piece (slice_index_or old.sessions s free) b) same (other.2 free) in
-          let account = inputs_extend exact old.names before old.log.log old.log.length piece (slice_index_or old.sessions s free) one.0 f.run [] (input_bytes x.got) (place_is old before held stands) (is_open free) inputs f.account in
-          let run = answered_run (before ++ old.log.log) (put_of exact old.names (before ++ old.log.log) old.log.length piece (slice_index_or old.sessions s free) one.0 inputs) one.0.session.closing f.run in
-          let was = all_answered old.names before old.log.log (slice_index_or old.sessions s free) x f.run (is_open free) f.account in
+          let inputs = subst (λ (b : MemberView). Inputs exact (known_in (length old.names) (before ++ old.log.log)) old.names old.log.length piece was b) same (other.2 nobody) in
+          let account = inputs_extend exact old.names before old.log.log old.log.length piece was one.0 f.run [] (input_bytes x.got) (place_is old before held stands) (is_open nobody) inputs f.account in
+          let run = answered_run (before ++ old.log.log) (put_of exact old.names (before ++ old.log.log) old.log.length piece was one.0 inputs) one.0.session.closing f.run in
+          let all = all_answered old.names before old.log.log was x f.run (is_open nobody) f.account in
           record {
             run = run;
             account = subst (λ (b : List ℕ). Account old.names before old.log.log one.0 run [] b) (sym (input_more x.got (Input piece))) account;
             cause = stops_for one.0.session.closing (length old.names) old.log.length (length (history (before ++ old.log.log))) (length inputs.requests - inputs.count) (before ++ old.log.log)
                 (with_got (Input piece) x) one.0.session account.sent.few
-                (heard_more exact old.names (before ++ old.log.log) old.log.length piece x (slice_index_or old.sessions s free) one.0 inputs (f.account.sent.cutter (is_open free)) was) inputs.stops;
+                (heard_more exact old.names (before ++ old.log.log) old.log.length piece x was one.0 inputs (f.account.sent.cutter (is_open nobody)) all) inputs.stops;
           };
     }
 
 -- it was closed at the last piece of its lane, or if the book refused a piece
-pub hung_step : (old new : BookView) (s : ℕ) (why : Close) (piece : Piece) (x : Taking Piece) → BookHolds old → IsOpenAt s old.sessions
+pub hung_step : (old new : BookView) (s : ℕ) (why : Close) (piece : Piece) (x : Taking Piece) → BookHolds old → s < length old.sessions → IsOpenAt s old.sessions
     → ((count place : ℕ) (log : List Entry) (shown : SessionView) → shown.requests ≡ length (requests (input_bytes x.got)) → MayClose count log (with_got piece x) shown place why)
     → HangsUp s why old new → SessionStep s old new x (with_got piece x)
-hung_step old new s why piece x held is_open may hangs =
+hung_step old new s why piece x held lt is_open may hangs =
     let one = hangs.session in
+    let was = slice_index_or old.sessions s nobody in
+    let closes = one.2 nobody in
+    let becomes = closes.becomes in
     record {
       same = hangs.same;
+      was = was;
+      there = slice_get-get_or old.sessions s nobody lt;
       next = one.0;
       sets = one.1;
-      name = λ free. ap (λ (a : MemberView). a.session.name) (one.2 free).becomes;
-      cap = λ free. ap (λ (a : MemberView). a.session.cap) (one.2 free).becomes;
-      watched = λ free was. ap (λ (a : MemberView). a.watched) (one.2 free).becomes ∙ was;
-      stays_closed = λ free shut. not_closed (slice_index_or old.sessions s free).session.closing (is_open free) shut;
+      name = ap (λ (a : MemberView). a.session.name) becomes;
+      cap = ap (λ (a : MemberView). a.session.cap) becomes;
+      watched = λ watched. ap (λ (a : MemberView). a.watched) becomes ∙ watched;
+      stays_closed = not_closed was.session.closing (is_open nobody);
       lane = refl;
-      fits = λ before stands free f.
-          let becomes = (one.2 free).becomes in
+      fits = λ before stands f.
           let is_closed : is_some one.0.session.closing ≡ true = ap (λ (a : MemberView). is_some a.session.closing) becomes in
-          let account = closings_account old.names before old.log.log old.log.length why (slice_index_or old.sessions s free) one.0 f.run [] (input_bytes x.got) (place_is old before held stands) (is_open free) (one.2 free) f.account in
+          let account = closings_account old.names before old.log.log old.log.length why was one.0 f.run [] (input_bytes x.got) (place_is old before held stands) (is_open nobody) closes f.account in
           let run = closed_run (before ++ old.log.log) why f.run in
           record {
             run = run;
             account = subst (λ (b : List ℕ). Account old.names before old.log.log one.0 run [] b) (sym (input_more x.got piece)) (closed_hears old.names before old.log.log one.0 run [] (input_bytes x.got) (input_part piece) is_closed account);
             cause = may (length old.names) (length (history (before ++ old.log.log))) (before ++ old.log.log) one.0.session
-                (ap (λ (a : MemberView). a.session.requests) becomes ∙ all_answered old.names before old.log.log (slice_index_or old.sessions s free) x f.run (is_open free) f.account);
+                (ap (λ (a : MemberView). a.session.requests) becomes ∙ all_answered old.names before old.log.log was x f.run (is_open nobody) f.account);
           };
     }
-
-nobody : MemberView
-nobody = opened OutletName.alone 0 0
-
-get_any : (xs : List MemberView) (s : ℕ) (a b : MemberView) → s < length xs → get_or xs s a ≡ get_or xs s b
-get_any [] s a b lt = absurd (omega arith)
-get_any (x ∷ xs) zero a b lt = refl
-get_any (x ∷ xs) (suc s) a b lt = get_any xs s a b (omega arith)
 
 set_here : (xs : List MemberView) (s : ℕ) (a : MemberView) → xs ≡ slice_set xs s (get_or xs s a)
 set_here [] s a = refl
@@ -268,44 +272,42 @@ open_cause names before log x s r is_open run =
 pub useless_step : (book : BookView) (s : ℕ) (piece : Piece) (x : Taking Piece) → s < length book.sessions → IsOpenAt s book.sessions → input_part piece ≡ []
     → SessionStep s book book x (with_got piece x)
 useless_step book s piece x lt is_open none =
-    let here = get_or book.sessions s nobody in
-    let is = λ (free : MemberView). get_any book.sessions s nobody free lt in
+    let here = slice_index_or book.sessions s nobody in
     record {
       same = record { names = refl; log = refl; units = refl };
+      was = here;
+      there = slice_get-get_or book.sessions s nobody lt;
       next = here;
       sets = set_here book.sessions s nobody;
-      name = λ free. ap (λ (a : MemberView). a.session.name) (is free);
-      cap = λ free. ap (λ (a : MemberView). a.session.cap) (is free);
-      watched = λ free was. ap (λ (a : MemberView). a.watched) (is free) ∙ was;
-      stays_closed = λ free closed. ap (λ (a : MemberView). is_some a.session.closing) (is free) ∙ closed;
+      name = refl;
+      cap = refl;
+      watched = λ watched. watched;
+      stays_closed = λ closed. closed;
       lane = refl;
-      fits = λ before stands free f.
-          let P : MemberView → Type 0 = λ a. SessionFits book.names before book.log.log a (with_got piece x) in
-          subst P (sym (is free)) (record {
-            run = f.run;
-            account = subst (λ (b : List ℕ). Account book.names before book.log.log (get_or book.sessions s free) f.run [] b)
-                (sym (input_more x.got piece ∙ ap (λ l. input_bytes x.got ++ l) none ∙ append-nil (input_bytes x.got))) f.account;
-            cause = open_cause book.names before book.log.log (with_got piece x) (get_or book.sessions s free).session f.run (is_open free) f.account.run;
-          });
+      fits = λ before stands f. record {
+        run = f.run;
+        account = subst (λ (b : List ℕ). Account book.names before book.log.log here f.run [] b)
+            (sym (input_more x.got piece ∙ ap (λ l. input_bytes x.got ++ l) none ∙ append-nil (input_bytes x.got))) f.account;
+        cause = open_cause book.names before book.log.log (with_got piece x) here.session f.run (is_open nobody) f.account.run;
+      };
     }
 
 -- nothing came of it
 pub still_step : (book : BookView) (s : ℕ) (x : Taking Piece) → s < length book.sessions → SessionStep s book book x x
 still_step book s x lt =
-    let here = get_or book.sessions s nobody in
-    let is = λ (free : MemberView). get_any book.sessions s nobody free lt in
+    let here = slice_index_or book.sessions s nobody in
     record {
       same = record { names = refl; log = refl; units = refl };
+      was = here;
+      there = slice_get-get_or book.sessions s nobody lt;
       next = here;
       sets = set_here book.sessions s nobody;
-      name = λ free. ap (λ (a : MemberView). a.session.name) (is free);
-      cap = λ free. ap (λ (a : MemberView). a.session.cap) (is free);
-      watched = λ free was. ap (λ (a : MemberView). a.watched) (is free) ∙ was;
-      stays_closed = λ free shut. ap (λ (a : MemberView). is_some a.session.closing) (is free) ∙ shut;
+      name = refl;
+      cap = refl;
+      watched = λ watched. watched;
+      stays_closed = λ closed. closed;
       lane = refl;
-      fits = λ before stands free f.
-          let P : MemberView → Type 0 = λ a. SessionFits book.names before book.log.log a x in
-          subst P (sym (is free)) f;
+      fits = λ before stands f. f;
     }
 
 heard_out : (ending : Ending) (x : Taking Piece) (shown : SessionView) → shown.requests ≡ length (requests (input_bytes x.got)) → HeardOut ending (with_got (Last ending) x) shown

@@ -18,7 +18,8 @@ use Rattle.serve_pieces.specs.Carried.{input_bytes, input_part}
 use Rattle.serve_pieces.specs.declared.piece.Ending.{Ending}
 use Rattle.serve_pieces.specs.declared.piece.Piece.{Piece}
 use Rattle.session_core.specs.declared.mark.Close.{Close}
-use Rattle.session_core.specs.Naming.{OutletName, alone, of_table}
+use Rattle.session_core.specs.declared.subject.Subject.{Subject}
+use Rattle.session_core.specs.Naming.{OutletName, alone, of_table, table_of}
 use Rattle.session_runs.specs.Accounts.{Account}
 use Rattle.session_runs.proofs.Accounting.{closed_hears}
 use Rattle.hub_promise.specs.DaemonHub.{SessionFits}
@@ -27,8 +28,9 @@ use Rattle.hub_promise.specs.Keeping.{HubKeeps, IsClosed, Lasts}
 use Rattle.hub_promise.specs.Parts.{AreAdmitted, HubView, Terms}
 use Rattle.hub_promise.specs.Steps.{GetsMore, SessionStep}
 use Rattle.hub_promise.proofs.Going.{closed_at}
-use Rattle.hub_promise.proofs.Hubs.{hub_session, map_length}
-use Rattle.hub_promise.proofs.Sessions.{cause_on, still_step}
+use Rattle.hub_promise.proofs.Hubs.{hub_session, map_length, member_at}
+use Rattle.hub_promise.proofs.Sessions.{cause_on, nobody, still_step}
+use Rattle.serve_pieces.specs.Held.{AreDue}
 
 -- ---- a lane tells once how its source ended
 
@@ -48,31 +50,31 @@ front_none : (xs ys : List Piece) → xs ++ ys ≡ [] → xs ≡ []
 front_none [] ys e = refl
 front_none (x ∷ xs) ys e = absurd (cc)
 
-none_behind : (x : Piece) (xs : List Piece) → length (x ∷ xs) ≤ 1 → xs ≡ []
-none_behind x [] few = refl
-none_behind x (y ∷ xs) few = absurd (omega arith)
+none_after : (x : Piece) (xs : List Piece) → length (x ∷ xs) ≤ 1 → xs ≡ []
+none_after x [] few = refl
+none_after x (y ∷ xs) few = absurd (omega arith)
 
 abbrev first_or : Piece → List Piece → Piece
 first_or free [] = free
 first_or free (x ∷ xs) = x
 
-nothing_behind : (first rest pieces last : List Piece) → first ++ rest ≡ pieces ++ last → length last ≤ 1 → ending_of pieces ≡ None → is_some (ending_of first) ≡ true → rest ≡ []
-nothing_behind [] rest pieces last is few untold told = absurd (cc)
-nothing_behind (f ∷ first) rest [] [] is few untold told = absurd (cc)
-nothing_behind (f ∷ first) rest [] (l ∷ last) is few untold told = back_none first rest (ap (drop 1) is ∙ none_behind l last few)
-nothing_behind (f ∷ first) rest (p ∷ pieces) last is few untold told =
+nothing_later : (first rest pieces last : List Piece) → first ++ rest ≡ pieces ++ last → length last ≤ 1 → ending_of pieces ≡ None → is_some (ending_of first) ≡ true → rest ≡ []
+nothing_later [] rest pieces last is few untold told = absurd (cc)
+nothing_later (f ∷ first) rest [] [] is few untold told = absurd (cc)
+nothing_later (f ∷ first) rest [] (l ∷ last) is few untold told = back_none first rest (ap (drop 1) is ∙ none_after l last few)
+nothing_later (f ∷ first) rest (p ∷ pieces) last is few untold told =
     let both = untold_both (ending_of pieces) (ending_in p) untold in
     let same : ending_in f ≡ None = ap (λ l. ending_in (first_or f l)) is ∙ both.1 in
-    nothing_behind first rest pieces last (ap (drop 1) is) few both.0 (told_later (ending_of first) (ending_in f) told same)
+    nothing_later first rest pieces last (ap (drop 1) is) few both.0 (told_later (ending_of first) (ending_in f) told same)
 
--- a lane into which at most one piece was put behind those that do not tell how its source ended
+-- a lane into which at most one piece was put after those that do not tell how its source ended
 pub tells_once : (put pieces last : List Piece) → put ≡ pieces ++ last → length last ≤ 1 → ending_of pieces ≡ None → TellsOnce put
-tells_once put pieces last is few untold first rest parts told = nothing_behind first rest pieces last (sym parts ∙ is) few untold told
+tells_once put pieces last is few untold first rest parts told = nothing_later first rest pieces last (sym parts ∙ is) few untold told
 
 -- ---- what is got of it
 
 pub gets_none : (x : Taking Piece) → GetsMore x x
-gets_none x = record { more = []; gets = λ i. record { lane = x.lane; got = sym (append-nil x.got) i }; untold = λ told. refl }
+gets_none x = record { more = []; gets = λ i. record { lane = x.lane; about = x.about; got = sym (append-nil x.got) i }; untold = λ told. refl }
 
 -- one more piece, or none
 pub gets_one : (put : List Piece) (x y : Taking Piece) (piece : Option Piece) → TellsOnce put → y ≡ record x { got = x.got ++ option_to_list piece } → BeginsWith y.got put → GetsMore x y
@@ -91,7 +93,7 @@ got_still x y gets told = ap (λ (t : Taking Piece). t.got) gets.gets ∙ ap (λ
 pub gets_on : (x y z : Taking Piece) → GetsMore x y → GetsMore y z → GetsMore x z
 gets_on x y z one two = record {
   more = one.more ++ two.more;
-  gets = two.gets ∙ ap (λ (t : Taking Piece). record t { got = t.got ++ two.more }) one.gets ∙ (λ i. record { lane = x.lane; got = append_assoc x.got one.more two.more i });
+  gets = two.gets ∙ ap (λ (t : Taking Piece). record t { got = t.got ++ two.more }) one.gets ∙ (λ i. record { lane = x.lane; about = x.about; got = append_assoc x.got one.more two.more i });
   untold = λ told.
       let none = one.untold told in
       let later = two.untold (ap (λ l. is_some (ending_of l)) (got_still x y one told) ∙ told) in
@@ -112,8 +114,11 @@ fits_on names before log a x y closed gets f =
 pub settled_step : (book : BookView) (s : ℕ) (x y : Taking Piece) → s < length book.sessions → ((free : MemberView) → IsClosed (get_or book.sessions s free)) → GetsMore x y → SessionStep s book book x y
 settled_step book s x y lt closed gets =
     let still = still_step book s x lt in
+    let was_closed : IsClosed still.was = subst IsClosed (member_at book.sessions s nobody still.was lt still.there) (closed nobody) in
     record {
       same = still.same;
+      was = still.was;
+      there = still.there;
       next = still.next;
       sets = still.sets;
       name = still.name;
@@ -121,12 +126,13 @@ settled_step book s x y lt closed gets =
       watched = still.watched;
       stays_closed = still.stays_closed;
       lane = ap (λ (t : Taking Piece). t.lane) gets.gets;
-      fits = λ before stands free f. fits_on book.names before book.log.log still.next x y (still.stays_closed free (closed free)) gets (still.fits before stands free f);
+      fits = λ before stands f. fits_on book.names before book.log.log still.next x y (still.stays_closed was_closed) gets (still.fits before stands f);
     }
 
 pub hub_settled : (terms : Terms) (h : HubView) (lasts : List Lasts) (s : ℕ) (x y : Taking Piece) → HubKeeps terms h lasts → s < length h.book.sessions
-    → ((free : MemberView) → IsClosed (get_or h.book.sessions s free)) → get_or h.inputs s x ≡ x → GetsMore x y → HubKeeps terms (record h { inputs = set h.inputs s y }) lasts
-hub_settled terms h lasts s x y k lt closed here gets = hub_session terms h lasts s h.book x y k lt here k.holds (settled_step h.book s x y lt closed gets)
+    → ((free : MemberView) → IsClosed (get_or h.book.sessions s free)) → get_or h.inputs s x ≡ x → GetsMore x y → AreDue y.about y.got → HubKeeps terms (record h { inputs = set h.inputs s y }) lasts
+hub_settled terms h lasts s x y k lt closed here gets heard =
+    hub_session terms h lasts s h.book x y k lt here k.holds (ap (λ (t : Taking Piece). t.about) gets.gets) heard (settled_step h.book s x y lt closed gets)
 
 -- a session whose closing was found
 pub closed_one : (sessions : List MemberView) (s : ℕ) (found : Option (ℕ × Close)) → s < length sessions → found ≡ option_and_then (λ (a : MemberView). a.session.closing) (slice_get sessions s)
@@ -147,22 +153,27 @@ settles b s result within refuses = subst (λ fault. RefusesOnly fault result) (
 
 abbrev table_or : TableId → OutletName → TableId
 table_or free alone = free
-table_or free (of_table table) = table
+table_or free (of_table table about) = table
+
+abbrev about_or : Subject → OutletName → Subject
+about_or free alone = free
+about_or free (of_table table about) = about
 
 -- the far end of an outlet, after one more item or none
-pub far_end : (old new : Taking (List ℕ)) (item : Option (List ℕ)) → new.got ≡ old.got ++ option_to_list item → of_table new.lane ≡ of_table old.lane
-    → new ≡ record old { got = old.got ++ option_to_list item }
+pub far_end : (old new : Taking (List ℕ)) (item : Option (List ℕ)) → new.got ≡ old.got ++ option_to_list item
+    → of_table new.lane new.about ≡ of_table old.lane old.about → new ≡ record old { got = old.got ++ option_to_list item }
 far_end old new item got name =
     let lane : new.lane ≡ old.lane = ap (table_or old.lane) name in
-    λ i. record { lane = lane i; got = got i }
+    let about : new.about ≡ old.about = ap (about_or old.about) name in
+    λ i. record { lane = lane i; about = about i; got = got i }
 
 -- ---- the lanes of a session that was admitted
 
 module _ (links : List SessionLanes) (sessions : List MemberView) (inputs : List (Taking Piece)) (admitted : AreAdmitted links sessions inputs) (s : ℕ) (lt : s < length links) where
   pub session_there : s < length sessions
   session_there =
-      let n = map_length (λ (a : MemberView). a.session.name) sessions in
-      let m = map_length (λ (l : SessionLanes). of_table l.outlet) links in
+      let n = map_length (λ (a : MemberView). table_of a.session.name) sessions in
+      let m = map_length (λ (l : SessionLanes). Some l.outlet) links in
       let same = ap length admitted.outlets in
       omega arith
 
@@ -173,13 +184,13 @@ module _ (links : List SessionLanes) (sessions : List MemberView) (inputs : List
       let same = ap length admitted.inputs_are in
       omega arith
 
-  pub outlet_named : (lane : TableId) → ((free : SessionLanes) → lane ≡ (get_or links s free).outlet) → (free : MemberView) → of_table lane ≡ (get_or sessions s free).session.name
+  pub outlet_named : (lane : TableId) → ((free : SessionLanes) → lane ≡ (get_or links s free).outlet) → (free : MemberView) → Some lane ≡ table_of (get_or sessions s free).session.name
   outlet_named lane named free =
       let link = link_of lane 0 lane in
-      ap of_table (named link)
-      ∙ sym (get_or-map (λ (l : SessionLanes). of_table l.outlet) links s link (of_table lane) lt)
-      ∙ ap (λ (l : List OutletName). get_or l s (of_table lane)) (sym admitted.outlets)
-      ∙ get_or-map (λ (a : MemberView). a.session.name) sessions s free (of_table lane) session_there
+      ap Some (named link)
+      ∙ sym (get_or-map (λ (l : SessionLanes). Some l.outlet) links s link (Some lane) lt)
+      ∙ ap (λ (l : List (Option TableId)). get_or l s (Some lane)) (sym admitted.outlets)
+      ∙ get_or-map (λ (a : MemberView). table_of a.session.name) sessions s free (Some lane) session_there
 
   pub input_named : (lane : TableId) → ((free : SessionLanes) → lane ≡ (get_or links s free).input) → (x : Taking Piece) → (get_or inputs s x).lane ≡ lane
   input_named lane named x =

@@ -24,10 +24,11 @@ use Rattle.session_runs.proofs.Zipping.{zip_both, zip_keep}
 use Rattle.hub_promise.specs.declared.ends.DeviceEnd.{DeviceEnd}
 use Rattle.hub_promise.specs.DaemonHub.{AllStop, ClosesFor, MayGoOn, SessionFits}
 use Rattle.hub_promise.specs.Given.{is_end, is_loss}
-use Rattle.hub_promise.specs.Keeping.{HubKeeps, IsClosed, Lasts, fresh_lasts}
-use Rattle.hub_promise.specs.Parts.{HubView, InletsView, Terms, parts_of}
+use Rattle.hub_promise.specs.Keeping.{HubKeeps, IsClosed, Lasts}
+use Rattle.hub_promise.specs.Parts.{HubView, Terms, parts_of}
 use Rattle.hub_promise.proofs.Lists.{zip_at, zip_length, zip_maps, zip_watched}
-use Rattle.hub_promise.proofs.Going.{line_stopped, no_table, some_line, stopped_line}
+use Rattle.hub_promise.proofs.Going.{device_now, line_stopped, no_lanes, some_line, stopped_line}
+use Rattle.hub_promise.proofs.Clients.{clients_stay, tables_stay}
 
 abbrev AllEnded : BookView → Type 0
 AllEnded book = list_all (λ (line : DeviceStateView). has_stopped line.stage) book.log.present.lines ≡ true
@@ -89,12 +90,13 @@ hub_shut terms h lasts book k held all shuts =
     let forgotten = k.over.0 in
     let log : List Entry = forgotten ++ h.book.log.log in
     let count : ℕ = length h.book.names in
-    let stop : AllStop count log = stop_there h.book forgotten k.holds k.over.1.stands all in
+    let stop : AllStop count log = stop_there h.book forgotten k.holds k.over.1.hub.opening all in
     let old = h.book.sessions in
     let new = book.sessions in
     let keeps = shut_zip count log old new stop shuts.sessions in
+    let names = zip_maps (ShutKeeps count log) (λ (a : MemberView). a.session.name) (λ a b o. o.name) old new keeps in
     subst P is (λ mine holds.
-    let accounts = shut_accounts h.book shut forgotten k.holds k.over.1.stands mine in
+    let accounts = shut_accounts h.book shut forgotten k.holds k.over.1.hub.opening mine in
     let A : MemberView → MemberView → Type 0 = λ a b. (r : SessionRun) (taken : List (List ℕ)) (bytes : List ℕ) → AccountIn h.book forgotten a r taken bytes
     → AccountIn shut forgotten b (shut_run log DaemonEnd a.session.closing r) taken bytes in
     let B : MemberView → MemberView → Type 0 = λ a b. A a b × ShutKeeps count log a b in
@@ -104,25 +106,29 @@ hub_shut terms h lasts book k held all shuts =
       terms_are = k.terms_are;
       count = k.count;
       ends_count = k.ends_count;
-      lasts_count = k.lasts_count;
+      told = k.told;
       admitted = record {
-        outlets = zip_maps (ShutKeeps count log) (λ (a : MemberView). a.session.name) (λ a b o. o.name) old new keeps ∙ k.admitted.outlets;
+        outlets = tables_stay old new names ∙ k.admitted.outlets;
         caps = zip_maps (ShutKeeps count log) (λ (a : MemberView). a.session.cap) (λ a b o. o.cap) old new keeps ∙ k.admitted.caps;
         inputs_are = k.admitted.inputs_are;
       };
       closed = λ _. all_closed count log old new keeps;
+      read = k.read;
+      clients = clients_stay terms old new h.inputs names k.clients;
       over = (
         forgotten,
         record {
-          stands = k.over.1.stands;
-          devices = k.over.1.devices;
-          sessions = zip_keep F B F
-              (λ a b x r f. record { run = shut_run log DaemonEnd a.session.closing f.run; account = r.0 f.run [] (input_bytes x.got) f.account; cause = r.1.cause x f.run f.cause })
-              old new h.inputs (zip_both A (ShutKeeps count log) B (λ a b c o. (c, o)) old new accounts keeps) k.over.1.sessions;
-          units = k.over.1.units;
-          gate = ⊎_elim
-              (λ (m : MayGoOn (parts_of h)). inl (subst (λ (n : ℕ). (h.wait ≤ n) ⊎ (h.door.done ≡ true)) (sym (zip_watched (ShutKeeps count log) (λ a b o. o.watched) old new keeps)) m))
-              (λ (e : log ≡ []). inr e) k.over.1.gate;
+          hub = record {
+            opening = k.over.1.hub.opening;
+            devices = k.over.1.hub.devices;
+            sessions = zip_keep F B F
+                (λ a b x r f. record { run = shut_run log DaemonEnd a.session.closing f.run; account = r.0 f.run [] (input_bytes x.got) f.account; cause = r.1.cause x f.run f.cause })
+                old new h.inputs (zip_both A (ShutKeeps count log) B (λ a b c o. (c, o)) old new accounts keeps) k.over.1.hub.sessions;
+            units = k.over.1.hub.units;
+            waits = ⊎_elim
+                (λ (m : MayGoOn (parts_of h)). inl (subst (λ (n : ℕ). (h.wait ≤ n) ⊎ (h.door.done ≡ true)) (sym (zip_watched (ShutKeeps count log) (λ a b o. o.watched) old new keeps)) m))
+                (λ (e : log ≡ []). inr e) k.over.1.hub.waits;
+          };
           shut = λ _. stop;
         },
       );
@@ -141,10 +147,9 @@ hub_shut terms h lasts book k held all shuts =
 pub all_stopped : (terms : Terms) (h : HubView) (lasts : List Lasts) → HubKeeps terms h lasts → list_all (λ (line : DeviceStateView). has_stopped line.stage) h.book.log.present.lines ≡ true
     → All (λ (end : Option DeviceEnd). is_some end ≡ true) h.ends
 all_stopped terms h lasts k all d end lt =
-    let x : InletsView = record { bytes = record { lane = no_table; got = [] }; edges = None } in
     let within : d < length h.book.names = let n = k.ends_count in omega arith in
-    let fits = (k.over.1.devices d x end (fresh_lasts x) within).fits in
-    stopped_end (get_or h.ends d end) ((λ i. sym fits.ended i || sym fits.lost i) ∙ stop_there h.book k.over.0 k.holds k.over.1.stands all d within)
+    let fits = device_now terms h lasts d no_lanes end k within in
+    stopped_end (get_or h.ends d end) ((λ i. sym fits.ended i || sym fits.lost i) ∙ stop_there h.book k.over.0 k.holds k.over.1.hub.opening all d within)
   where
     stopped_end : (o : Option DeviceEnd) → (is_end o || is_loss o) ≡ true → is_some o ≡ true
     stopped_end None e = absurd (cc)

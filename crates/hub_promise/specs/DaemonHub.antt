@@ -1,7 +1,7 @@
 -- What always holds of the running daemon: of its book, the lanes of its devices and sessions, and what each session was given, over the whole
 -- log of the run. The book keeps the last part of this log; the earlier part was forgotten.
-use Rattle.std.specs.Prelude.{◌≡◌, ◌<◌, ◌≤◌, ◌⊎◌, ℕ, Bool, true, false, List, [], ◌∷◌, ◌++◌, length, get_or, count_by, Option, Some, None}
-use Rattle.std.specs.List.{AllZip}
+use Rattle.std.specs.Prelude.{◌≡◌, ◌<◌, ◌≤◌, ◌⊎◌, ℕ, Bool, true, false, List, [], ◌∷◌, ◌++◌, length, count_by, Option, Some, None, IfSome}
+use Rattle.std.specs.List.{AllZip, range_with_len}
 use Rattle.book_log.specs.Entries.{Entry, stream, has_end, has_lost, stops_in}
 use Rattle.book_log.specs.History.{history}
 use Rattle.book_log.specs.Standing.{StandsFor}
@@ -12,8 +12,12 @@ use Rattle.book_units.specs.Samples.{samples_of}
 use Rattle.book_units.specs.Units.{UnitView, all_of}
 use Rattle.device_core.specs.Stream.{bytes_in, edges_in}
 use Rattle.gps_lane.specs.Ends.{Taking}
+use Rattle.gps_lane.specs.Lane.{BeginsWith}
 use Rattle.gps_command.specs.Requests.{requests}
+use Rattle.packet_cut.specs.Packets.{bytes_of}
+use Rattle.report_book.specs.BookView.{BookView}
 use Rattle.serve_pieces.specs.Carried.{input_bytes}
+use Rattle.serve_pieces.specs.EdgeLines.{all_edge_lines}
 use Rattle.serve_pieces.specs.declared.piece.Ending.{Ending}
 use Rattle.serve_pieces.specs.declared.piece.Ending.TheVariants.{End, Failed, NoMemory}
 use Rattle.serve_pieces.specs.declared.piece.Piece.{Piece}
@@ -23,77 +27,80 @@ use Rattle.session_core.specs.declared.mark.Close.TheVariants.{HungUp, ReadFault
 use Rattle.session_core.specs.SessionView.{SessionView}
 use Rattle.session_runs.specs.Accounts.{Account}
 use Rattle.session_runs.specs.Runs.{SessionRun}
-use Rattle.hub_promise.specs.declared.ends.DeviceEnd.{DeviceEnd}
-use Rattle.hub_promise.specs.Given.{edge_ending, edges_of, end_by, ending_of, got_of, is_end, is_loss, stamped_of}
-use Rattle.hub_promise.specs.Parts.{InletsView, Parts}
+use Rattle.hub_promise.specs.Given.{edge_ending, edges_of, edges_said, end_by, ending_of, got_of, is_end, is_loss, stamped_of}
+use Rattle.hub_promise.specs.Parts.{HubDevice, Parts}
 
--- The bytes of a device in the log, each with the stamp of its piece, are those got of its lane, joined, and its edges are the readable lines
--- of its edge lane. Only a piece that the book refused is excepted: it is the last one got of its lane, and the device is lost. The device has
--- ended in the log exactly if both lanes have told that their source ended and no piece was refused; it was lost exactly if it has
--- stopped otherwise.
-pub record DeviceFits (log : List Entry) (d : ℕ) (x : InletsView) (end : Option DeviceEnd) : Type 0 where
+-- The bytes of device d in the log, each with the stamp of its piece, are those received through its lane, joined, and its edges are the readable
+-- lines of its edge lane. Only a piece that the book refused is excepted: it is the last one received from its lane, and the device is lost. The
+-- device has ended in the log exactly if both lanes have told that their source ended and no piece was refused; a device without edges counts as one
+-- whose edges have ended. It was lost exactly if it has stopped otherwise.
+-- `taken` and `refused` are the pieces of bytes that the book took and refused, `lines` and `refused_lines` those of edges.
+pub record DeviceFits (log : List Entry) (d : ℕ) (x : HubDevice) : Type 0 where
   pub taken : List Piece
   pub refused : List Piece
   pub lines : List Piece
   pub refused_lines : List Piece
-  pub lane : x.bytes.got ≡ taken ++ refused
-  pub edge_lane : got_of x.edges ≡ lines ++ refused_lines
+  pub lane : x.lanes.bytes.got ≡ taken ++ refused
+  pub edge_lane : got_of x.lanes.edges ≡ lines ++ refused_lines
   pub few : length (refused ++ refused_lines) ≤ 1
   pub bytes : bytes_in (stream d log) ≡ stamped_of taken
   pub edges : edges_in (stream d log) ≡ edges_of lines
-  pub ends : end ≡ end_by (refused ++ refused_lines) (ending_of taken) (edge_ending x.edges lines)
-  pub ended : has_end d log ≡ is_end end
-  pub lost : has_lost d log ≡ is_loss end
+  pub ends : x.end ≡ end_by (refused ++ refused_lines) (ending_of taken) (edge_ending x.lanes.edges lines)
+  pub ended : has_end d log ≡ is_end x.end
+  pub lost : has_lost d log ≡ is_loss x.end
 
 -- each of the first n devices has ended or was lost
 abbrev pub AllStop : ℕ → List Entry → Type 0
 AllStop count log = (d : ℕ) → d < count → stops_in d log ≡ true
 
--- The last piece that was got of its lane tells that its source ended so, and each request of what was got is answered.
+-- The last piece that was received from its lane tells that its source ended so, and each request of what was received is answered.
 pub record HeardOut (ending : Ending) (x : Taking Piece) (s : SessionView) : Type 0 where
   pub before : List Piece
   pub told : x.got ≡ before ++ Last ending ∷ []
   pub answered : s.requests ≡ length (requests (input_bytes x.got))
 
--- a piece for which a session may be closed out of memory: one with bytes of requests, or the last one of a reader that was out of memory
-abbrev pub MayLackMemory : Piece → Type 0
-MayLackMemory (Bytes at bytes) = ⊥
-MayLackMemory (Line line) = ⊥
-MayLackMemory (Input bytes) = Unit {0}
-MayLackMemory (Last End) = ⊥
-MayLackMemory (Last Failed) = ⊥
-MayLackMemory (Last NoMemory) = Unit {0}
+-- a piece at which a session may be closed because it is out of memory: one with bytes of requests, or the last one of a reader that was out of memory
+abbrev pub MayBeOutOfMemory : Piece → Type 0
+MayBeOutOfMemory (Bytes at bytes) = ⊥
+MayBeOutOfMemory (Line line) = ⊥
+MayBeOutOfMemory (Input bytes) = Unit {0}
+MayBeOutOfMemory (Last End) = ⊥
+MayBeOutOfMemory (Last Failed) = ⊥
+MayBeOutOfMemory (Last NoMemory) = Unit {0}
 
--- The requests of what was got before some piece are answered, and none that ends in that piece or later: it was the last one that the book was given.
-pub record CutShort (x : Taking Piece) (s : SessionView) : Type 0 where
+-- The requests of what was received before some piece are answered, and none that ends in that piece or later: it was the last one that the book
+-- was given.
+pub record ClosedOutOfMemory (x : Taking Piece) (s : SessionView) : Type 0 where
   pub before : List Piece
   pub piece : Piece
   pub later : List Piece
   pub got : x.got ≡ before ++ piece ∷ later
-  pub lacks : MayLackMemory piece
+  pub lacks : MayBeOutOfMemory piece
   pub answered : s.requests ≡ length (requests (input_bytes before))
 
--- What a closing at this place of the whole history rests on: its client was heard out; each device has stopped, and no report came after the
--- closing; all requests that may be answered are answered, and one more was got; its outlet was full; or it was cut short out of memory.
+-- Why a session may be closed at this place of the whole history: its client was heard out; each device has stopped, and no report came after the
+-- closing; all requests that may be answered are answered, and one more was received; its outlet was given at least as many items as may wait in it
+-- (in all: it is not said that they waited at one time); or it was cut short because it was out of memory. The cause holds of what the hub has now.
 abbrev pub MayClose : ℕ → List Entry → Taking Piece → SessionView → ℕ → Close → Type 0
 MayClose count log x s place HungUp = HeardOut End x s
 MayClose count log x s place ReadFault = HeardOut Failed x s
 MayClose count log x s place DaemonEnd = AllStop count log × (place ≡ length (history log))
 MayClose count log x s place TooManyRequests = (s.requests ≡ most_requests) × (most_requests < length (requests (input_bytes x.got)))
 MayClose count log x s place Overrun = s.cap ≤ length s.kept
-MayClose count log x s place CloseNoMemory = CutShort x s
+MayClose count log x s place CloseNoMemory = ClosedOutOfMemory x s
 
 abbrev pub ClosesFor : ℕ → List Entry → Taking Piece → SessionView → Option (ℕ × Close) → Type 0
 ClosesFor count log x s None = Unit {0}
 ClosesFor count log x s (Some closing) = MayClose count log x s closing.0 closing.1
 
--- A session has a run over the whole log: its stretches, of which the book keeps the last, and the place of its closing. What its outlet was
--- given is the items of this run. Its first stretch is the opening, and stretch k answers request k of what was got of its input lane, by what
--- was known when it was answered. A request without an answer stands behind all answered ones, in a session that is closed. Its closing has a cause.
-pub record SessionFits (names : List (List ℕ)) (before log : List Entry) (a : MemberView) (x : Taking Piece) : Type 0 where
+-- A session has a run over the whole log: its stretches (the book keeps the last of them), and the place of its closing. What its outlet was
+-- given is the items of this run. Its first stretch begins with the greeting, and stretch k answers request k of what was received from its input lane,
+-- by what was known when it was answered. A request without an answer comes after all answered ones, in a session that is closed. Its closing has a
+-- cause. The whole log is `forgotten ++ recent`. A lane keeps all that was put into it, so no item counts as taken (`[]`).
+pub record SessionFits (names : List (List ℕ)) (forgotten recent : List Entry) (a : MemberView) (x : Taking Piece) : Type 0 where
   pub run : SessionRun
-  pub account : Account names before log a run [] (input_bytes x.got)
-  pub cause : ClosesFor (length names) (before ++ log) x a.session run.closing
+  pub account : Account names forgotten recent a run [] (input_bytes x.got)
+  pub cause : ClosesFor (length names) (forgotten ++ recent) x a.session run.closing
 
 -- a unit's samples: the published ones, the one that is begun and not published, and the waiting ones
 abbrev pub UnitFits : List Entry → ℕ → UnitView → Type 0
@@ -103,16 +110,34 @@ UnitFits log u x = all_of x ≡ samples_of u (history log)
 abbrev pub MayGoOn : Parts → Type 0
 MayGoOn p = (p.wait ≤ count_by was_watched p.book.sessions) ⊎ (p.done ≡ true)
 
--- over a log that was forgotten
-pub record DaemonHubOver (forgotten : List Entry) (p : Parts) : Type 0 where
-  pub stands : StandsFor p.book.log.opening forgotten
-  pub count : length p.inlets ≡ length p.book.names
-  pub ends_count : length p.ends ≡ length p.book.names
-  pub devices : (d : ℕ) (x : InletsView) (end : Option DeviceEnd) → d < length p.book.names
-      → DeviceFits (forgotten ++ p.book.log.log) d (get_or p.inlets d x) (get_or p.ends d end)
-  pub sessions : AllZip (SessionFits p.book.names forgotten p.book.log.log) p.book.sessions p.inputs
-  pub units : (u : ℕ) (x : UnitView) → u < length p.book.units → UnitFits (forgotten ++ p.book.log.log) u (get_or p.book.units u x)
-  pub gate : MayGoOn p ⊎ (forgotten ++ p.book.log.log ≡ [])
+-- 0, 1 and so on: the number of each item of a list
+abbrev pub numbers_of : {X : Type 0} → List X → List ℕ
+numbers_of xs = range_with_len 0 (length xs)
 
+-- the log of the whole run: what was forgotten of it, and what the book keeps
+abbrev pub whole_log : List Entry → BookView → List Entry
+whole_log forgotten book = forgotten ++ book.log.log
+
+-- If the book has forgotten these entries: it has a summary of them (`opening`), and each device, session and unit fits the log of the whole run.
+-- There is one device for each name of the book, and they have its numbers. While devices wait, the log is empty.
+pub record DaemonHubOver (forgotten : List Entry) (p : Parts) : Type 0 where
+  pub opening : StandsFor p.book.log.opening forgotten
+  pub devices : AllZip (DeviceFits (whole_log forgotten p.book)) (numbers_of p.book.names) p.devices
+  pub sessions : AllZip (SessionFits p.book.names forgotten p.book.log.log) p.book.sessions p.inputs
+  pub units : AllZip (UnitFits (whole_log forgotten p.book)) (numbers_of p.book.units) p.book.units
+  pub waits : MayGoOn p ⊎ (whole_log forgotten p.book ≡ [])
+
+-- The bytes of device d in the log are a prefix of what its source holds, and its edges are a prefix of those of the lines that its source of
+-- edges holds; each if it is told what the source holds.
+pub record LogIsRead (log : List Entry) (d : ℕ) (x : HubDevice) : Type 0 where
+  pub bytes : IfSome x.lanes.bytes.about.source (λ (held : List ℕ). BeginsWith (bytes_of (bytes_in (stream d log))) held)
+  pub edges : IfSome x.lanes.edges (λ (lane : Taking Piece). IfSome lane.about.source (λ (held : List ℕ).
+      BeginsWith (edges_in (stream d log)) (edges_said (all_edge_lines held))))
+
+-- the same of each device
+abbrev pub LogsAreRead : List Entry → Parts → Type 0
+LogsAreRead forgotten p = AllZip (LogIsRead (whole_log forgotten p.book)) (numbers_of p.book.names) p.devices
+
+-- The book has forgotten some entries, perhaps none. The log has only what the sources of the devices held, in order.
 abbrev pub DaemonHub : Parts → Type 0
-DaemonHub p = (forgotten : List Entry) × DaemonHubOver forgotten p
+DaemonHub p = (forgotten : List Entry) × DaemonHubOver forgotten p × LogsAreRead forgotten p

@@ -29,6 +29,10 @@ edges_by (Line line) = option_to_list (edge_in line)
 edges_by (Input bytes) = []
 edges_by (Last ending) = []
 
+-- the edges of the readable ones of these lines
+abbrev pub edges_said : List (List ℕ) → List Edge
+edges_said lines = flat_map (λ line. option_to_list (edge_in line)) lines
+
 abbrev pub ending_in : Piece → Option Ending
 ending_in (Bytes at bytes) = None
 ending_in (Line line) = None
@@ -45,11 +49,11 @@ edges_of pieces = flat_map edges_by pieces
 abbrev pub ending_of : List Piece → Option Ending
 ending_of pieces = last_of ending_in pieces
 
--- nothing was put behind the piece that tells how the source ended
+-- nothing was put after the piece that tells how the source ended
 abbrev pub TellsOnce : List Piece → Type 0
 TellsOnce put = (first rest : List Piece) → put ≡ first ++ rest → is_some (ending_of first) ≡ true → rest ≡ []
 
--- what was got of an edge lane, if there is one
+-- what was received from an edge lane, if there is one
 abbrev pub got_of : Option (Taking Piece) → List Piece
 got_of None = []
 got_of (Some x) = x.got
@@ -59,7 +63,7 @@ abbrev pub edge_ending : Option (Taking Piece) → List Piece → Option Ending
 edge_ending None pieces = Some End
 edge_ending (Some x) pieces = ending_of pieces
 
--- how a device ends whose two sources ended so
+-- how a device ends, if its two sources ended so
 abbrev pub end_of : Ending → Ending → DeviceEnd
 end_of NoMemory other = LostNoMemory
 end_of End End = Ended
@@ -88,7 +92,7 @@ is_loss (Some Ended) = false
 is_loss (Some ReadFault) = true
 is_loss (Some LostNoMemory) = true
 
--- why a session is hung up whose source ended so
+-- why a session is hung up, if its source ended so
 abbrev pub why_of : Ending → Close
 why_of End = HungUp
 why_of Failed = CloseReadFault

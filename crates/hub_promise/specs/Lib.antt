@@ -3,3 +3,4 @@ pub mod Given
 pub mod DaemonHub
 pub mod Keeping
 pub mod Steps
+pub mod Giving

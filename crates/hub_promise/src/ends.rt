@@ -3,8 +3,8 @@
 pub enum DeviceEnd {
     /// Its sources ended, and it was given all of them.
     Ended,
-    /// It was lost, since a source of it failed.
+    /// It was lost, because a source of it failed.
     ReadFault,
-    /// It was lost, since the book or a reader of it was out of memory.
+    /// It was lost, because the book or a reader of it was out of memory.
     NoMemory,
 }

@@ -28,9 +28,11 @@ returns-in-Ok-clause-step g c = λ x.
 pub returns-in-Err-clause-step : goal.returns-in-Err-clause-step
 returns-in-Err-clause-step g c = λ x.
     let piece = Last c.args.ending in
-    let P : BookView × Option DeviceEnd × Option DeviceEnd → Type 0 = λ t. DeviceStep c.args.d t.0 c.refuse.new.book x (with_bytes piece x) t.1 t.2 c.args.lasts.now c.args.lasts.now in
+    let edges = ap (λ (l : Lasts). l.edges) c.lasts.view_is in
+    let next : Lasts = record { bytes = Some c.args.ending; edges = c.lasts.inside.edges } in
+    let P : BookView × Option DeviceEnd × Option DeviceEnd → Type 0 = λ t. DeviceStep c.args.d t.0 c.refuse.new.book x (with_bytes piece x) t.1 t.2 c.args.lasts.now next in
     subst P (λ i. (c.in-Err.ensures.unchanged i, sym c.requires.going i, sym c.refuse.ensures.end i))
-    (bytes_refused_step c.stop.new.book c.refuse.new.book c.args.d piece x c.args.lasts.now c.refuse.ensures.lost c.refuse.ensures.earns)
+    (bytes_refused_step c.stop.new.book c.refuse.new.book c.args.d piece x c.args.lasts.now next c.refuse.ensures.lost c.refuse.ensures.earns refl edges)
 
 pub returns-in-Ok-clause-answer : goal.returns-in-Ok-clause-answer
 returns-in-Ok-clause-answer g c =

@@ -19,6 +19,9 @@ use Rattle.gps_hub.specs.Pumping.{edge_entries}
 use Rattle.gps_hub.proofs.Told.{refused_line}
 use Rattle.gps_hub.proofs.device.edge.Goals as goal
 
+pub edge-requires : goal.edge-requires
+edge-requires g c = record { may = c.requires.may }
+
 pub returns-in-Ok-clause-step : goal.returns-in-Ok-clause-step
 returns-in-Ok-clause-step g c = λ line x lane lasts reads there.
     let P : Option DeviceEnd → Type 0 = λ e. DeviceStep c.args.d c.args.book.now c.edge.new.self x (with_edge (Line line) x) e e lasts lasts in
@@ -29,7 +32,7 @@ pub returns-in-Err-clause-step : goal.returns-in-Err-clause-step
 returns-in-Err-clause-step g c = λ line x lane lasts reads there.
     let P : BookView × Option DeviceEnd × Option DeviceEnd → Type 0 = λ t. DeviceStep c.args.d t.0 c.refuse.new.book x (with_edge (Line line) x) t.1 t.2 lasts lasts in
     subst P (λ i. (c.in-Err.ensures.unchanged i, sym c.requires.going i, sym c.refuse.ensures.end i))
-    (edges_refused_step c.edge.new.self c.refuse.new.book c.args.d (Line line) x lane lasts there c.refuse.ensures.lost c.refuse.ensures.earns)
+    (edges_refused_step c.edge.new.self c.refuse.new.book c.args.d (Line line) x lane lasts lasts there c.refuse.ensures.lost c.refuse.ensures.earns refl refl)
 
 pub returns-in-Ok-clause-answer : goal.returns-in-Ok-clause-answer
 returns-in-Ok-clause-answer g c = λ line lasts reads. (

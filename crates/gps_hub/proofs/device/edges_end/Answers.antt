@@ -28,9 +28,11 @@ returns-in-Ok-clause-step g c = λ x lane there.
 pub returns-in-Err-clause-step : goal.returns-in-Err-clause-step
 returns-in-Err-clause-step g c = λ x lane there.
     let piece = Last c.args.ending in
-    let P : BookView × Option DeviceEnd × Option DeviceEnd → Type 0 = λ t. DeviceStep c.args.d t.0 c.refuse.new.book x (with_edge piece x) t.1 t.2 c.args.lasts.now c.args.lasts.now in
+    let bytes = ap (λ (l : Lasts). l.bytes) c.lasts.view_is in
+    let next : Lasts = record { bytes = c.lasts.inside.bytes; edges = Some c.args.ending } in
+    let P : BookView × Option DeviceEnd × Option DeviceEnd → Type 0 = λ t. DeviceStep c.args.d t.0 c.refuse.new.book x (with_edge piece x) t.1 t.2 c.args.lasts.now next in
     subst P (λ i. (c.in-Err.ensures.unchanged i, sym c.requires.going i, sym c.refuse.ensures.end i))
-    (edges_refused_step c.stop.new.book c.refuse.new.book c.args.d piece x lane c.args.lasts.now there c.refuse.ensures.lost c.refuse.ensures.earns)
+    (edges_refused_step c.stop.new.book c.refuse.new.book c.args.d piece x lane c.args.lasts.now next there c.refuse.ensures.lost c.refuse.ensures.earns bytes refl)
 
 pub returns-in-Ok-clause-answer : goal.returns-in-Ok-clause-answer
 returns-in-Ok-clause-answer g c =

@@ -6,7 +6,7 @@ use Rattle.serve_pieces.specs.declared.piece.Piece.TheVariants.{Bytes, Line, Inp
 use Rattle.gps_lane.specs.Ends.{Taking}
 use Rattle.report_book.specs.BookView.{BookView}
 use Rattle.book_log.specs.DeviceLogView.{turns_at}
-use Rattle.book_log.specs.Entries.{lost}
+use Rattle.book_log.specs.Entries.{lost, fed}
 use Rattle.pps_edges.specs.Scan.{edge_in}
 use Rattle.hub_promise.specs.Given.{end_by}
 use Rattle.hub_promise.specs.Keeping.{Lasts}
@@ -17,6 +17,12 @@ use Rattle.hub_promise.proofs.Arms.{fed_step, bytes_refused_step, bytes_last_ste
 use Rattle.book_log.specs.Entries.{fed}
 use Rattle.gps_hub.proofs.Told.{refused_bytes}
 use Rattle.gps_hub.proofs.device.feed.Goals as goal
+use Rattle.gps_lane.specs.Lane.{MayKeep}
+use Rattle.report_book.specs.Allowing.{MayAdd}
+
+pub feed-requires-clause-may : goal.feed-requires-clause-may
+feed-requires-clause-may g c =
+    subst (λ (b : List ℕ). MayAdd MayKeep c.args.d (fed c.args.d c.args.at b) c.args.book.now) (sym c.as_slice.ensures.bytes) c.requires.may
 
 pub returns-in-Ok-clause-step : goal.returns-in-Ok-clause-step
 returns-in-Ok-clause-step g c = λ x lasts.
@@ -29,7 +35,7 @@ returns-in-Err-clause-step g c = λ x lasts.
     let piece = Bytes c.args.at c.args.bytes.now in
     let P : BookView × Option DeviceEnd × Option DeviceEnd → Type 0 = λ t. DeviceStep c.args.d t.0 c.refuse.new.book x (with_bytes piece x) t.1 t.2 lasts lasts in
     subst P (λ i. (c.in-Err.ensures.unchanged i, sym c.requires.going i, sym c.refuse.ensures.end i))
-    (bytes_refused_step c.feed.new.self c.refuse.new.book c.args.d piece x lasts c.refuse.ensures.lost c.refuse.ensures.earns)
+    (bytes_refused_step c.feed.new.self c.refuse.new.book c.args.d piece x lasts lasts c.refuse.ensures.lost c.refuse.ensures.earns refl refl)
 
 pub returns-in-Ok-clause-answer : goal.returns-in-Ok-clause-answer
 returns-in-Ok-clause-answer g c = λ lasts.

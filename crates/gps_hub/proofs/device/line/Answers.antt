@@ -25,3 +25,6 @@ returns-in-None-clause-step g c = λ x lane lasts there.
 pub returns-in-None-clause-answer : goal.returns-in-None-clause-answer
 returns-in-None-clause-answer g c = λ lasts.
     (subst (λ o. MovesOn c.args.book.now c.args.book.now (edge_entries c.args.d o)) c.in-None.ensures (inl (refl, refl)), c.requires.going)
+
+pub edge-requires-clause-may : goal.edge-requires-clause-may
+edge-requires-clause-may g c = c.requires.may.edge _ _ refl c.in-Some.ensures

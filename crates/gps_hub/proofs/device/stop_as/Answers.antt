@@ -16,6 +16,9 @@ use Rattle.hub_promise.proofs.Forward.{moves_onward, quiet_onward}
 use Rattle.hub_promise.proofs.Arms.{fed_step, bytes_refused_step, bytes_last_step, bytes_useless_step, edged_step, edges_refused_step, edges_last_step, edges_useless_step, nothing_step}
 use Rattle.gps_hub.proofs.device.stop_as.Goals as goal
 
+pub end_device-requires : goal.end_device-requires
+end_device-requires g c = record { may = c.requires.may }
+
 pub returns-in-ReadFault : goal.returns-in-ReadFault
 returns-in-ReadFault g c =
     let P : DeviceEnd → Type 0 = λ e. MovesOn c.args.book.now c.lose.new.book (stop_entries c.args.d (Some e)) in

@@ -45,3 +45,9 @@ returns-in-Line-clause-answer g c =
 pub returns-clause-answer : goal.returns-clause-answer
 returns-clause-answer g c =
     subst (λ (p : Piece). TookBytes Fed c.args.d p c.args.lasts.now c.args.end.now c.args.book.now c.args.book.now) (sym c.in-Input.is) (inl (refl, refl), c.requires.going)
+
+pub feed-requires-clause-may : goal.feed-requires-clause-may
+feed-requires-clause-may g c = c.requires.may.bytes _ _ c.in-Bytes.is
+
+pub bytes_end-requires-clause-may : goal.bytes_end-requires-clause-may
+bytes_end-requires-clause-may g c = c.requires.may.end

@@ -17,6 +17,7 @@ use Rattle.hub_promise.proofs.Arms.{fed_step, bytes_refused_step, bytes_last_ste
 use Rattle.gps_hub.specs.Pumping.{TookLine}
 use Rattle.gps_hub.specs.declared.pumped.Pumped.TheVariants.{Fed}
 use Rattle.gps_hub.proofs.device.take_edge.Goals as goal
+use Rattle.hub_promise.specs.Giving.{MayGiveEdge}
 
 pub returns-in-Bytes-clause-step : goal.returns-in-Bytes-clause-step
 returns-in-Bytes-clause-step g c = λ x lane there.
@@ -50,3 +51,9 @@ pub returns-in-Last-clause-step : goal.returns-in-Last-clause-step
 returns-in-Last-clause-step g c = λ x lane there.
     subst (λ (p : Piece). DeviceStep c.args.d c.args.book.now c.edges_end.new.book x (with_edge p x) c.args.end.now c.edges_end.new.end c.args.lasts.now c.edges_end.new.lasts) (sym c.in-Last.is)
     (c.edges_end.ensures.step x lane there)
+
+pub line-requires-clause-may : goal.line-requires-clause-may
+line-requires-clause-may g c = subst (λ (p : Piece). MayGiveEdge c.args.d p c.args.book.now) c.in-Line.is c.requires.may
+
+pub edges_end-requires-clause-may : goal.edges_end-requires-clause-may
+edges_end-requires-clause-may g c = c.requires.may.end

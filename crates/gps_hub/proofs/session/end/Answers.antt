@@ -9,7 +9,7 @@ use Rattle.gps_hub.proofs.session.end.Goals as goal
 pub returns-clause-step : goal.returns-clause-step
 returns-clause-step g c = λ x.
     let P : Close → Type 0 = λ w. HangsUp c.args.s w c.args.book.now c.hang_up.new.book in
-    hung_step c.args.book.now c.hang_up.new.book c.args.s (why_of c.args.ending) (Last c.args.ending) x c.show.ensures.holds c.requires.open_one (may_end c.args.ending x) (subst P c.why.ensures.why c.hang_up.ensures)
+    hung_step c.args.book.now c.hang_up.new.book c.args.s (why_of c.args.ending) (Last c.args.ending) x c.show.ensures.holds c.requires.within c.requires.open_one (may_end c.args.ending x) (subst P c.why.ensures.why c.hang_up.ensures)
 
 pub returns-clause-hangs_up : goal.returns-clause-hangs_up
 returns-clause-hangs_up g c =

@@ -46,3 +46,6 @@ pub returns-in-Last-clause-answer : goal.returns-in-Last-clause-answer
 returns-in-Last-clause-answer g c =
     let P : Piece → Type 0 = λ p. TookInput Fed p c.args.s c.args.book.now c.end.new.book in
     subst P (sym c.in-Last.is) c.end.ensures.hangs_up
+
+pub hear-requires-clause-may : goal.hear-requires-clause-may
+hear-requires-clause-may g c = c.requires.may _ c.in-Input.is

@@ -9,11 +9,21 @@ use Rattle.hub_promise.specs.Parts.{HubView}
 use Rattle.gps_hub.specs.Admitting.{AdmitsAs, IsCrowded, RefusesLink}
 use Rattle.gps_hub.proofs.Opening.{crowded, fault_of, numbered, not_refused, opened_keeps, refuses_again, shut_ended}
 use Rattle.gps_hub.proofs.hub.Hub.admit_link.Goals as goal
+use Rattle.hub_promise.proofs.Allowing.{hub_may_open}
+use Rattle.hub_promise.specs.Giving.{MayOpen}
+use Rattle.report_book.specs.Moves.{Admits}
+use Rattle.session_core.specs.Naming.{of_table}
+use Rattle.session_core.specs.declared.subject.Subject.{Subject}
 
 pub open-requires-clause-ended : goal.open-requires-clause-ended
 open-requires-clause-ended g c = λ is.
     let h : HubView = record { book = c.self.inside.book; inlets = c.self.inside.inlets.items; ends = c.self.inside.ends.items; inputs = c.self.inside.inputs.items; door = c.self.inside.keeper; wait = c.self.inside.wait; is_shut = c.self.inside.is_shut } in
     shut_ended g.J.HubNaming.terms h c.self.inside.lasts.items c.self.invariant.0 is
+
+pub open-requires-clause-may : goal.open-requires-clause-may
+open-requires-clause-may g c =
+    let h : HubView = record { book = c.self.inside.book; inlets = c.self.inside.inlets.items; ends = c.self.inside.ends.items; inputs = c.self.inside.inputs.items; door = c.self.inside.keeper; wait = c.self.inside.wait; is_shut = c.self.inside.is_shut } in
+    subst (MayOpen c.args.outlet.lane) (sym c.requires.about) (hub_may_open g.J.HubNaming.terms h c.self.inside.lasts.items c.args.input.about.source c.args.outlet.lane c.self.invariant.0)
 
 pub push_reserved-requires : goal.push_reserved-requires
 push_reserved-requires g c = c.in-Ok.ensures.room
@@ -27,7 +37,7 @@ invariant_of-self-in-Ok-open g c =
     c.admit.ensures.keeper ∙ (λ i. admitting (link_of (c.of.ensures i).lane (c.of.ensures i).cap (c.of-2.ensures i).lane) c.self.inside.keeper) in
     let P : List (Taking Piece) × Admissions → Type 0 = λ t. HubKeeps g.J.HubNaming.terms (record h { book = c.open.new.book; inputs = t.0; door = t.1 }) c.self.inside.lasts.items in (
       subst P (λ i. (sym inputs i, sym door i))
-          (opened_keeps g.J.HubNaming.terms h c.self.inside.lasts.items admits.0 c.open.new.book c.args.outlet.lane c.args.outlet.cap c.args.input c.self.invariant.0 admits.1 c.show.ensures.holds admits.2 admits.3 c.requires.input),
+          (opened_keeps g.J.HubNaming.terms h c.self.inside.lasts.items admits.0 c.open.new.book c.args.outlet.lane c.args.outlet.cap c.args.input c.self.invariant.0 admits.1 c.show.ensures.holds (subst (λ (about : Subject). Admits (of_table c.args.outlet.lane about) c.args.outlet.cap c.self.inside.book admits.0) c.requires.about admits.2) admits.3 c.requires.input),
       c.self.invariant.1 ∙ sym (ap (λ (a : Admissions). a.done) door),
     )
 
@@ -46,14 +56,17 @@ returns-in-Err-clause-refusal g c =
 
 pub returns-in_default-clause-crowded : goal.returns-in_default-clause-crowded
 returns-in_default-clause-crowded g c =
-    let count = numbered c.self.inside.keeper.links c.self.inside.book.sessions c.self.inside.inputs.items c.self.invariant.0.admitted
-    ∙ ap (λ (a : Admissions). length a.links) c.agree.ensures.same in
-    subst (λ fault. IsCrowded fault (length c.args.door.now.links)) (sym c.refusal_of-fault.ensures) (crowded c.self.inside.book (length c.args.door.now.links) count)
+    subst (λ (v : HubView). IsCrowded c.refusal_of-fault.result v.book) c.self.view_is
+    (subst (λ fault. IsCrowded fault c.self.inside.book) (sym c.refusal_of-fault.ensures) (crowded c.self.inside.book))
 
 pub returns-in-Err-clause-crowded : goal.returns-in-Err-clause-crowded
 returns-in-Err-clause-crowded g c =
-    let count = numbered c.self.inside.keeper.links c.self.inside.book.sessions c.self.inside.inputs.items c.self.invariant.0.admitted
-    ∙ ap (λ (a : Admissions). length a.links) c.agree-in-Err.ensures.same in
-    subst (λ fault. IsCrowded fault (length c.args.door.now.links))
-    (sym (fault_of _ _ (crowd_fault c.self.inside.book) c.in-Err.outlet c.in-Err.fault c.in-Err.ensures.refusal))
-    (crowded c.self.inside.book (length c.args.door.now.links) count)
+    subst (λ (v : HubView). IsCrowded c.in-Err.fault v.book) c.self.view_is
+    (subst (λ fault. IsCrowded fault c.self.inside.book)
+    (sym (fault_of _ _ (crowd_fault c.self.inside.book) c.in-Err.outlet c.in-Err.fault c.in-Err.ensures.refusal)) (crowded c.self.inside.book))
+
+pub returns-in-Ok-open-clause-admits : goal.returns-in-Ok-open-clause-admits
+returns-in-Ok-open-clause-admits g c =
+    let admits = c.in-Ok-open.ensures.admits in
+    let P : HubView → Type 0 = λ v. AdmitsAs (link_of c.args.outlet.lane c.args.outlet.cap c.args.input.lane) v.is_shut v.book c.open.new.book in
+    subst P c.self.view_is (c.args.outlet.about, admits.0, admits.2, admits.3)

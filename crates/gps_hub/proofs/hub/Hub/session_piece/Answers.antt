@@ -1,4 +1,4 @@
-use Rattle.std.proofs.Common.{◌≡◌, ◌<◌, ℕ, List, Option, Some, None, get_or, set, length, sym, ap, ◌∙◌, subst, arith}
+use Rattle.std.proofs.Common.{◌≡◌, ◌<◌, ℕ, List, Option, Some, None, get_or, set, length, refl, sym, ap, ◌∙◌, subst, arith}
 use Rattle.gps_lane.specs.Ends.{Taking}
 use Rattle.hub_promise.specs.DaemonHub.{SessionFits}
 use Rattle.hub_promise.specs.Keeping.{HubKeeps, Lasts}
@@ -6,11 +6,12 @@ use Rattle.hub_promise.specs.Parts.{HubView, InletsView, Terms, parts_of}
 use Rattle.hub_promise.proofs.Going.{open_at, session_free}
 use Rattle.hub_promise.proofs.Hubs.{hub_session}
 use Rattle.hub_promise.proofs.Lists.{zip_length}
-use Rattle.gps_hub.specs.Pumping.{KeepsOtherInputs, SessionPumped}
+use Rattle.gps_hub.specs.Pumping.{IsClosedAt, KeepsOtherInputs, SessionPumped}
 use Rattle.std.specs.Prelude.{option_and_then, slice_get}
 use Rattle.book_sessions.specs.MemberView.{MemberView}
-use Rattle.gps_hub.proofs.Pumps.{none_of, other_inputs, session_pumped}
+use Rattle.gps_hub.proofs.Pumps.{closed_there, inputs_stay, none_of, other_inputs, session_pumped}
 use Rattle.gps_hub.proofs.hub.Hub.session_piece.Goals as goal
+use Rattle.hub_promise.proofs.Allowing.{hub_may_hear}
 
 module _ (g : _) (c : goal.After-index_mut g) where
   abbrev seen : HubView
@@ -23,7 +24,7 @@ module _ (g : _) (c : goal.After-index_mut g) where
   within =
       let lt = held in
       let k = c.self.invariant.0.over in
-      let n = zip_length (SessionFits c.self.inside.book.names k.0 c.self.inside.book.log.log) c.self.inside.book.sessions c.self.inside.inputs.items k.1.sessions in
+      let n = zip_length (SessionFits c.self.inside.book.names k.0 c.self.inside.book.log.log) c.self.inside.book.sessions c.self.inside.inputs.items k.1.hub.sessions in
       omega arith
 
   not_closed : option_and_then (λ (a : MemberView). a.session.closing) (slice_get c.self.inside.book.sessions c.args.s) ≡ None
@@ -40,7 +41,7 @@ module _ (g : _) (c : goal.After-show g) where
   within_after =
       let lt = held_after in
       let k = c.self.invariant.0.over in
-      let n = zip_length (SessionFits c.self.inside.book.names k.0 c.self.inside.book.log.log) c.self.inside.book.sessions c.self.inside.inputs.items k.1.sessions in
+      let n = zip_length (SessionFits c.self.inside.book.names k.0 c.self.inside.book.log.log) c.self.inside.book.sessions c.self.inside.inputs.items k.1.hub.sessions in
       omega arith
 
   not_closed_after : option_and_then (λ (a : MemberView). a.session.closing) (slice_get c.self.inside.book.sessions c.args.s) ≡ None
@@ -55,10 +56,14 @@ pump-pumped-requires-clause-within g c = within g c
 pub pump-pumped-requires-clause-open_one : goal.pump-pumped-requires-clause-open_one
 pump-pumped-requires-clause-open_one g c = open_at c.self.inside.book.sessions c.args.s (within g c) (not_closed g c)
 
+pub pump-pumped-requires-clause-may : goal.pump-pumped-requires-clause-may
+pump-pumped-requires-clause-may g c =
+    hub_may_hear g.J.HubNaming.terms (seen g c) c.self.inside.lasts.items c.args.s c.index_mut.result.now c.self.invariant.0 (within g c) (sym c.index_mut.ensures.value)
+
 pub invariant_of-self : goal.invariant_of-self
 invariant_of-self g c =
     let new = c.pump-pumped.new in (
-      hub_session g.J.HubNaming.terms (seen_after g c) c.self.inside.lasts.items c.args.s new.book c.index_mut.result.now new.input c.self.invariant.0 (within_after g c) (sym c.index_mut.ensures.value) c.show.ensures.holds c.pump-pumped.ensures.step,
+      hub_session g.J.HubNaming.terms (seen_after g c) c.self.inside.lasts.items c.args.s new.book c.index_mut.result.now new.input c.self.invariant.0 (within_after g c) (sym c.index_mut.ensures.value) c.show.ensures.holds c.pump-pumped.ensures.about c.pump-pumped.ensures.heard c.pump-pumped.ensures.step,
       c.self.invariant.1,
     )
 
@@ -77,3 +82,10 @@ returns-clause-others g c =
     let P : HubView → Type 0 = λ v. KeepsOtherInputs c.args.s v (record h { book = new.book; inputs = set c.self.inside.inputs.items c.args.s new.input }) in
     subst P c.self.view_is
     (other_inputs h c.args.s new.book c.index_mut.result.now new.input (held_after g c) (within_after g c) (sym c.index_mut.ensures.value))
+
+pub returns-then-is_some-clause-pumped : goal.returns-then-is_some-clause-pumped
+returns-then-is_some-clause-pumped g c =
+    (subst (λ (v : HubView). IsClosedAt v c.args.s) c.self.view_is (closed_there c.self.inside.book.sessions c.args.s c.closing.result c.closing.ensures (sym c.if-is_some.ensures)), refl)
+
+pub returns-then-is_some-clause-others : goal.returns-then-is_some-clause-others
+returns-then-is_some-clause-others g c = inputs_stay _ _ _ refl

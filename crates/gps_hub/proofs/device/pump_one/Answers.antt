@@ -9,14 +9,14 @@ use Rattle.book_log.specs.DeviceLogView.{turns_at}
 use Rattle.book_log.specs.Entries.{lost}
 use Rattle.pps_edges.specs.Scan.{edge_in}
 use Rattle.hub_promise.specs.Given.{end_by}
-use Rattle.hub_promise.specs.Keeping.{Lasts}
+use Rattle.hub_promise.specs.Keeping.{Lasts, LaneIsRead}
 use Rattle.hub_promise.specs.Parts.{InletsView}
 use Rattle.hub_promise.specs.Steps.{DeviceStep, MovesOn, stop_entries, with_bytes, with_edge}
 use Rattle.hub_promise.proofs.Forward.{moves_onward, quiet_onward}
 use Rattle.hub_promise.proofs.Arms.{fed_step, bytes_refused_step, bytes_last_step, bytes_useless_step, edged_step, edges_refused_step, edges_last_step, edges_useless_step, nothing_step}
 use Rattle.gps_hub.specs.Pumping.{TookBytes, TookLine}
 use Rattle.gps_hub.proofs.Told.{looked_bytes, looked_line}
-use Rattle.gps_hub.proofs.device.pump.Goals as goal
+use Rattle.gps_hub.proofs.device.pump_one.Goals as goal
 
 pub returns-in-Nothing-clause-step : goal.returns-in-Nothing-clause-step
 returns-in-Nothing-clause-step g c =
@@ -41,3 +41,11 @@ returns-in-Edges-clause-step g c =
     let lasts = c.take_edge.new.lasts in
     subst (λ (t : InletsView × Lasts). DeviceStep d c.args.book.now book c.args.inlets.now t.0 c.args.end.now end t.1 lasts) (λ i. (sym c.in-Edges.ensures.next.0 i, c.in-Edges.ensures.lasts i))
     (c.take_edge.ensures.step c.args.inlets.now c.in-Edges.ensures.next.1.0 c.in-Edges.ensures.next.1.1)
+
+pub take_bytes-requires-clause-may : goal.take_bytes-requires-clause-may
+take_bytes-requires-clause-may g c = c.requires.may.bytes c.in-Bytes.piece (subst LaneIsRead c.in-Bytes.ensures.next c.show_read.ensures)
+
+pub take_edge-requires-clause-may : goal.take_edge-requires-clause-may
+take_edge-requires-clause-may g c =
+    let next = c.in-Edges.ensures.next in
+    c.requires.may.edge c.in-Edges.piece next.1.0 next.1.1 (subst LaneIsRead next.0 c.show_read-in-Edges.ensures)

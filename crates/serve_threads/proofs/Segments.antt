@@ -24,12 +24,12 @@ there_if view [] u o is some = let no : false ≡ true = subst (λ (p : Option _
 there_if view (unit ∷ units) zero o is some = omega arith
 there_if view (unit ∷ units) (suc u) o is some = let h = there_if view units u o is some in omega arith
 
-pub one_segment : (watchers : List MonitorStart) (watcher : MonitorStart) (units : List UnitView) (u : ℕ) → segments_of watchers ≡ take u (map segment_of units) → u < length units
-    → ((free : UnitView) → arc_value watcher.segment ≡ segment_of (get_or units u free))
-    → segments_of (watchers ++ watcher ∷ []) ≡ take (u + 1) (map segment_of units)
-one_segment watchers watcher units u so there is =
-    map-append (λ (w : MonitorStart). arc_value w.segment) watchers (watcher ∷ []) ∙ ap (λ l. l ++ arc_value watcher.segment ∷ []) so
-    ∙ next units u (arc_value watcher.segment) there is ∙ ap (λ k. take k (map segment_of units)) (one_more u)
+pub one_segment : (monitor_starts : List MonitorStart) (monitor_start : MonitorStart) (units : List UnitView) (u : ℕ) → segments_of monitor_starts ≡ take u (map segment_of units) → u < length units
+    → ((free : UnitView) → arc_value monitor_start.segment ≡ segment_of (get_or units u free))
+    → segments_of (monitor_starts ++ monitor_start ∷ []) ≡ take (u + 1) (map segment_of units)
+one_segment monitor_starts monitor_start units u so there is =
+    map-append (λ (w : MonitorStart). arc_value w.segment) monitor_starts (monitor_start ∷ []) ∙ ap (λ l. l ++ arc_value monitor_start.segment ∷ []) so
+    ∙ next units u (arc_value monitor_start.segment) there is ∙ ap (λ k. take k (map segment_of units)) (one_more u)
 
 all_taken : (units : List UnitView) (u : ℕ) → length units ≤ u → take u (map segment_of units) ≡ map segment_of units
 all_taken [] zero few = refl
@@ -42,11 +42,11 @@ none_there view [] u is = omega arith
 none_there view (unit ∷ units) zero is = absurd cc
 none_there view (unit ∷ units) (suc u) is = let h = none_there view units u is in omega arith
 
--- behind the last unit
-pub no_unit : {X : Type 0} (view : UnitView → X) (watchers : List MonitorStart) (units : List UnitView) (u : ℕ) → segments_of watchers ≡ take u (map segment_of units)
-    → option_map view (slice_get units u) ≡ None → segments_of watchers ≡ map segment_of units
-no_unit view watchers units u so none = so ∙ all_taken units u (none_there view units u none)
+-- after the last unit
+pub no_unit : {X : Type 0} (view : UnitView → X) (monitor_starts : List MonitorStart) (units : List UnitView) (u : ℕ) → segments_of monitor_starts ≡ take u (map segment_of units)
+    → option_map view (slice_get units u) ≡ None → segments_of monitor_starts ≡ map segment_of units
+no_unit view monitor_starts units u so none = so ∙ all_taken units u (none_there view units u none)
 
-pub last_unit : (watchers : List MonitorStart) (units : List UnitView) (u : ℕ) → segments_of watchers ≡ take u (map segment_of units) → length units ≤ u
-    → segments_of watchers ≡ map segment_of units
-last_unit watchers units u so few = so ∙ all_taken units u few
+pub last_unit : (monitor_starts : List MonitorStart) (units : List UnitView) (u : ℕ) → segments_of monitor_starts ≡ take u (map segment_of units) → length units ≤ u
+    → segments_of monitor_starts ≡ map segment_of units
+last_unit monitor_starts units u so few = so ∙ all_taken units u few

@@ -5,4 +5,4 @@ use Rattle.shm_segment.specs.Seats.{SegmentId}
 use Rattle.serve_threads.specs.declared.monitors.MonitorStart.{MonitorStart}
 
 abbrev pub segments_of : List MonitorStart → List SegmentId
-segments_of watchers = map (λ (w : MonitorStart). arc_value w.segment) watchers
+segments_of monitor_starts = map (λ (w : MonitorStart). arc_value w.segment) monitor_starts

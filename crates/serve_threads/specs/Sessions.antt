@@ -12,7 +12,7 @@ use Rattle.serve_threads.specs.declared.session.SessionLink.{SessionLink}
 use Rattle.serve_threads.specs.declared.session.LinkDone.{LinkDone}
 use Rattle.serve_threads.specs.Reading.{Reads, counts}
 
--- the writer wrote what it got of its lane, and failed exactly if the sink's faults rose
+-- the writer wrote what it received from its lane, and failed exactly if the sink's faults rose
 pub record Wrote (end : WriterEnd) (rx rx' : Taking (List ℕ)) (before after : Option (List ℕ)) (faults faults' : ℕ) : Type 0 where
   pub writes : Writes end rx.got rx'.got before after
   pub lane : rx' ≡ record rx { got = rx'.got }
@@ -20,7 +20,7 @@ pub record Wrote (end : WriterEnd) (rx rx' : Taking (List ℕ)) (before after : 
   pub failed : end ≡ WriteFault → Rose faults faults'
   pub sound : end ≡ Drained → faults' ≡ faults
 
--- both did their work on this link, whose source was read at least once
+-- both threads did their work on this link, whose source was read at least once
 pub record SessionRuns {S K R : Type 0} (content : S → Option Stream) (faults quiets : S → ℕ) (written : K → Option (List ℕ)) (sink_faults : K → ℕ) (link : SessionLink S K R) (run : LinkDone S K R) : Type 0 where
   pub reads : Reads input_part IsInputPiece run.reader.failed run.reader.ending link.pieces run.reader.pieces (content link.source) (content run.reader.source)
       (counts (faults link.source) (quiets link.source)) (counts (faults run.reader.source) (quiets run.reader.source))

@@ -26,7 +26,7 @@ pub struct Bells {
     pub publisher: Bell,
     pub devices: Vec<DeviceBells>,
     pub monitors: Vec<Bell>,
-    // Stands in place of the bells of a device that has none; no thread sleeps on it.
+    // Given for a number past the last device or unit. No thread sleeps on it.
     spare: DeviceBells,
 }
 
@@ -37,12 +37,12 @@ impl Alone {
         }
     }
 
-    /// No thread could be started.
+    /// Notes that no thread could be started.
     pub fn leave(&self) {
         self.is.store(true, Ordering::SeqCst);
     }
 
-    /// How much to read.
+    /// How much to read: nothing, if there is no thread.
     pub fn span(&self) -> Span {
         if self.is.load(Ordering::SeqCst) {
             Span::Nothing
@@ -63,6 +63,7 @@ impl DeviceBells {
 }
 
 impl Bells {
+    /// Bells for this number of devices, with two monitors each.
     pub fn new(alloc: Global, devices: usize) -> Result<Bells, NoMemory> {
         let mut bells = Bells {
             pump: Bell::new(),
@@ -80,6 +81,7 @@ impl Bells {
         Ok(bells)
     }
 
+    /// The bells of a device, by its number.
     pub fn device(&self, device: usize) -> &DeviceBells {
         match self.devices.get(device) {
             Some(bells) => bells,
@@ -87,6 +89,7 @@ impl Bells {
         }
     }
 
+    /// The bell of a monitor, by the number of its unit.
     pub fn monitor(&self, unit: usize) -> &Bell {
         match self.monitors.get(unit) {
             Some(bell) => bell,
@@ -94,7 +97,7 @@ impl Bells {
         }
     }
 
-    /// There is room in the lanes of the devices.
+    /// Wakes the devices' readers: their lanes may have room.
     pub fn ring_devices(&self) {
         for device in self.devices.as_slice() {
             device.bytes.ring();
@@ -102,7 +105,7 @@ impl Bells {
         }
     }
 
-    /// Nothing more will come.
+    /// Closes all bells but the pump's: nothing more will come.
     pub fn close(&self) {
         for device in self.devices.as_slice() {
             device.bytes.close();
@@ -116,10 +119,11 @@ impl Bells {
     }
 }
 
-/// The bells of a session's two threads, whether one of them could not be started, and whether its writer and both have ended.
+/// The bells of a session's two threads, whether one of them could not be started, whether its writer has ended, and
+/// whether both have.
 ///
-/// The reader is told to end only once the writer has ended, which closes the link: a read that comes then finds the link's end, and so
-/// its file is closed.
+/// The reader is told to end only once the writer has ended and closed the link. Its next read then finds the end of the link, and so the
+/// file is closed.
 #[derive(Drop)]
 pub struct SessionBells {
     pub reader: Bell,
@@ -140,7 +144,7 @@ impl SessionBells {
         }
     }
 
-    /// Nothing more will come.
+    /// Closes the writer's bell, and the reader's once the writer has ended: nothing more will come.
     pub fn close(&self) {
         self.writer.close();
         if self.written.load(Ordering::SeqCst) {
@@ -148,7 +152,7 @@ impl SessionBells {
         }
     }
 
-    /// The writer has ended. If nothing more will come, the reader ends too.
+    /// Notes that the writer has ended. If nothing more will come, the reader ends too.
     pub fn end_writing(&self) {
         self.written.store(true, Ordering::SeqCst);
         if self.writer.is_closed() {
@@ -156,11 +160,12 @@ impl SessionBells {
         }
     }
 
-    /// Its threads end.
+    /// Notes that both threads have ended.
     pub fn leave(&self) {
         self.gone.store(true, Ordering::SeqCst);
     }
 
+    /// Whether both threads have ended.
     pub fn is_gone(&self) -> bool {
         self.gone.load(Ordering::SeqCst)
     }

@@ -1,6 +1,6 @@
 //! Part of the daemon's workers, with `serve_pieces` and `serve_workers`.
 //!
-//! The works that the threads of the running daemon do, each with what its result promises: the readers of devices and edges, the two threads
+//! What the threads of the running daemon do, and what the result of each promises: the readers of devices and edges, the two threads
 //! of a session, and monitors. This project's own.
 #![tactic(auto)]
 
@@ -11,7 +11,9 @@ mod session;
 mod work;
 
 pub use bells::{Alone, Bells, DeviceBells, SessionBells};
-pub use monitors::{MonitorPromise, MonitorStart, ReadingsDone, start_monitor, watchers};
-pub use reading::{DeviceReading, EdgeReading, ReaderDone, start_device, start_edges};
+pub use monitors::{MonitorPromise, MonitorStart, ReadingsDone, monitor_starts, start_monitor};
+pub use reading::{
+    DeviceReaderDone, DeviceReading, EdgeReading, ReaderDone, start_device, start_edges,
+};
 pub use session::{Attending, LinkDone, SessionLink, WriterDone, start_session};
 pub use work::{Work, start, start_if};

@@ -54,15 +54,15 @@ impl Promise<ReadingsDone> for MonitorPromise {
 
 /// A monitor for each unit, in order.
 #[tactic(auto, using(crate::proofs::Segments::no_segment, crate::proofs::Segments::one_segment, crate::proofs::Segments::no_unit, crate::proofs::Segments::last_unit))]
-pub fn watchers<R: Wait + Copy>(
+pub fn monitor_starts<R: Wait + Copy>(
     alloc: Global,
     book: &mut Book<Tx<Item, R>>,
 ) -> Result<Vec<MonitorStart>, NoMemory>
     requires few { length book.old.units ≤ 16 }
     ensures book { book.new ≡ book.old }
-    ensures segments { IfOk result (λ watchers. map (λ watcher. arc_value watcher.segment) watchers.items ≡ map segment_of book.old.units) }
+    ensures segments { IfOk result (λ starts. map (λ start. arc_value start.segment) starts.items ≡ map segment_of book.old.units) }
 {
-    let mut watchers = Vec::new(alloc);
+    let mut monitor_starts = Vec::new(alloc);
     'units: for unit in 0..UNITS {
         if book.unit(unit).is_none() {
             break;
@@ -71,25 +71,25 @@ pub fn watchers<R: Wait + Copy>(
             return Err(NoMemory);
         };
         let monitor = Monitor::of(seat);
-        watchers.push(MonitorStart { segment, monitor })?;
+        monitor_starts.push(MonitorStart { segment, monitor })?;
     }
-    Ok(watchers)
+    Ok(monitor_starts)
 }
 
 fn monitor_all<R: Wait>(
     rt: &R,
     alloc: Global,
-    watcher: MonitorStart,
+    monitor_start: MonitorStart,
     tries: u32,
     own: &Bell,
 ) -> ReadingsDone
-    ensures segment { result.segment ≡ watcher.segment }
+    ensures segment { result.segment ≡ monitor_start.segment }
     ensures watched { MonitorRan (arc_value result.segment) tries result.whole result.monitor result.taken.items }
 {
     let MonitorStart {
         segment,
         mut monitor,
-    } = watcher;
+    } = monitor_start;
     let mut taken = Vec::new(alloc);
     let whole = run_monitor(rt, &segment, &mut monitor, tries, own, &mut taken).is_ok();
     ReadingsDone {
@@ -100,26 +100,26 @@ fn monitor_all<R: Wait>(
     }
 }
 
-/// Starts a unit's monitor. Without a thread it makes its readings at once.
+/// Starts a unit's monitor. If there is no thread for it, it makes its readings at once.
 pub fn start_monitor<'s, E, R: Wait + Copy + Send + Sync + 's>(
     rt: R,
     alloc: Global,
     scope: &'s Scope<'s, E>,
-    watcher: MonitorStart,
+    monitor_start: MonitorStart,
     tries: u32,
     own: &'s Bell,
 ) -> Work<ReadingsDone, MonitorPromise>
-    ensures segment { result.segment.value ≡ watcher.segment }
+    ensures segment { result.segment.value ≡ monitor_start.segment }
     ensures tries { result.tries ≡ tries }
 {
     let promise = MonitorPromise {
-        segment: Snapshot::of(&watcher.segment),
+        segment: Snapshot::of(&monitor_start.segment),
         tries,
     };
     start(
         scope,
         promise,
-        move || monitor_all(&rt, alloc, watcher, tries, own),
+        move || monitor_all(&rt, alloc, monitor_start, tries, own),
         move || own.close(),
     )
 }

@@ -1,7 +1,9 @@
-ghost use Rattle.std.specs.Prelude.{◌≡◌, true};
+ghost use Rattle.std.specs.Prelude.{◌≡◌, [], true};
 ghost use Rattle.serve_pieces.specs.Carried.{device_part, input_part};
 ghost use Rattle.gps_outside.specs.Told.{Goes};
 ghost use Rattle.serve_workers.specs.Readings.{IsDevicePiece, IsInputPiece, WasRead};
+ghost use Rattle.serve_workers.specs.Sourced.{FromSource, LinesFrom};
+ghost use Rattle.serve_workers.specs.Stamping.{StampsPieces};
 ghost use Rattle.serve_threads.specs.Reading.{Reads, ReadsLines, counts};
 
 use crate::bells::Alone;
@@ -10,14 +12,14 @@ use gps_lane::{Bell, Tx};
 use gps_outside::{Clock, Source};
 use serve_pieces::{Ending, Piece};
 use serve_workers::{Dials, SharedClock, read_device, read_edges, read_session};
+use stamp_shares::StampShare;
 use std::alloc::Global;
-use std::marker::PhantomData;
 use std::snapshot::Snapshot;
 use std::sync::{Mutex, Wait};
 use std::thread::{Promise, Scope};
 
-/// What a reader hands back: its source, its end of the lane, what it told its lane of the source's end, if it was not told to end before, and
-/// whether the source failed.
+/// What a reader hands back: its source, its end of the lane, how it told its lane that the source ended (none if it was told to end before
+/// that), and whether the source failed.
 #[derive(Drop)]
 pub struct ReaderDone<S: Source, R> {
     pub source: S,
@@ -27,22 +29,31 @@ pub struct ReaderDone<S: Source, R> {
     pub failed: bool,
 }
 
-/// A device reader promises that it put what it took from this source into this lane.
+/// The same of a device's reader, and its share of the clock's stamps.
+#[derive(Drop)]
+pub struct DeviceReaderDone<S: Source, R, D: Dials> {
+    pub reader: ReaderDone<S, R>,
+    pub share: StampShare<D>,
+}
+
+/// A device reader promises that it put what it took from this source into this lane, with the stamps that were given to this share.
 #[derive(Drop)]
 pub struct DeviceReading<S: Source, R, D: Dials> {
     pub source: Snapshot<S>,
     pub pieces: Snapshot<Tx<Piece, R>>,
-    pub dials: PhantomData<D>,
+    pub share: Snapshot<StampShare<D>>,
 }
 
-impl<S: Source, R, D: Dials> Promise<ReaderDone<S, R>> for DeviceReading<S, R, D> {
+impl<S: Source, R, D: Dials> Promise<DeviceReaderDone<S, R, D>> for DeviceReading<S, R, D> {
     ghost use Rattle.serve_pieces.specs.Carried.{device_part};
     ghost use Rattle.serve_workers.specs.Readings.{IsDevicePiece};
+    ghost use Rattle.serve_workers.specs.Stamping.{StampsPieces};
     ghost use Rattle.serve_threads.specs.Reading.{Reads, counts};
 
-    ghost kept_by = { λ p r. Reads device_part (IsDevicePiece D.may) r.failed r.ending p.pieces.value r.pieces
-        (S.content p.source.value) (S.content r.source)
-        (counts (S.faults p.source.value) (S.quiets p.source.value)) (counts (S.faults r.source) (S.quiets r.source)) };
+    ghost kept_by = { λ p r. Reads device_part (IsDevicePiece D.may) r.reader.failed r.reader.ending p.pieces.value r.reader.pieces
+        (S.content p.source.value) (S.content r.reader.source)
+        (counts (S.faults p.source.value) (S.quiets p.source.value)) (counts (S.faults r.reader.source) (S.quiets r.reader.source))
+        × StampsPieces 1 p.share.value r.share p.pieces.value.put r.reader.pieces.put };
 }
 
 /// An edge reader promises that it put the lines that it took from this source into this lane.
@@ -67,33 +78,39 @@ pub fn device_reader<S: Source, C: Clock, D: Dials, R: Wait + Copy>(
     alloc: Global,
     source: S,
     clock: &Mutex<SharedClock<C, D>>,
+    share: StampShare<D>,
     pieces: Tx<Piece, R>,
     own: &Bell,
     alone: &Alone,
     pump: &Bell,
-) -> ReaderDone<S, R>
+) -> DeviceReaderDone<S, R, D>
     requires open { pieces.is_open ≡ true }
-    ensures { Reads device_part (IsDevicePiece D.may) result.failed result.ending pieces result.pieces (S.content source) (S.content result.source)
-        (counts (S.faults source) (S.quiets source)) (counts (S.faults result.source) (S.quiets result.source)) }
+    requires from { FromSource device_part (IsDevicePiece D.may) pieces.about.source pieces.put (S.content source) }
+    ensures reads { Reads device_part (IsDevicePiece D.may) result.reader.failed result.reader.ending pieces result.reader.pieces
+        (S.content source) (S.content result.reader.source)
+        (counts (S.faults source) (S.quiets source)) (counts (S.faults result.reader.source) (S.quiets result.reader.source)) }
+    ensures stamps { StampsPieces 1 share result.share pieces.put result.reader.pieces.put }
 {
     let mut source = source;
     let mut pieces = pieces;
-    let end = read_device(
+    let (end, share) = read_device(
         rt,
         alloc,
         &mut source,
         clock,
+        share,
         &mut pieces,
         own,
         pump,
         alone.span(),
     );
-    ReaderDone {
+    let reader = ReaderDone {
         source,
         pieces,
         ending: end.told,
         failed: end.failed,
-    }
+    };
+    DeviceReaderDone { reader, share }
 }
 
 /// Reads a session's requests to their end. Its source is read at least once.
@@ -108,6 +125,7 @@ pub fn session_reader<S: Source, R: Wait + Copy>(
     pump: &Bell,
 ) -> ReaderDone<S, R>
     requires open { pieces.is_open ≡ true }
+    requires from { FromSource input_part IsInputPiece pieces.about.source pieces.put (S.content source) }
     ensures reads { Reads input_part IsInputPiece result.failed result.ending pieces result.pieces (S.content source) (S.content result.source)
         (counts (S.faults source) (S.quiets source)) (counts (S.faults result.source) (S.quiets result.source)) }
     ensures read { Goes (WasRead (S.faults result.source) (S.quiets result.source)) (S.content source) (S.content result.source) }
@@ -137,24 +155,27 @@ pub fn start_device<
     scope: &'s Scope<'s, E>,
     source: S,
     clock: &'s Mutex<SharedClock<C, D>>,
+    share: StampShare<D>,
     pieces: Tx<Piece, R>,
     own: &'s Bell,
     alone: &'s Alone,
     pump: &'s Bell,
-) -> Work<ReaderDone<S, R>, DeviceReading<S, R, D>>
+) -> Work<DeviceReaderDone<S, R, D>, DeviceReading<S, R, D>>
     requires open { pieces.is_open ≡ true }
+    requires from { FromSource device_part (IsDevicePiece D.may) pieces.about.source pieces.put (S.content source) }
     ensures source { result.source.value ≡ source }
     ensures pieces { result.pieces.value ≡ pieces }
+    ensures share { result.share.value ≡ share }
 {
     let promise = DeviceReading {
         source: Snapshot::of(&source),
         pieces: Snapshot::of(&pieces),
-        dials: PhantomData,
+        share: Snapshot::of(&share),
     };
     start(
         scope,
         promise,
-        move || device_reader(&rt, alloc, source, clock, pieces, own, alone, pump),
+        move || { device_reader(&rt, alloc, source, clock, share, pieces, own, alone, pump) },
         move || alone.leave(),
     )
 }
@@ -171,6 +192,7 @@ pub fn edge_reader<S: Source, R: Wait + Copy>(
     pump: &Bell,
 ) -> ReaderDone<S, R>
     requires open { pieces.is_open ≡ true }
+    requires from { LinesFrom pieces.about.source pieces.put [] (S.content source) }
     ensures { ReadsLines result.failed result.ending pieces result.pieces (S.content source) (S.content result.source)
         (counts (S.faults source) (S.quiets source)) (counts (S.faults result.source) (S.quiets result.source)) }
 {
@@ -197,6 +219,7 @@ pub fn start_edges<'s, E, S: Source + Send + 's, R: Wait + Copy + Send + Sync + 
     pump: &'s Bell,
 ) -> Work<ReaderDone<S, R>, EdgeReading<S, R>>
     requires open { pieces.is_open ≡ true }
+    requires from { LinesFrom pieces.about.source pieces.put [] (S.content source) }
     ensures source { result.source.value ≡ source }
     ensures pieces { result.pieces.value ≡ pieces }
 {

@@ -1,4 +1,8 @@
 ghost use Rattle.std.specs.Prelude.{◌≡◌, true};
+ghost use Rattle.serve_pieces.specs.Carried.{input_part};
+ghost use Rattle.serve_workers.specs.Readings.{IsInputPiece};
+ghost use Rattle.serve_workers.specs.Sourced.{FromSource};
+ghost use Rattle.serve_workers.specs.Writing.{MayGoOn};
 ghost use Rattle.serve_threads.specs.Sessions.{SessionRuns, Wrote};
 
 use crate::bells::SessionBells;
@@ -10,6 +14,7 @@ use serve_pieces::Piece;
 use serve_workers::{WriterEnd, write_items};
 use session_core::Item;
 use std::alloc::Global;
+use std::marker::Model;
 use std::snapshot::Snapshot;
 use std::sync::{Arc, Wait};
 use std::thread::{Promise, Scope, Threads};
@@ -20,6 +25,20 @@ pub struct WriterDone<K: ClientSink, R> {
     pub sink: K,
     pub items: Rx<Item, R>,
     pub end: WriterEnd,
+}
+
+impl<K: ClientSink, R> Model for WriterDone<K, R> {
+    ghost use Rattle.std.specs.Prelude.{◌≡◌};
+    ghost use Rattle.serve_workers.specs.declared.writer.WriterEnd.TheVariants.{Drained};
+    ghost use Rattle.serve_workers.specs.Writing.{MayGoOn};
+    ghost use Rattle.serve_threads.specs.Writers.{WriterView};
+
+    ghost Value = { WriterView K };
+
+    ghost view = { λ w. record { sink = w.sink; items = w.items; end = w.end } };
+
+    // Unless its sink failed, what still comes from its lane may be written.
+    ghost invariant = { λ w. w.end ≡ Drained → MayGoOn K.asks K.written K.allows w.sink w.items };
 }
 
 /// What the two threads of a session hand back.
@@ -38,7 +57,7 @@ pub struct SessionLink<S: Source, K: ClientSink, R> {
     pub items: Rx<Item, R>,
 }
 
-/// A writer promises that it wrote to this sink what it got of this lane.
+/// A writer promises that it wrote to this sink what it received from this lane.
 #[derive(Drop)]
 pub struct Writing<K: ClientSink, R> {
     pub sink: Snapshot<K>,
@@ -70,6 +89,7 @@ fn session_writer<K: ClientSink, R: Wait + Copy>(
     sink: K,
     bells: &SessionBells,
 ) -> WriterDone<K, R>
+    requires goes_on { MayGoOn K.asks K.written K.allows sink items }
     ensures { Wrote result.end items result.items (K.written sink) (K.written result.sink) (K.faults sink) (K.faults result.sink) }
 {
     let mut items = items;
@@ -79,8 +99,8 @@ fn session_writer<K: ClientSink, R: Wait + Copy>(
     WriterDone { sink, items, end }
 }
 
-/// The work of a session: its writer in a thread of its own, its reader here. If no thread can be started, nothing of its requests is taken,
-/// without any wait; the session is told to end because it is out of memory, and then it is written what it was given.
+/// The work of a session: its writer in a thread of its own, its reader here. If no thread can be started, none of its requests is taken,
+/// and nothing is waited for: its lane is told that there was no memory, or that the source failed. Then what the session was given is written.
 pub fn attend<
     's,
     E,
@@ -97,6 +117,8 @@ pub fn attend<
     pump: &'s Bell,
 ) -> LinkDone<S, K, R>
     requires open { link.pieces.is_open ≡ true }
+    requires from { FromSource input_part IsInputPiece link.pieces.about.source link.pieces.put (S.content link.source) }
+    requires goes_on { MayGoOn K.asks K.written K.allows link.sink link.items }
     ensures { SessionRuns S.content S.faults S.quiets K.written K.faults link result }
 {
     let SessionLink {
@@ -109,10 +131,15 @@ pub fn attend<
         sink: Snapshot::of(&sink),
         items: Snapshot::of(&items),
     };
-    let started = scope.spawn_with(promise, move || {
-        let (items, sink) = (items, sink);
-        session_writer(&rt, alloc, items, sink, &writers)
-    });
+    let started = scope.spawn_with(
+        promise,
+        move || -> WriterDone<K, R>
+            requires goes_on { MayGoOn K.asks K.written K.allows sink items }
+        {
+            let (items, sink) = (items, sink);
+            session_writer(&rt, alloc, items, sink, &writers)
+        },
+    );
     let own = &bells.reader;
     match started {
         Ok(writer) => {
@@ -149,6 +176,8 @@ pub fn start_session<
     pump: &'s Bell,
 ) -> Work<LinkDone<S, K, R>, Attending<S, K, R>>
     requires open { link.pieces.is_open ≡ true }
+    requires from { FromSource input_part IsInputPiece link.pieces.about.source link.pieces.put (S.content link.source) }
+    requires goes_on { MayGoOn K.asks K.written K.allows link.sink link.items }
     ensures { result.link.value ≡ link }
 {
     let promise = Attending {
@@ -158,7 +187,9 @@ pub fn start_session<
         scope,
         promise,
         move || -> LinkDone<S, K, R>
-            requires { link.pieces.is_open ≡ true }
+            requires open { link.pieces.is_open ≡ true }
+            requires from { FromSource input_part IsInputPiece link.pieces.about.source link.pieces.put (S.content link.source) }
+            requires goes_on { MayGoOn K.asks K.written K.allows link.sink link.items }
         { attend(rt, alloc, scope, link, bells, writers, pump) },
         move || own.alone.leave(),
     )

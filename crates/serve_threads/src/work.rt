@@ -45,7 +45,7 @@ pub fn start_if<'s, E, P: Promise<T> + Drop, F: FnOnce() -> T + Send + 's, T: Se
     }
 }
 
-/// Starts a work in a thread of its own; if none can be started, it is told so, and done here.
+/// Starts a work in a thread of its own. If no thread can be started, `alone` is called, and the work is done here.
 pub fn start<
     's,
     E,

@@ -11,7 +11,8 @@ use Rattle.line_cut.specs.Lines.{lines, open_line, text_of}
 use Rattle.line_cut.specs.Limits.{fitting_lines}
 use Rattle.line_cut.specs.Standing.{LineCutterView, StandsFor, Steps, spelling, used, gained}
 use Rattle.line_cut.proofs.Splits.{fitting_goes_on}
-use Rattle.serve_workers.specs.EdgeLines.{edge_limit, edge_lines, line_pieces, AreFirst, PutsLines}
+use Rattle.serve_pieces.specs.EdgeLines.{edge_limit, edge_lines}
+use Rattle.serve_workers.specs.EdgeLines.{line_pieces, AreFirst, PutsLines}
 use Rattle.serve_workers.specs.declared.edges.Put.TheVariants as put
 
 -- The lines of a piece were put as far as `rest`, behind these bytes.

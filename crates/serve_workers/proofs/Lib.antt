@@ -1,6 +1,10 @@
 pub mod Dialing
 pub mod Stepping
+pub mod Sourcing
+pub mod Stamping
 pub mod Rounds
+pub mod GoingOn
 pub mod Once
 pub mod Cutting
 pub mod LineStepping
+pub mod LineSourcing

@@ -16,7 +16,8 @@ use Rattle.serve_workers.specs.declared.readers.ReaderStep.TheVariants.{On, Over
 use Rattle.serve_workers.specs.declared.edges.Put.{Put}
 use Rattle.serve_workers.specs.declared.edges.Put.TheVariants as was
 use Rattle.serve_workers.specs.Readings.{last_piece}
-use Rattle.serve_workers.specs.EdgeLines.{edge_lines, last_edge_line, line_pieces, AreFirst, AreLinesOf, TookLines, HandsLines, CutsLines, PutsLines, PutsLast, TookTurn, LinesIn, StandsIn, EdgeLineSteps}
+use Rattle.serve_pieces.specs.EdgeLines.{edge_lines, last_edge_line}
+use Rattle.serve_workers.specs.EdgeLines.{line_pieces, AreFirst, AreLinesOf, TookLines, HandsLines, CutsLines, PutsLines, PutsLast, TookRound, LinesIn, StandsIn, EdgeLineSteps}
 use Rattle.serve_workers.proofs.Stepping.{pass_on, all_on, some_on, all_closed, some_closed, stays}
 
 passed_some : (bytes : List ℕ) (x y : Stream) → Passes bytes x y → TakesSome bytes x y
@@ -26,18 +27,18 @@ all_some : (bytes : List ℕ) (x y : Stream) → TakesAll bytes x y → TakesSom
 all_some bytes x y p = record { rest = []; next = p.all ∙ sym (append-nil bytes); joins = p.joins; kept = inr p.none }
 
 -- what came of a piece, as a step
-abbrev pub turn_of : Put → ReaderStep
-turn_of was.Done = On
-turn_of was.NoMemory = Over NoMemory
-turn_of was.Closed = Closed
+abbrev pub round_of : Put → ReaderStep
+round_of was.Done = On
+round_of was.NoMemory = Over NoMemory
+round_of was.Closed = Closed
 
 -- the bytes of a read were cut
-pub got_turn : (result : Put) (bytes more : List ℕ) (kept : LineCutterView) (put put' : List Piece) (before after : Option Stream)
+pub got_round : (result : Put) (bytes more : List ℕ) (kept : LineCutterView) (put put' : List Piece) (before after : Option Stream)
     → PutsLines result bytes more kept put put' → Goes (Passes more) before after
-    → EdgeLineSteps (turn_of result) bytes kept put put' before after
-got_turn was.Done bytes more kept put put' before after puts reads =
+    → EdgeLineSteps (round_of result) bytes kept put put' before after
+got_round was.Done bytes more kept put put' before after puts reads =
     record { more = more; lines = puts.lines; puts = puts.puts; are = puts.are; stands = puts.stands; took = reads }
-got_turn was.NoMemory bytes more kept put put' before after puts reads = record {
+got_round was.NoMemory bytes more kept put put' before after puts reads = record {
   more = more;
   lines = puts.lines;
   puts = puts.puts;
@@ -45,7 +46,7 @@ got_turn was.NoMemory bytes more kept put put' before after puts reads = record 
   stands = tt;
   took = goes_as (Passes more) (TakesSome more) before after (passed_some more) reads;
 }
-got_turn was.Closed bytes more kept put put' before after puts reads = record {
+got_round was.Closed bytes more kept put put' before after puts reads = record {
   more = more;
   lines = puts.lines;
   puts = puts.puts;
@@ -54,14 +55,14 @@ got_turn was.Closed bytes more kept put put' before after puts reads = record {
   took = goes_as (Passes more) (TakesSome more) before after (passed_some more) reads;
 }
 
-no_lines_are : (turn : ReaderStep) (bytes : List ℕ) → LinesIn turn (edge_lines bytes ++ []) (edge_lines (bytes ++ []))
+no_lines_are : (round : ReaderStep) (bytes : List ℕ) → LinesIn round (edge_lines bytes ++ []) (edge_lines (bytes ++ []))
 no_lines_are On bytes = ap edge_lines (append-nil bytes) ∙ sym (append-nil (edge_lines bytes))
 no_lines_are (Over End) bytes = ap edge_lines (append-nil bytes) ∙ sym (append-nil (edge_lines bytes))
 no_lines_are (Over Failed) bytes = ap edge_lines (append-nil bytes) ∙ sym (append-nil (edge_lines bytes))
 no_lines_are (Over NoMemory) bytes = ([], ap edge_lines (append-nil bytes) ∙ sym (append-nil (edge_lines bytes)) ∙ sym (append-nil (edge_lines bytes ++ [])))
 no_lines_are Closed bytes = ([], ap edge_lines (append-nil bytes) ∙ sym (append-nil (edge_lines bytes)) ∙ sym (append-nil (edge_lines bytes ++ [])))
 
-stands_still : (turn : ReaderStep) (kept : LineCutterView) (bytes : List ℕ) → StandsFor kept bytes → StandsIn turn kept (bytes ++ [])
+stands_still : (round : ReaderStep) (kept : LineCutterView) (bytes : List ℕ) → StandsFor kept bytes → StandsIn round kept (bytes ++ [])
 stands_still On kept bytes stands = rw (append-nil bytes) stands
 stands_still (Over End) kept bytes stands = rw (append-nil bytes) stands
 stands_still (Over Failed) kept bytes stands = tt
@@ -69,14 +70,14 @@ stands_still (Over NoMemory) kept bytes stands = tt
 stands_still Closed kept bytes stands = tt
 
 -- a read that gave nothing
-pub no_lines : (turn : ReaderStep) (bytes : List ℕ) (kept : LineCutterView) (put : List Piece) (before after : Option Stream)
-    → StandsFor kept bytes → TookTurn turn [] before after → EdgeLineSteps turn bytes kept put put before after
-no_lines turn bytes kept put before after stands took = record {
+pub no_lines : (round : ReaderStep) (bytes : List ℕ) (kept : LineCutterView) (put : List Piece) (before after : Option Stream)
+    → StandsFor kept bytes → TookRound round [] before after → EdgeLineSteps round bytes kept put put before after
+no_lines round bytes kept put before after stands took = record {
   more = [];
   lines = [];
   puts = sym (append-nil put);
-  are = no_lines_are turn bytes;
-  stands = stands_still turn kept bytes stands;
+  are = no_lines_are round bytes;
+  stands = stands_still round kept bytes stands;
   took = took;
 }
 
@@ -103,11 +104,11 @@ fault_took before after fails =
     goes_as MayLose (TakesSome []) before after
     (λ x y p. record { rest = x.left; next = refl; joins = p.same ∙ sym (append-nil x.taken); kept = p.lost }) fails
 
-lines_as : (turn : ReaderStep) (got got' all all' : List (List ℕ)) → got ≡ got' → all ≡ all' → LinesIn turn got all → LinesIn turn got' all'
-lines_as turn got got' all all' e f are = subst (λ l. LinesIn turn l all') e (subst (λ l. LinesIn turn got l) f are)
+lines_as : (round : ReaderStep) (got got' all all' : List (List ℕ)) → got ≡ got' → all ≡ all' → LinesIn round got all → LinesIn round got' all'
+lines_as round got got' all all' e f are = subst (λ l. LinesIn round l all') e (subst (λ l. LinesIn round got l) f are)
 
-took_more : (turn : ReaderStep) (first second : List ℕ) (before now after : Option Stream)
-    → Goes (Passes first) before now → TookTurn turn second now after → TookTurn turn (first ++ second) before after
+took_more : (round : ReaderStep) (first second : List ℕ) (before now after : Option Stream)
+    → Goes (Passes first) before now → TookRound round second now after → TookRound round (first ++ second) before after
 took_more On first second before now after one two =
     goes_on (Passes first) (Passes second) (Passes (first ++ second)) before now after (pass_on first second) one two
 took_more (Over End) first second before now after one two =
@@ -119,11 +120,11 @@ took_more (Over NoMemory) first second before now after one two =
 took_more Closed first second before now after one two =
     goes_on (Passes first) (TakesSome second) (TakesSome (first ++ second)) before now after (some_on first second) one two
 
-pub line_turns_on : (turn : ReaderStep) (bytes : List ℕ) (kept kept' : LineCutterView) (put mid put' : List Piece) (before now after : Option Stream)
+pub line_rounds_on : (round : ReaderStep) (bytes : List ℕ) (kept kept' : LineCutterView) (put mid put' : List Piece) (before now after : Option Stream)
     → EdgeLineSteps On bytes kept put mid before now
-    → ((b : List ℕ) → StandsFor kept b → EdgeLineSteps turn b kept' mid put' now after)
-    → EdgeLineSteps turn bytes kept' put put' before after
-line_turns_on turn bytes kept kept' put mid put' before now after one next =
+    → ((b : List ℕ) → StandsFor kept b → EdgeLineSteps round b kept' mid put' now after)
+    → EdgeLineSteps round bytes kept' put put' before after
+line_rounds_on round bytes kept kept' put mid put' before now after one next =
     let two = next (bytes ++ one.more) one.stands in
     let joined : (bytes ++ one.more) ++ two.more ≡ bytes ++ (one.more ++ two.more) = append_assoc bytes one.more two.more in record {
       more = one.more ++ two.more;
@@ -131,14 +132,14 @@ line_turns_on turn bytes kept kept' put mid put' before now after one next =
       puts =
           two.puts ∙ ap (λ l. l ++ line_pieces two.lines) one.puts ∙ append_assoc put (line_pieces one.lines) (line_pieces two.lines)
           ∙ ap (λ l. put ++ l) (sym (map-append made.Line one.lines two.lines));
-      are = lines_as turn (edge_lines (bytes ++ one.more) ++ two.lines) (edge_lines bytes ++ (one.lines ++ two.lines))
+      are = lines_as round (edge_lines (bytes ++ one.more) ++ two.lines) (edge_lines bytes ++ (one.lines ++ two.lines))
           (edge_lines ((bytes ++ one.more) ++ two.more)) (edge_lines (bytes ++ (one.more ++ two.more)))
           (ap (λ l. l ++ two.lines) one.are ∙ append_assoc (edge_lines bytes) one.lines two.lines) (ap edge_lines joined) two.are;
-      stands = subst (λ l. StandsIn turn kept' l) joined two.stands;
-      took = took_more turn one.more two.more before now after one.took two.took;
+      stands = subst (λ l. StandsIn round kept' l) joined two.stands;
+      took = took_more round one.more two.more before now after one.took two.took;
     }
 
-no_lines_yet : edge_lines [] ≡ []
+pub no_lines_yet : edge_lines [] ≡ []
 unfolding lines
 no_lines_yet = refl
 
@@ -156,59 +157,59 @@ pub ended_lines : (kept : LineCutterView) (put mid put' : List Piece) (before af
     → EdgeLineSteps (Over End) [] kept put mid before after
     → ((b : List ℕ) → StandsFor kept b → PutsLast was.Done b mid put')
     → CutsLines (Some End) put put' before after
-ended_lines kept put mid put' before after turns last = record {
-  bytes = turns.more;
-  lines = turns.lines ++ last_edge_line turns.more;
+ended_lines kept put mid put' before after rounds last = record {
+  bytes = rounds.more;
+  lines = rounds.lines ++ last_edge_line rounds.more;
   puts =
-      last turns.more turns.stands ∙ ap (λ l. l ++ line_pieces (last_edge_line turns.more)) turns.puts
-      ∙ append_assoc put (line_pieces turns.lines) (line_pieces (last_edge_line turns.more))
-      ∙ ap (λ l. put ++ l) (sym (map-append made.Line turns.lines (last_edge_line turns.more)));
-  are = ap (λ l. l ++ last_edge_line turns.more) (all_of turns.more turns.lines turns.are);
-  took = turns.took;
+      last rounds.more rounds.stands ∙ ap (λ l. l ++ line_pieces (last_edge_line rounds.more)) rounds.puts
+      ∙ append_assoc put (line_pieces rounds.lines) (line_pieces (last_edge_line rounds.more))
+      ∙ ap (λ l. put ++ l) (sym (map-append made.Line rounds.lines (last_edge_line rounds.more)));
+  are = ap (λ l. l ++ last_edge_line rounds.more) (all_of rounds.more rounds.lines rounds.are);
+  took = rounds.took;
 }
 
 -- all but the last line, if that could not be put
 unlasted : (kept : LineCutterView) (put mid : List Piece) (before after : Option Stream) → EdgeLineSteps (Over End) [] kept put mid before after → CutsLines None put mid before after
-unlasted kept put mid before after turns = record {
-  bytes = turns.more;
-  lines = turns.lines;
-  puts = turns.puts;
-  are = (last_edge_line turns.more, ap (λ l. l ++ last_edge_line turns.more) (sym (all_of turns.more turns.lines turns.are)));
-  took = goes_as (TakesAll turns.more) (TakesSome turns.more) before after (all_some turns.more) turns.took;
+unlasted kept put mid before after rounds = record {
+  bytes = rounds.more;
+  lines = rounds.lines;
+  puts = rounds.puts;
+  are = (last_edge_line rounds.more, ap (λ l. l ++ last_edge_line rounds.more) (sym (all_of rounds.more rounds.lines rounds.are)));
+  took = goes_as (TakesAll rounds.more) (TakesSome rounds.more) before after (all_some rounds.more) rounds.took;
 }
 
 pub no_last_memory : (kept : LineCutterView) (put mid put' : List Piece) (before after : Option Stream)
     → EdgeLineSteps (Over End) [] kept put mid before after
     → ((b : List ℕ) → StandsFor kept b → PutsLast was.NoMemory b mid put')
     → CutsLines (Some NoMemory) put put' before after
-no_last_memory kept put mid put' before after turns last =
-    let same : put' ≡ mid = last turns.more turns.stands in
-    let cuts = unlasted kept put mid before after turns in
+no_last_memory kept put mid put' before after rounds last =
+    let same : put' ≡ mid = last rounds.more rounds.stands in
+    let cuts = unlasted kept put mid before after rounds in
     record { bytes = cuts.bytes; lines = cuts.lines; puts = same ∙ cuts.puts; are = cuts.are; took = cuts.took }
 
 pub no_last_closed : (kept : LineCutterView) (put mid put' : List Piece) (before after : Option Stream)
     → EdgeLineSteps (Over End) [] kept put mid before after
     → ((b : List ℕ) → StandsFor kept b → PutsLast was.Closed b mid put')
     → CutsLines None put put' before after
-no_last_closed kept put mid put' before after turns last =
-    let same : put' ≡ mid = last turns.more turns.stands in
-    let cuts = unlasted kept put mid before after turns in
+no_last_closed kept put mid put' before after rounds last =
+    let same : put' ≡ mid = last rounds.more rounds.stands in
+    let cuts = unlasted kept put mid before after rounds in
     record { bytes = cuts.bytes; lines = cuts.lines; puts = same ∙ cuts.puts; are = cuts.are; took = cuts.took }
 
 pub failed_lines : (kept : LineCutterView) (put put' : List Piece) (before after : Option Stream)
     → EdgeLineSteps (Over Failed) [] kept put put' before after → CutsLines (Some Failed) put put' before after
-failed_lines kept put put' before after turns =
-    record { bytes = turns.more; lines = turns.lines; puts = turns.puts; are = all_of turns.more turns.lines turns.are; took = turns.took }
+failed_lines kept put put' before after rounds =
+    record { bytes = rounds.more; lines = rounds.lines; puts = rounds.puts; are = all_of rounds.more rounds.lines rounds.are; took = rounds.took }
 
 pub starved_lines : (kept : LineCutterView) (put put' : List Piece) (before after : Option Stream)
     → EdgeLineSteps (Over NoMemory) [] kept put put' before after → CutsLines (Some NoMemory) put put' before after
-starved_lines kept put put' before after turns =
-    record { bytes = turns.more; lines = turns.lines; puts = turns.puts; are = first_of turns.more turns.lines turns.are; took = turns.took }
+starved_lines kept put put' before after rounds =
+    record { bytes = rounds.more; lines = rounds.lines; puts = rounds.puts; are = first_of rounds.more rounds.lines rounds.are; took = rounds.took }
 
 pub closed_lines : (kept : LineCutterView) (put put' : List Piece) (before after : Option Stream)
     → EdgeLineSteps Closed [] kept put put' before after → CutsLines None put put' before after
-closed_lines kept put put' before after turns =
-    record { bytes = turns.more; lines = turns.lines; puts = turns.puts; are = first_of turns.more turns.lines turns.are; took = turns.took }
+closed_lines kept put put' before after rounds =
+    record { bytes = rounds.more; lines = rounds.lines; puts = rounds.puts; are = first_of rounds.more rounds.lines rounds.are; took = rounds.took }
 
 are_less : (last : Ending) (lines : List (List ℕ)) (bytes : List ℕ) → AreLinesOf (Some last) lines bytes → AreLinesOf None lines bytes
 are_less End lines bytes are = ([], sym are ∙ sym (append-nil lines))
@@ -256,7 +257,7 @@ handed_lines_by (Some last) (Some said) put mid before after same cuts = handed_
 
 pub ends_as : (ending ending' : Ending) (bytes : List ℕ) (kept : LineCutterView) (put put' : List Piece) (before after : Option Stream)
     → ending ≡ ending' → EdgeLineSteps (Over ending) bytes kept put put' before after → EdgeLineSteps (Over ending') bytes kept put put' before after
-ends_as ending ending' bytes kept put put' before after is turns = subst (λ (e : Ending). EdgeLineSteps (Over e) bytes kept put put' before after) is turns
+ends_as ending ending' bytes kept put put' before after is rounds = subst (λ (e : Ending). EdgeLineSteps (Over e) bytes kept put put' before after) is rounds
 
 -- the reading was out of memory, and only that was put
 pub lines_refused : (result : Option Ending) (put : List Piece) (now : Option Stream)

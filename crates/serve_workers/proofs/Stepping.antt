@@ -82,6 +82,14 @@ stopped part P put before after stays = record {
   took = goes_as Stays (TakesMore []) before after nothing_more stays;
 }
 
+nothing_passed : (now : Option Stream) → Goes (Passes []) now now
+nothing_passed None = tt
+nothing_passed (Some now) = record { next = refl; joins = sym (append-nil now.taken) }
+
+-- before the first step
+pub no_step : (part : Piece → List ℕ) (P : Piece → Type 0) (put : List Piece) (now : Option Stream) → ReaderSteps part P On put put now now
+no_step part P put now = record { pieces = []; puts = sym (append-nil put); good = tt; took = nothing_passed now }
+
 each_on : (P : Piece → Type 0) (first second : List Piece) → Each P first → Each P second → Each P (first ++ second)
 each_on P [] second one two = two
 each_on P (piece ∷ first) second one two = (one.0, each_on P first second one.1 two)
@@ -110,8 +118,8 @@ some_on first second x y z p q = record {
 more_on : (first second : List ℕ) (x y z : Stream) → Passes first x y → TakesMore second y z → TakesMore (first ++ second) x z
 more_on first second x y z p q = (q.0, (q.1.0, rw (append_assoc first second q.0) (some_on first (second ++ q.0) x y z p q.1.1)))
 
-took_on : (turn : ReaderStep) (first second : List ℕ) (before now after : Option Stream)
-    → Goes (Passes first) before now → TookIn turn second now after → TookIn turn (first ++ second) before after
+took_on : (round : ReaderStep) (first second : List ℕ) (before now after : Option Stream)
+    → Goes (Passes first) before now → TookIn round second now after → TookIn round (first ++ second) before after
 took_on On first second before now after one two =
     goes_on (Passes first) (Passes second) (Passes (first ++ second)) before now after (pass_on first second) one two
 took_on (Over ending.End) first second before now after one two =
@@ -123,14 +131,14 @@ took_on (Over ending.NoMemory) first second before now after one two =
 took_on Closed first second before now after one two =
     goes_on (Passes first) (TakesMore second) (TakesMore (first ++ second)) before now after (more_on first second) one two
 
-pub turns_on : (part : Piece → List ℕ) (P : Piece → Type 0) (turn : ReaderStep) (put mid put' : List Piece) (before now after : Option Stream)
-    → ReaderSteps part P On put mid before now → ReaderSteps part P turn mid put' now after → ReaderSteps part P turn put put' before after
-turns_on part P turn put mid put' before now after one two = record {
+pub rounds_on : (part : Piece → List ℕ) (P : Piece → Type 0) (round : ReaderStep) (put mid put' : List Piece) (before now after : Option Stream)
+    → ReaderSteps part P On put mid before now → ReaderSteps part P round mid put' now after → ReaderSteps part P round put put' before after
+rounds_on part P round put mid put' before now after one two = record {
   pieces = one.pieces ++ two.pieces;
   puts = two.puts ∙ ap (λ l. l ++ two.pieces) one.puts ∙ append_assoc put one.pieces two.pieces;
   good = each_on P one.pieces two.pieces one.good two.good;
   took = rw (flat_map-append part one.pieces two.pieces)
-      (took_on turn (flat_map part one.pieces) (flat_map part two.pieces) before now after one.took two.took);
+      (took_on round (flat_map part one.pieces) (flat_map part two.pieces) before now after one.took two.took);
 }
 
 all_some : (bytes : List ℕ) (x y : Stream) → TakesAll bytes x y → TakesMore bytes x y
@@ -158,11 +166,11 @@ took_less ending.NoMemory bytes before after took = took
 -- told to end before the last piece was put
 unsaid : (part : Piece → List ℕ) (P : Piece → Type 0) (last : Ending) (put mid : List Piece) (before after : Option Stream)
     → ReaderSteps part P (Over last) put mid before after → HandsOn part P None put mid before after
-unsaid part P last put mid before after turns = record {
-  pieces = turns.pieces;
-  puts = turns.puts ∙ sym (append-nil (put ++ turns.pieces));
-  good = turns.good;
-  took = took_less last (flat_map part turns.pieces) before after turns.took;
+unsaid part P last put mid before after rounds = record {
+  pieces = rounds.pieces;
+  puts = rounds.puts ∙ sym (append-nil (put ++ rounds.pieces));
+  good = rounds.good;
+  took = took_less last (flat_map part rounds.pieces) before after rounds.took;
 }
 
 -- Behind a reading the source is closed: what it has left may be lost.
@@ -293,28 +301,28 @@ none_put part P last put before after took = record { pieces = []; puts = sym (a
 pub handed : (part : Piece → List ℕ) (P : Piece → Type 0) (result : Option Ending) (last : Ending) (put mid : List Piece) (before after : Option Stream)
     → IfSome result (λ said. said ≡ last)
     → ReaderSteps part P (Over last) put mid before after → HandsOn part P result put (mid ++ last_piece result) before after
-handed part P None last put mid before after same turns = rw (append-nil mid) (unsaid part P last put mid before after turns)
-handed part P (Some said) last put mid before after same turns = record {
-  pieces = turns.pieces;
-  puts = ap (λ l. l ++ last_piece (Some said)) turns.puts;
-  good = turns.good;
-  took = rw same turns.took;
+handed part P None last put mid before after same rounds = rw (append-nil mid) (unsaid part P last put mid before after rounds)
+handed part P (Some said) last put mid before after same rounds = record {
+  pieces = rounds.pieces;
+  puts = ap (λ l. l ++ last_piece (Some said)) rounds.puts;
+  good = rounds.good;
+  took = rw same rounds.took;
 }
 
 -- the same if nothing may have been met, because the reader was told to end
 pub handed_by : (part : Piece → List ℕ) (P : Piece → Type 0) (met told : Option Ending) (put mid : List Piece) (before after : Option Stream)
     → IfSome told (λ last. met ≡ Some last)
     → ReaderSteps part P (over met) put mid before after → HandsOn part P told put (mid ++ last_piece told) before after
-handed_by part P None None put mid before after same turns = record {
-  pieces = turns.pieces;
-  puts = ap (λ l. l ++ []) turns.puts;
-  good = turns.good;
-  took = turns.took;
+handed_by part P None None put mid before after same rounds = record {
+  pieces = rounds.pieces;
+  puts = ap (λ l. l ++ []) rounds.puts;
+  good = rounds.good;
+  took = rounds.took;
 }
-handed_by part P None (Some said) put mid before after same turns = absurd cc
-handed_by part P (Some last) None put mid before after same turns = handed part P None last put mid before after tt turns
-handed_by part P (Some last) (Some said) put mid before after same turns =
-    handed part P (Some said) last put mid before after (sym (same_Some last said same)) turns
+handed_by part P None (Some said) put mid before after same rounds = absurd cc
+handed_by part P (Some last) None put mid before after same rounds = handed part P None last put mid before after tt rounds
+handed_by part P (Some last) (Some said) put mid before after same rounds =
+    handed part P (Some said) last put mid before after (sym (same_Some last said same)) rounds
 
 -- a fault that was met, and what was told of it
 not_said : {X : Type 0} (told : Option Ending) (last : Ending) → IfSome told (λ said. Some last ≡ Some said) → (last ≡ ending.Failed → X) → told ≡ Some ending.Failed → X

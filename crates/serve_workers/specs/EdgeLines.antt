@@ -1,32 +1,18 @@
--- The lines of an edges file that are put into a lane: those of at most 64 bytes without their line end.
-use Rattle.std.specs.Prelude.{◌≡◌, ℕ, List, [], ◌∷◌, ◌++◌, length, map, nat_le, if◌then◌else◌, Option, Some, None}
+-- The lines of an edges file, put into a lane one after another.
+use Rattle.std.specs.Prelude.{◌≡◌, ℕ, List, [], ◌∷◌, ◌++◌, map, Option, Some, None}
 use Rattle.gps_outside.specs.Told.{Stream, Goes, Passes}
 use Rattle.gps_outside.specs.ReadSteps.{TakesAll, TakesSome}
+use Rattle.serve_pieces.specs.EdgeLines.{edge_lines, last_edge_line}
 use Rattle.serve_pieces.specs.declared.piece.Ending.{Ending}
 use Rattle.serve_pieces.specs.declared.piece.Ending.TheVariants.{End, Failed, NoMemory}
 use Rattle.serve_pieces.specs.declared.piece.Piece.{Piece}
 use Rattle.serve_pieces.specs.declared.piece.Piece.TheVariants.{Line}
-use Rattle.line_cut.specs.declared.limit.Limit.{Limit}
-use Rattle.line_cut.specs.declared.limit.Limit.TheVariants.{Text}
-use Rattle.line_cut.specs.Lines.{text_of, open_line, last_lines}
-use Rattle.line_cut.specs.Limits.{fitting_lines}
 use Rattle.line_cut.specs.Standing.{LineCutterView, StandsFor}
 use Rattle.serve_workers.specs.declared.readers.ReaderStep.{ReaderStep}
 use Rattle.serve_workers.specs.declared.readers.ReaderStep.TheVariants.{On, Over, Closed}
 use Rattle.serve_workers.specs.declared.edges.Put.{Put}
 use Rattle.serve_workers.specs.declared.edges.Put.TheVariants as put
 use Rattle.serve_workers.specs.Readings.{last_piece}
-
-abbrev pub edge_limit : Limit
-edge_limit = Text 64
-
--- the lines whose end is there
-abbrev pub edge_lines : List ℕ → List (List ℕ)
-edge_lines bytes = map text_of (fitting_lines edge_limit bytes)
-
--- the last line, if it lacks its end
-abbrev pub last_edge_line : List ℕ → List (List ℕ)
-last_edge_line bytes = if nat_le (length (open_line bytes)) 64 then last_lines (open_line bytes) else []
 
 abbrev pub line_pieces : List (List ℕ) → List Piece
 line_pieces lines = map Line lines
@@ -50,7 +36,7 @@ TookLines (Some Failed) bytes before after = Goes (TakesSome bytes) before after
 TookLines (Some NoMemory) bytes before after = Goes (TakesSome bytes) before after
 TookLines None bytes before after = Goes (TakesSome bytes) before after
 
--- The lines of the bytes that were taken were put, in order, and behind them the last piece, unless the reader was told to end.
+-- The lines of the bytes that were taken were put, in order, and after them the last piece, unless the reader was told to end.
 pub record HandsLines (ending : Option Ending) (put put' : List Piece) (before after : Option Stream) : Type 0 where
   pub bytes : List ℕ
   pub lines : List (List ℕ)
@@ -76,7 +62,7 @@ StandsOn put.Done kept bytes = StandsFor kept bytes
 StandsOn put.NoMemory kept bytes = Unit {0}
 StandsOn put.Closed kept bytes = Unit {0}
 
--- behind these bytes the lines that a piece ends were put
+-- after these bytes, the lines that a piece completes were put
 pub record PutsLines (result : Put) (bytes piece : List ℕ) (kept : LineCutterView) (before after : List Piece) : Type 0 where
   pub lines : List (List ℕ)
   pub puts : after ≡ before ++ line_pieces lines
@@ -90,12 +76,12 @@ PutsLast put.NoMemory bytes before after = after ≡ before
 PutsLast put.Closed bytes before after = after ≡ before
 
 -- what a step of the reader took
-abbrev pub TookTurn : ReaderStep → List ℕ → Option Stream → Option Stream → Type 0
-TookTurn On more before after = Goes (Passes more) before after
-TookTurn (Over ending) more before after = TookLines (Some ending) more before after
-TookTurn Closed more before after = TookLines None more before after
+abbrev pub TookRound : ReaderStep → List ℕ → Option Stream → Option Stream → Type 0
+TookRound On more before after = Goes (Passes more) before after
+TookRound (Over ending) more before after = TookLines (Some ending) more before after
+TookRound Closed more before after = TookLines None more before after
 
--- which lines a step put, of those that its bytes end
+-- which lines a step put, of those that its bytes complete
 abbrev pub LinesIn : ReaderStep → List (List ℕ) → List (List ℕ) → Type 0
 LinesIn On got all = all ≡ got
 LinesIn (Over End) got all = all ≡ got
@@ -111,14 +97,14 @@ StandsIn (Over Failed) kept bytes = Unit {0}
 StandsIn (Over NoMemory) kept bytes = Unit {0}
 StandsIn Closed kept bytes = Unit {0}
 
--- steps of the reader behind these bytes
-pub record EdgeLineSteps (turn : ReaderStep) (bytes : List ℕ) (kept : LineCutterView) (put put' : List Piece) (before after : Option Stream) : Type 0 where
+-- steps of the reader after these bytes
+pub record EdgeLineSteps (round : ReaderStep) (bytes : List ℕ) (kept : LineCutterView) (put put' : List Piece) (before after : Option Stream) : Type 0 where
   pub more : List ℕ
   pub lines : List (List ℕ)
   pub puts : put' ≡ put ++ line_pieces lines
-  pub are : LinesIn turn (edge_lines bytes ++ lines) (edge_lines (bytes ++ more))
-  pub stands : StandsIn turn kept (bytes ++ more)
-  pub took : TookTurn turn more before after
+  pub are : LinesIn round (edge_lines bytes ++ lines) (edge_lines (bytes ++ more))
+  pub stands : StandsIn round kept (bytes ++ more)
+  pub took : TookRound round more before after
 
 -- the lines that were put, before the last piece
 pub record CutsLines (ending : Option Ending) (put put' : List Piece) (before after : Option Stream) : Type 0 where

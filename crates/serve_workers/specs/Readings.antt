@@ -1,6 +1,7 @@
 -- What a reader took from its source, and what it put into its lane.
 use Rattle.std.specs.Prelude.{◌≡◌, ℕ, ◌≤◌, ◌<◌, ◌⊎◌, Bool, true, false, List, [], ◌∷◌, ◌++◌, length, Option, Some, None}
 use Rattle.std.specs.List.{flat_map}
+use Rattle.gps_fixed.specs.Limits.{longest_piece}
 use Rattle.gps_fixed.specs.Moment.{Moment}
 use Rattle.gps_outside.specs.Counts.{Rose}
 use Rattle.gps_outside.specs.Told.{Stream, Goes, Passes}
@@ -40,7 +41,7 @@ last_piece (Some ending) = Last ending ∷ []
 
 -- these bytes were taken, and at most 512 more
 abbrev pub TakesMore : List ℕ → Stream → Stream → Type 0
-TakesMore bytes before after = (more : List ℕ) × ((length more ≤ 512) × TakesSome (bytes ++ more) before after)
+TakesMore bytes before after = (more : List ℕ) × ((length more ≤ longest_piece) × TakesSome (bytes ++ more) before after)
 
 -- The bytes that were put are those taken from the source. At its end nothing is left; at its fault what was left may be lost. If the reader was
 -- out of memory or was told to end, at most 512 bytes were taken and not put.
@@ -50,7 +51,7 @@ Took (Some Failed) bytes before after = Goes (TakesSome bytes) before after
 Took (Some NoMemory) bytes before after = Goes (TakesMore bytes) before after
 Took None bytes before after = Goes (TakesMore bytes) before after
 
--- Pieces as P says were put, in order, and behind them the last one, unless the reader was told to end. Their bytes are those taken.
+-- Pieces as P says were put, in order, and after them the last one, unless the reader was told to end. Their bytes are those taken.
 pub record HandsOn (part : Piece → List ℕ) (P : Piece → Type 0) (ending : Option Ending) (put put' : List Piece) (before after : Option Stream) : Type 0 where
   pub pieces : List Piece
   pub puts : put' ≡ (put ++ pieces) ++ last_piece ending
@@ -67,12 +68,12 @@ TookIn On bytes before after = Goes (Passes bytes) before after
 TookIn (Over ending) bytes before after = Took (Some ending) bytes before after
 TookIn Closed bytes before after = Took None bytes before after
 
--- the same of steps, before the last piece
-pub record ReaderSteps (part : Piece → List ℕ) (P : Piece → Type 0) (turn : ReaderStep) (put put' : List Piece) (before after : Option Stream) : Type 0 where
+-- the same for several steps, before the last piece
+pub record ReaderSteps (part : Piece → List ℕ) (P : Piece → Type 0) (round : ReaderStep) (put put' : List Piece) (before after : Option Stream) : Type 0 where
   pub pieces : List Piece
   pub puts : put' ≡ put ++ pieces
   pub good : Each P pieces
-  pub took : TookIn turn (flat_map part pieces) before after
+  pub took : TookIn round (flat_map part pieces) before after
 
 -- a reading that is over
 abbrev pub over : Option Ending → ReaderStep

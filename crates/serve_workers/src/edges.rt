@@ -1,8 +1,13 @@
-ghost use Rattle.std.specs.Prelude.{◌≡◌, ◌≤◌, ℕ, List, [], true};
+ghost use Rattle.std.specs.Prelude.{◌≡◌, ◌≤◌, ℕ, List, [], ◌∷◌, ◌++◌, true};
+ghost use Rattle.gps_lane.specs.Lane.{Begins};
+ghost use Rattle.serve_pieces.specs.declared.piece.Piece.TheVariants.{Line};
+ghost use Rattle.serve_pieces.specs.EdgeLines.{edge_limit};
+ghost use Rattle.serve_pieces.specs.Held.{AreDue};
 ghost use Rattle.serve_pieces.specs.Sizes.{IsShort};
 ghost use Rattle.line_cut.specs.Standing.{StandsFor};
 ghost use Rattle.serve_workers.specs.Readings.{Meets, StepHasCause, over};
-ghost use Rattle.serve_workers.specs.EdgeLines.{edge_limit, PutsLine, PutsLines, PutsLast, EdgeLineSteps, CutsLines, HandsLines};
+ghost use Rattle.serve_workers.specs.Sourced.{CutterAtEnd, CutterBefore, CutterFrom, CutterFromOn, LinesFrom};
+ghost use Rattle.serve_workers.specs.EdgeLines.{PutsLine, PutsLines, PutsLast, EdgeLineSteps, CutsLines, HandsLines};
 
 use crate::pauses::pause;
 use crate::puts::put;
@@ -17,7 +22,7 @@ use std::sync::Wait;
 /// How many bytes a line may have without its line end.
 const LONGEST: usize = 64;
 
-/// What came of a line, or of lines.
+/// What became of a line, or of lines.
 enum Put {
     Done,
     NoMemory,
@@ -35,6 +40,7 @@ fn put_line<R: Wait + Copy>(
 ) -> Put
     requires open { pieces.old.is_open ≡ true }
     requires short { IsShort text.now }
+    requires due { Begins AreDue pieces.old.about (pieces.old.put ++ Line text.now ∷ []) }
     ensures puts { PutsLine result text.now pieces.old.put pieces.new.put }
     ensures lane { pieces.new ≡ record pieces.old { put = pieces.new.put } }
 {
@@ -51,7 +57,7 @@ fn put_line<R: Wait + Copy>(
     }
 }
 
-/// Puts the lines that a piece of bytes ends. Those that are too long are passed over.
+/// Puts the lines that a piece of bytes completes. Those that are too long are skipped.
 fn put_lines<R: Wait + Copy>(
     rt: &R,
     alloc: Global,
@@ -61,9 +67,12 @@ fn put_lines<R: Wait + Copy>(
     own: &Bell,
     pump: &Bell,
 ) -> Put
+    // The lane is open, and the cutter keeps what the bytes so far have left open.
     requires open { pieces.old.is_open ≡ true }
     requires limit { cutter.old.limit ≡ edge_limit }
-    requires stands { (bytes : List ℕ) × StandsFor cutter.old bytes }
+    requires from { CutterBefore pieces.old.about.source pieces.old.put cutter.old piece.now }
+
+    // The lines were put in order, and nothing else.
     ensures limit { cutter.new.limit ≡ cutter.old.limit }
     ensures puts { (bytes : List ℕ) → StandsFor cutter.old bytes → PutsLines result bytes piece.now cutter.new pieces.old.put pieces.new.put }
     ensures lane { pieces.new ≡ record pieces.old { put = pieces.new.put } }
@@ -85,7 +94,7 @@ fn put_lines<R: Wait + Copy>(
     }
 }
 
-/// Puts the line that lacks its end.
+/// Puts the last line, if it lacks its line end.
 fn put_last<R: Wait + Copy>(
     rt: &R,
     alloc: Global,
@@ -96,7 +105,7 @@ fn put_last<R: Wait + Copy>(
 ) -> Put
     requires open { pieces.old.is_open ≡ true }
     requires limit { cutter.now.limit ≡ edge_limit }
-    requires stands { (bytes : List ℕ) × StandsFor cutter.now bytes }
+    requires from { CutterAtEnd pieces.old.about.source pieces.old.put cutter.now }
     ensures puts { (bytes : List ℕ) → StandsFor cutter.now bytes → PutsLast result bytes pieces.old.put pieces.new.put }
     ensures lane { pieces.new ≡ record pieces.old { put = pieces.new.put } }
 {
@@ -107,7 +116,7 @@ fn put_last<R: Wait + Copy>(
     }
 }
 
-/// Reads once, and puts the lines that the bytes end.
+/// Reads once, and puts the lines that the bytes complete.
 fn cut_once<S: Source, R: Wait + Copy>(
     rt: &R,
     alloc: Global,
@@ -117,13 +126,19 @@ fn cut_once<S: Source, R: Wait + Copy>(
     own: &Bell,
     pump: &Bell,
 ) -> ReaderStep
+    // The lane is open, and the cutter keeps what the bytes so far have left open.
     requires open { pieces.old.is_open ≡ true }
     requires limit { cutter.old.limit ≡ edge_limit }
-    requires stands { (bytes : List ℕ) × StandsFor cutter.old bytes }
+    requires from { CutterFrom pieces.old.about.source pieces.old.put cutter.old (S.content source.old) }
+
+    // The lines were put in order, and nothing else.
     ensures limit { cutter.new.limit ≡ cutter.old.limit }
-    ensures turns { (bytes : List ℕ) → StandsFor cutter.old bytes
+    ensures rounds { (bytes : List ℕ) → StandsFor cutter.old bytes
         → EdgeLineSteps result bytes cutter.new pieces.old.put pieces.new.put (S.content source.old) (S.content source.new) }
     ensures lane { pieces.new ≡ record pieces.old { put = pieces.new.put } }
+    ensures from { CutterFromOn result pieces.new.about.source pieces.new.put cutter.new (S.content source.new) }
+
+    // The source's counts never fall. Its faults rise exactly if it failed.
     ensures faults_stay { S.faults source.old ≤ S.faults source.new }
     ensures quiets_stay { S.quiets source.old ≤ S.quiets source.new }
     ensures failed { StepHasCause result (S.faults source.old) (S.faults source.new) }
@@ -147,7 +162,7 @@ fn cut_once<S: Source, R: Wait + Copy>(
     }
 }
 
-/// Reads a source to its end, and puts the lines that its bytes end. None: it was told to end before.
+/// Reads a source to its end, and puts the lines that its bytes complete. None if it was told to end before that.
 fn cut_on<S: Source, R: Wait + Copy>(
     rt: &R,
     alloc: Global,
@@ -157,12 +172,19 @@ fn cut_on<S: Source, R: Wait + Copy>(
     own: &Bell,
     pump: &Bell,
 ) -> Option<Ending>
+    // The lane is open, and the cutter keeps what the bytes so far have left open.
     requires open { pieces.old.is_open ≡ true }
     requires limit { cutter.old.limit ≡ edge_limit }
     requires stands { StandsFor cutter.old [] }
+    requires from { LinesFrom pieces.old.about.source pieces.old.put [] (S.content source.old) }
+
+    // The lines were put in order, and nothing else.
     ensures limit { cutter.new.limit ≡ edge_limit }
-    ensures turns { EdgeLineSteps (over result) [] cutter.new pieces.old.put pieces.new.put (S.content source.old) (S.content source.new) }
+    ensures rounds { EdgeLineSteps (over result) [] cutter.new pieces.old.put pieces.new.put (S.content source.old) (S.content source.new) }
     ensures lane { pieces.new ≡ record pieces.old { put = pieces.new.put } }
+    ensures from { CutterFromOn (over result) pieces.new.about.source pieces.new.put cutter.new (S.content source.new) }
+
+    // The source's counts never fall. Its faults rise exactly if it failed.
     ensures faults_stay { S.faults source.old ≤ S.faults source.new }
     ensures quiets_stay { S.quiets source.old ≤ S.quiets source.new }
     ensures failed { StepHasCause (over result) (S.faults source.old) (S.faults source.new) }
@@ -177,7 +199,7 @@ fn cut_on<S: Source, R: Wait + Copy>(
     unreachable!()
 }
 
-/// Reads a source to its end, and puts its lines, with a last one that lacks its end.
+/// Reads a source to its end, and puts its lines, also a last one that lacks its line end.
 fn cut_all<S: Source, R: Wait + Copy>(
     rt: &R,
     alloc: Global,
@@ -187,8 +209,13 @@ fn cut_all<S: Source, R: Wait + Copy>(
     pump: &Bell,
 ) -> Option<Ending>
     requires open { pieces.old.is_open ≡ true }
+    requires from { LinesFrom pieces.old.about.source pieces.old.put [] (S.content source.old) }
+
+    // The lines were put, and nothing else.
     ensures cuts { CutsLines result pieces.old.put pieces.new.put (S.content source.old) (S.content source.new) }
     ensures lane { pieces.new ≡ record pieces.old { put = pieces.new.put } }
+
+    // The source's counts never fall. Its faults rise exactly if it failed.
     ensures faults_stay { S.faults source.old ≤ S.faults source.new }
     ensures quiets_stay { S.quiets source.old ≤ S.quiets source.new }
     ensures failed { StepHasCause (over result) (S.faults source.old) (S.faults source.new) }
@@ -206,7 +233,7 @@ fn cut_all<S: Source, R: Wait + Copy>(
     }
 }
 
-/// Reads a source to its end, unless it is to read nothing, puts its lines, and behind them how the source ended.
+/// Reads a source to its end, unless it is to read nothing, puts its lines, and after them how the source ended.
 fn put_edges<S: Source, R: Wait + Copy>(
     rt: &R,
     alloc: Global,
@@ -217,8 +244,13 @@ fn put_edges<S: Source, R: Wait + Copy>(
     span: Span,
 ) -> ReaderEnd
     requires open { pieces.old.is_open ≡ true }
+    requires from { LinesFrom pieces.old.about.source pieces.old.put [] (S.content source.old) }
+
+    // The lines were put, and after them how the source ended.
     ensures hands { HandsLines result.told pieces.old.put pieces.new.put (S.content source.old) (S.content source.new) }
     ensures lane { pieces.new ≡ record pieces.old { put = pieces.new.put } }
+
+    // The source's counts never fall. It failed exactly if its faults rose.
     ensures faults_stay { S.faults source.old ≤ S.faults source.new }
     ensures quiets_stay { S.quiets source.old ≤ S.quiets source.new }
     ensures meets { Meets result.failed result.told (S.faults source.old) (S.faults source.new) }
@@ -232,7 +264,7 @@ fn put_edges<S: Source, R: Wait + Copy>(
 
 /// Reads the lines of an edges file to its end, and puts each that has at most 64 bytes without its line end, LF or CR
 /// LF; the last may lack it. The last piece tells how the source ended, unless the reader was told to end before that was put, as
-/// [`read_device`](crate::read_device). In whatever way it ends, the source is closed.
+/// [`read_device`](crate::read_device). However it ends, the source is closed.
 #[tactic(auto, using(crate::proofs::LineStepping::lines_closed))]
 pub fn read_edges<S: Source, R: Wait + Copy>(
     rt: &R,
@@ -244,8 +276,13 @@ pub fn read_edges<S: Source, R: Wait + Copy>(
     span: Span,
 ) -> ReaderEnd
     requires open { pieces.old.is_open ≡ true }
+    requires from { LinesFrom pieces.old.about.source pieces.old.put [] (S.content source.old) }
+
+    // The lines were put, and after them how the source ended.
     ensures hands { HandsLines result.told pieces.old.put pieces.new.put (S.content source.old) (S.content source.new) }
     ensures lane { pieces.new ≡ record pieces.old { put = pieces.new.put } }
+
+    // The source's counts never fall. It failed exactly if its faults rose.
     ensures faults_stay { S.faults source.old ≤ S.faults source.new }
     ensures quiets_stay { S.quiets source.old ≤ S.quiets source.new }
     ensures meets { Meets result.failed result.told (S.faults source.old) (S.faults source.new) }

@@ -2,14 +2,19 @@ use crate::{Dials, SharedClock};
 use gps_fixed::NoMemory;
 use gps_outside::Clock;
 use serve_pieces::Piece;
+use stamp_shares::StampShare;
 use std::alloc::Global;
 use std::sync::{Mutex, Wait};
 
 /// How a reader makes a piece of the bytes that a read gave.
 pub(crate) trait Maker {
-    ghost use Rattle.std.specs.Prelude.{◌≡◌, ℕ, List, IfOk};
+    ghost use Rattle.std.specs.Prelude.{◌≡◌, ℕ, List, IfOk, OnErr};
     ghost use Rattle.serve_pieces.specs.declared.piece.Piece.{Piece};
+    ghost use Rattle.serve_pieces.specs.Carried.{stamp_part};
     ghost use Rattle.serve_pieces.specs.Sizes.{IsChunk};
+    ghost use Rattle.serve_workers.specs.Sourced.{Carries};
+    ghost use Rattle.serve_workers.specs.Stamping.{GivenOneAtMost, given_on};
+    ghost use Rattle.stamp_shares.specs.declared.view.ShareView.{ShareView};
 
     /// The bytes that a piece carries.
     ghost part: { Piece → List ℕ };
@@ -17,10 +22,16 @@ pub(crate) trait Maker {
     /// What holds of its pieces.
     ghost good: { Piece → Type 0 };
 
-    fn piece<R: Wait>(&self, rt: &R, alloc: Global, bytes: &[u8]) -> Result<Piece, NoMemory>
+    /// The stamps that were given to it.
+    ghost share: { Self → ShareView };
+
+    fn piece<R: Wait>(&mut self, rt: &R, alloc: Global, bytes: &[u8]) -> Result<Piece, NoMemory>
         requires { IsChunk bytes.now }
         ensures bytes { IfOk result (λ piece. part piece ≡ bytes.now) }
-        ensures good { IfOk result good };
+        ensures good { IfOk result good }
+        ensures carries { Carries part good }
+        ensures stamped { IfOk result (λ piece. share self.new ≡ given_on (stamp_part piece) (share self.old)) }
+        ensures late { OnErr result (GivenOneAtMost (share self.old) (share self.new)) };
 }
 
 /// Pieces of a session's requests.
@@ -30,19 +41,25 @@ pub(crate) struct Requests;
 impl Maker for Requests {
     ghost use Rattle.serve_pieces.specs.Carried.{input_part};
     ghost use Rattle.serve_workers.specs.Readings.{IsInputPiece};
+    ghost use Rattle.stamp_shares.specs.Shares.{new_share};
 
     ghost part = { input_part };
 
     ghost good = { IsInputPiece };
 
-    fn piece<R: Wait>(&self, _rt: &R, alloc: Global, bytes: &[u8]) -> Result<Piece, NoMemory> {
+    ghost share = { λ _. new_share 0 };
+
+    fn piece<R: Wait>(&mut self, _rt: &R, alloc: Global, bytes: &[u8]) -> Result<Piece, NoMemory> {
         Piece::input(alloc, bytes)
     }
 }
 
-/// Pieces of a device, each with a stamp of the shared clock.
+/// Pieces of a device, each with a stamp that the shared clock gives for it.
 #[derive(Drop)]
-pub(crate) struct Stamped<'c, C: Clock, D: Dials>(pub(crate) &'c Mutex<SharedClock<C, D>>);
+pub(crate) struct Stamped<'c, C: Clock, D: Dials> {
+    pub(crate) clock: &'c Mutex<SharedClock<C, D>>,
+    pub(crate) share: StampShare<D>,
+}
 
 impl<'c, C: Clock, D: Dials> Maker for Stamped<'c, C, D> {
     ghost use Rattle.serve_pieces.specs.Carried.{device_part};
@@ -52,8 +69,10 @@ impl<'c, C: Clock, D: Dials> Maker for Stamped<'c, C, D> {
 
     ghost good = { IsDevicePiece D.may };
 
-    fn piece<R: Wait>(&self, rt: &R, alloc: Global, bytes: &[u8]) -> Result<Piece, NoMemory> {
-        let at = self.0.lock(rt).now();
+    ghost share = { λ m. m.share };
+
+    fn piece<R: Wait>(&mut self, rt: &R, alloc: Global, bytes: &[u8]) -> Result<Piece, NoMemory> {
+        let at = self.clock.lock(rt).now(&mut self.share);
         Piece::bytes(alloc, at, bytes)
     }
 }

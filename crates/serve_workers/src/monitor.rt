@@ -23,13 +23,18 @@ pub fn run_monitor<R: Wait>(
     own: &Bell,
     taken: &mut Vec<Numbered>,
 ) -> Result<(), NoMemory>
+    // The monitor reads this segment, and has taken nothing yet.
     requires part { monitor.old.segment ≡ segment.now }
     requires new { monitor.old.taken ≡ [] }
     requires empty { taken.old.items ≡ [] }
+
+    // The pairs that are kept: all with a new number, or the first of them if it is out of memory.
     ensures all { OnOk result (taken.new.items ≡ each_once monitor.new.taken) }
     ensures first { IsBeginning taken.new.items (each_once monitor.new.taken) }
     ensures missing { OnErr result (length taken.new.items < length (each_once monitor.new.taken)) }
     ensures climbs { Climbs taken.new.items }
+
+    // The readings made at least two loads each, all of one segment.
     ensures loads { OnOk result (length monitor.old.kept + 2 * tries ≤ length monitor.new.kept) }
     ensures segment { monitor.new.segment ≡ monitor.old.segment }
 {

@@ -2,8 +2,8 @@ use gps_lane::Bell;
 use std::sync::Wait;
 use std::time::Duration;
 
-/// How many milliseconds a thread sleeps after nothing came, so that an object of the outside that answers at once for
-/// ever does not keep it busy.
+/// How many milliseconds a thread sleeps after nothing came, so that an object of the outside that always answers at
+/// once does not keep it busy.
 const PAUSE: u64 = 1;
 
 /// Sleeps for a moment, or until a ring. False, without any sleep, if the bell is closed.

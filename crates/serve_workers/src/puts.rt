@@ -1,4 +1,6 @@
-ghost use Rattle.std.specs.Prelude.{◌≡◌, ◌++◌, true, IfSome};
+ghost use Rattle.std.specs.Prelude.{◌≡◌, ◌++◌, [], ◌∷◌, true, IfSome};
+ghost use Rattle.gps_lane.specs.Lane.{Begins};
+ghost use Rattle.serve_pieces.specs.Held.{AreDue};
 ghost use Rattle.serve_workers.specs.Readings.{last_piece};
 ghost use Rattle.serve_workers.specs.Putting.{puts_if};
 
@@ -6,7 +8,7 @@ use gps_lane::{Bell, Pushed, Tx};
 use serve_pieces::{Ending, Piece};
 use std::sync::Wait;
 
-/// Puts a piece, and waits for room if the lane is full. Once it is told to end, the piece is dropped.
+/// Puts a piece that is due, and waits for room if the lane is full. Once it is told to end, drops the piece, and answers false.
 pub(crate) fn put<R: Wait + Copy>(
     rt: &R,
     pieces: &mut Tx<Piece, R>,
@@ -14,6 +16,7 @@ pub(crate) fn put<R: Wait + Copy>(
     own: &Bell,
 ) -> bool
     requires open { pieces.old.is_open ≡ true }
+    requires due { Begins AreDue pieces.old.about (pieces.old.put ++ piece ∷ []) }
     ensures { pieces.new ≡ puts_if result piece pieces.old }
 {
     let mut next = piece;
@@ -44,6 +47,7 @@ pub(crate) fn put_ending<R: Wait + Copy>(
     ensures puts { pieces.new ≡ record pieces.old { put = pieces.old.put ++ last_piece result } }
     ensures ending { IfSome result (λ last. last ≡ ending) }
 {
+    pieces.show_due();
     if put(rt, pieces, Piece::Last(ending), own) {
         pump.ring();
         Some(ending)

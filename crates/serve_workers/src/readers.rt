@@ -2,9 +2,11 @@ ghost use Rattle.std.specs.Prelude.{◌≡◌, ◌≤◌, ◌++◌, [], IfSome, 
 ghost use Rattle.gps_outside.specs.Counts.{Rose};
 ghost use Rattle.gps_outside.specs.Told.{Goes};
 ghost use Rattle.serve_pieces.specs.declared.piece.Ending.{Ending};
-ghost use Rattle.serve_pieces.specs.Carried.{device_part, input_part};
+ghost use Rattle.serve_pieces.specs.Carried.{device_part, input_part, stamps_of};
 ghost use Rattle.serve_workers.specs.declared.readers.ReaderStep.TheVariants.{Over};
 ghost use Rattle.serve_workers.specs.Readings.{HandsOn, IsDevicePiece, IsInputPiece, Meets, ReaderSteps, StepHasCause, Took, WasRead, is_fault, last_piece, over};
+ghost use Rattle.serve_workers.specs.Sourced.{FromSource, FromSourceOn};
+ghost use Rattle.serve_workers.specs.Stamping.{StampsPieces, spare_in};
 
 use crate::maker::{Maker, Requests, Stamped};
 use crate::pauses::pause;
@@ -13,6 +15,7 @@ use crate::{Dials, SharedClock};
 use gps_lane::{Bell, Tx};
 use gps_outside::{Clock, ReadStep, Source};
 use serve_pieces::{Ending, Piece};
+use stamp_shares::StampShare;
 use std::alloc::Global;
 use std::sync::{Mutex, Wait};
 
@@ -24,20 +27,20 @@ pub(crate) const READ: usize = 512;
 pub enum Span {
     /// All, to its source's end.
     Whole,
-    /// Nothing, because there is no thread for it, and no other thread may wait in a read of it; it says that it was out of memory.
+    /// Nothing: there is no thread for it, and no other thread may wait in a read. It tells that it was out of memory, unless its source fails.
     Nothing,
 }
 
 /// How a reader ended.
 #[derive(Clone, Copy, Debug, PartialEq, Eq)]
 pub struct ReaderEnd {
-    /// What it told its lane of its source's end; none if it was told to end before.
+    /// How it told its lane that its source ended; none if it was told to end before that.
     pub told: Option<Ending>,
     /// Whether its source failed.
     pub failed: bool,
 }
 
-/// What one step of a reader comes to.
+/// How one step of a reader went.
 pub(crate) enum ReaderStep {
     On,
     /// The source ended, or the reader was out of memory.
@@ -47,18 +50,27 @@ pub(crate) enum ReaderStep {
 }
 
 /// Reads once, and puts what came.
+#[tactic(auto, using(crate::proofs::Stamping::one_stamped, crate::proofs::Stamping::late_stamped, crate::proofs::Stamping::dropped_stamp, crate::proofs::Stamping::none_stamped))]
 fn read_once<M: Maker, S: Source, R: Wait + Copy>(
     rt: &R,
     alloc: Global,
-    maker: &M,
+    maker: &mut M,
     source: &mut S,
     pieces: &mut Tx<Piece, R>,
     own: &Bell,
     pump: &Bell,
 ) -> ReaderStep
+    // The lane is open, and has what its source gave so far.
     requires open { pieces.old.is_open ≡ true }
-    ensures turns { ReaderSteps M.part M.good result pieces.old.put pieces.new.put (S.content source.old) (S.content source.new) }
+    requires from { FromSource M.part M.good pieces.old.about.source pieces.old.put (S.content source.old) }
+
+    // What was put is what was read, with the stamps of the share.
+    ensures rounds { ReaderSteps M.part M.good result pieces.old.put pieces.new.put (S.content source.old) (S.content source.new) }
+    ensures stamps { StampsPieces (spare_in result) (M.share maker.old) (M.share maker.new) pieces.old.put pieces.new.put }
     ensures lane { pieces.new ≡ record pieces.old { put = pieces.new.put } }
+    ensures from { FromSourceOn result M.part M.good pieces.new.about.source pieces.new.put (S.content source.new) }
+
+    // The source was read, and its faults rose exactly if it failed.
     ensures read { Goes (WasRead (S.faults source.new) (S.quiets source.new)) (S.content source.old) (S.content source.new) }
     ensures faults_stay { S.faults source.old ≤ S.faults source.new }
     ensures quiets_stay { S.quiets source.old ≤ S.quiets source.new }
@@ -91,19 +103,27 @@ fn read_once<M: Maker, S: Source, R: Wait + Copy>(
     }
 }
 
-/// Reads a source to its end, and puts what each read gave. None: it was told to end before.
+/// Reads a source to its end, and puts what each read gave. None if it was told to end before that.
+#[tactic(auto, using(crate::proofs::Stamping::none_stamped, crate::proofs::Stamping::stamped_on))]
 fn read_on<M: Maker, S: Source, R: Wait + Copy>(
     rt: &R,
     alloc: Global,
-    maker: &M,
+    maker: &mut M,
     source: &mut S,
     pieces: &mut Tx<Piece, R>,
     own: &Bell,
     pump: &Bell,
 ) -> Option<Ending>
+    // The lane is open, and has what its source gave so far.
     requires open { pieces.old.is_open ≡ true }
-    ensures turns { ReaderSteps M.part M.good (over result) pieces.old.put pieces.new.put (S.content source.old) (S.content source.new) }
+    requires from { FromSource M.part M.good pieces.old.about.source pieces.old.put (S.content source.old) }
+
+    // What was put is what was read, with the stamps of the share.
+    ensures rounds { ReaderSteps M.part M.good (over result) pieces.old.put pieces.new.put (S.content source.old) (S.content source.new) }
+    ensures stamps { StampsPieces 1 (M.share maker.old) (M.share maker.new) pieces.old.put pieces.new.put }
     ensures lane { pieces.new ≡ record pieces.old { put = pieces.new.put } }
+
+    // The source was read, and its faults rose exactly if it failed.
     ensures read { Goes (WasRead (S.faults source.new) (S.quiets source.new)) (S.content source.old) (S.content source.new) }
     ensures faults_stay { S.faults source.old ≤ S.faults source.new }
     ensures quiets_stay { S.quiets source.old ≤ S.quiets source.new }
@@ -119,20 +139,27 @@ fn read_on<M: Maker, S: Source, R: Wait + Copy>(
     unreachable!()
 }
 
-/// Reads a source to its end, puts what each read gave, and closes the source. None: it was told to end before.
+/// Reads a source to its end, puts what each read gave, and closes the source. None if it was told to end before that.
 #[tactic(auto, using(crate::proofs::Stepping::steps_closed, crate::proofs::Stepping::was_read_closed))]
 fn read_and_close<M: Maker, S: Source, R: Wait + Copy>(
     rt: &R,
     alloc: Global,
-    maker: &M,
+    maker: &mut M,
     source: &mut S,
     pieces: &mut Tx<Piece, R>,
     own: &Bell,
     pump: &Bell,
 ) -> Option<Ending>
+    // The lane is open, and has what its source gave so far.
     requires open { pieces.old.is_open ≡ true }
-    ensures turns { ReaderSteps M.part M.good (over result) pieces.old.put pieces.new.put (S.content source.old) (S.content source.new) }
+    requires from { FromSource M.part M.good pieces.old.about.source pieces.old.put (S.content source.old) }
+
+    // What was put is what was read, with the stamps of the share.
+    ensures rounds { ReaderSteps M.part M.good (over result) pieces.old.put pieces.new.put (S.content source.old) (S.content source.new) }
+    ensures stamps { StampsPieces 1 (M.share maker.old) (M.share maker.new) pieces.old.put pieces.new.put }
     ensures lane { pieces.new ≡ record pieces.old { put = pieces.new.put } }
+
+    // The source was read, and its faults rose exactly if it failed.
     ensures read { Goes (WasRead (S.faults source.new) (S.quiets source.new)) (S.content source.old) (S.content source.new) }
     ensures faults_stay { S.faults source.old ≤ S.faults source.new }
     ensures quiets_stay { S.quiets source.old ≤ S.quiets source.new }
@@ -175,20 +202,26 @@ pub(crate) fn tell<R: Wait + Copy>(
     }
 }
 
-/// Reads a source to its end, puts what each read gave, and after it how the source ended. In whatever way it ends, the source is
-/// closed.
+/// Reads a source to its end, puts what each read gave, and after it how the source ended. However it ends, the source is closed.
 fn read_all<M: Maker, S: Source, R: Wait + Copy>(
     rt: &R,
     alloc: Global,
-    maker: &M,
+    maker: &mut M,
     source: &mut S,
     pieces: &mut Tx<Piece, R>,
     own: &Bell,
     pump: &Bell,
 ) -> ReaderEnd
+    // The lane is open, and has what its source gave so far.
     requires open { pieces.old.is_open ≡ true }
+    requires from { FromSource M.part M.good pieces.old.about.source pieces.old.put (S.content source.old) }
+
+    // What was read was put, with the stamps of the share, and after it how the source ended.
     ensures hands { HandsOn M.part M.good result.told pieces.old.put pieces.new.put (S.content source.old) (S.content source.new) }
+    ensures stamps { StampsPieces 1 (M.share maker.old) (M.share maker.new) pieces.old.put pieces.new.put }
     ensures lane { pieces.new ≡ record pieces.old { put = pieces.new.put } }
+
+    // The source was read, and it failed exactly if its faults rose.
     ensures read { Goes (WasRead (S.faults source.new) (S.quiets source.new)) (S.content source.old) (S.content source.new) }
     ensures faults_stay { S.faults source.old ≤ S.faults source.new }
     ensures quiets_stay { S.quiets source.old ≤ S.quiets source.new }
@@ -198,7 +231,8 @@ fn read_all<M: Maker, S: Source, R: Wait + Copy>(
     tell(rt, pieces, met, own, pump)
 }
 
-/// Closes a source, and puts that its reader was out of memory.
+/// Closes a source, and tells its lane that its reader was out of memory.
+#[tactic(auto, using(crate::proofs::Stamping::same_stamps))]
 fn refuse<M: Maker, S: Source, R: Wait + Copy>(
     rt: &R,
     _maker: &M,
@@ -208,8 +242,13 @@ fn refuse<M: Maker, S: Source, R: Wait + Copy>(
     pump: &Bell,
 ) -> ReaderEnd
     requires open { pieces.old.is_open ≡ true }
+
+    // Nothing was put but how the source ended.
     ensures hands { HandsOn M.part M.good result.told pieces.old.put pieces.new.put (S.content source.old) (S.content source.new) }
+    ensures stamps { stamps_of pieces.new.put ≡ stamps_of pieces.old.put }
     ensures lane { pieces.new ≡ record pieces.old { put = pieces.new.put } }
+
+    // The source was not read, and so did not fail.
     ensures faults { S.faults source.new ≡ S.faults source.old }
     ensures quiets { S.quiets source.new ≡ S.quiets source.old }
     ensures meets { Meets result.failed result.told (S.faults source.old) (S.faults source.new) }
@@ -218,7 +257,7 @@ fn refuse<M: Maker, S: Source, R: Wait + Copy>(
     tell(rt, pieces, Some(Ending::NoMemory), own, pump)
 }
 
-/// Closes a source and reads it once, which therefore does not wait. What comes all the same is dropped.
+/// Closes a source, and then reads it once, so that the read does not wait. What it gives is dropped.
 fn read_closed<S: Source>(source: &mut S) -> Ending
     ensures took { Took (Some result) [] (S.content source.old) (S.content source.new) }
     ensures read { Goes (WasRead (S.faults source.new) (S.quiets source.new)) (S.content source.old) (S.content source.new) }
@@ -236,34 +275,48 @@ fn read_closed<S: Source>(source: &mut S) -> Ending
     }
 }
 
-/// Reads a device to its end. Each read that gives bytes makes a piece of them, with the clock's stamp; the last piece
-/// tells how the source ended, unless the reader was told to end before that was put, by its own bell, which was closed before a read
-/// that gave nothing, or before a piece was put; that piece is dropped.
+/// Reads a device to its end. Each read that gives bytes makes a piece of them, with the stamp that the clock then gives for this reader's
+/// share. The last piece tells how the source ended. There is none if the reader was told to end: its own bell was closed before a read that gave
+/// nothing, or before a piece was put, which is then dropped.
 ///
 /// A reader that reads nothing tells that it was out of memory, and does not wait.
 ///
 /// It rings the pump after each piece, and sleeps on its own bell while its lane is full.
+#[tactic(auto, using(crate::proofs::Stamping::unstamped))]
 pub fn read_device<S: Source, C: Clock, D: Dials, R: Wait + Copy>(
     rt: &R,
     alloc: Global,
     source: &mut S,
     clock: &Mutex<SharedClock<C, D>>,
+    share: StampShare<D>,
     pieces: &mut Tx<Piece, R>,
     own: &Bell,
     pump: &Bell,
     span: Span,
-) -> ReaderEnd
+) -> (ReaderEnd, StampShare<D>)
+    // The lane is open, and has what its source gave so far.
     requires open { pieces.old.is_open ≡ true }
-    ensures hands { HandsOn device_part (IsDevicePiece D.may) result.told pieces.old.put pieces.new.put (S.content source.old) (S.content source.new) }
+    requires from { FromSource device_part (IsDevicePiece D.may) pieces.old.about.source pieces.old.put (S.content source.old) }
+
+    // What was read was put, with the stamps of the share, and after it how the source ended.
+    ensures hands { HandsOn device_part (IsDevicePiece D.may) result.0.told pieces.old.put pieces.new.put (S.content source.old) (S.content source.new) }
+    ensures stamps { StampsPieces 1 share result.1 pieces.old.put pieces.new.put }
     ensures lane { pieces.new ≡ record pieces.old { put = pieces.new.put } }
+
+    // The source's counts never fall. It failed exactly if its faults rose.
     ensures faults_stay { S.faults source.old ≤ S.faults source.new }
     ensures quiets_stay { S.quiets source.old ≤ S.quiets source.new }
-    ensures meets { Meets result.failed result.told (S.faults source.old) (S.faults source.new) }
+    ensures meets { Meets result.0.failed result.0.told (S.faults source.old) (S.faults source.new) }
 {
+    let mut maker = Stamped { clock, share };
     if span == Span::Nothing {
-        return refuse(rt, &Stamped(clock), source, pieces, own, pump);
+        let end = refuse(rt, &maker, source, pieces, own, pump);
+        let Stamped { share, .. } = maker;
+        return (end, share);
     }
-    read_all(rt, alloc, &Stamped(clock), source, pieces, own, pump)
+    let end = read_all(rt, alloc, &mut maker, source, pieces, own, pump);
+    let Stamped { share, .. } = maker;
+    (end, share)
 }
 
 /// Reads the requests of a session to their end, as [`read_device`] reads a device. It makes at least one read; if it is to read nothing, it
@@ -277,9 +330,15 @@ pub fn read_session<S: Source, R: Wait + Copy>(
     pump: &Bell,
     span: Span,
 ) -> ReaderEnd
+    // The lane is open, and has what its source gave so far.
     requires open { pieces.old.is_open ≡ true }
+    requires from { FromSource input_part IsInputPiece pieces.old.about.source pieces.old.put (S.content source.old) }
+
+    // What was read was put, and after it how the source ended.
     ensures hands { HandsOn input_part IsInputPiece result.told pieces.old.put pieces.new.put (S.content source.old) (S.content source.new) }
     ensures lane { pieces.new ≡ record pieces.old { put = pieces.new.put } }
+
+    // The source was read, and it failed exactly if its faults rose.
     ensures read { Goes (WasRead (S.faults source.new) (S.quiets source.new)) (S.content source.old) (S.content source.new) }
     ensures faults_stay { S.faults source.old ≤ S.faults source.new }
     ensures quiets_stay { S.quiets source.old ≤ S.quiets source.new }
@@ -289,5 +348,5 @@ pub fn read_session<S: Source, R: Wait + Copy>(
         let ending = read_closed(source);
         return tell(rt, pieces, Some(ending), own, pump);
     }
-    read_all(rt, alloc, &Requests, source, pieces, own, pump)
+    read_all(rt, alloc, &mut Requests, source, pieces, own, pump)
 }

@@ -1,9 +1,9 @@
-ghost use Rattle.std.specs.Prelude.{◌≡◌, ◌<◌, ◌≤◌, ◌⊎◌, ℕ, List, [], ◌++◌, true, false, length, Option};
+ghost use Rattle.std.specs.Prelude.{◌≡◌, ◌<◌, ◌≤◌, ◌⊎◌, ℕ, List, [], ◌++◌, true, false, length, Option, None};
 ghost use Rattle.gps_outside.specs.Counts.{Rose};
 ghost use Rattle.gps_outside.specs.declared.sink.WriteStep.{WriteStep};
-ghost use Rattle.gps_outside.specs.Writes.{FailsOnly, FitsPiece, Writes as WritesPiece, WritesAll};
+ghost use Rattle.gps_outside.specs.Writes.{AllowsAll, FailsOnly, FitsPiece, Writes as WritesPiece, WritesAll};
 ghost use Rattle.serve_workers.specs.declared.writer.WriterEnd.{WriterEnd};
-ghost use Rattle.serve_workers.specs.Writing.{Gathers, Writes};
+ghost use Rattle.serve_workers.specs.Writing.{Gathers, MayGoOn, Writes};
 
 use gps_lane::{Bell, Rx};
 use gps_outside::{ClientSink, WriteStep};
@@ -25,7 +25,10 @@ const ROOM: usize = 16_384;
 
 /// Writes a piece. Once the bell is closed, the sink is told before each write that what is still to be written is bounded.
 fn write_piece<K: ClientSink>(own: &Bell, sink: &mut K, piece: &[u8]) -> bool
+    requires allowed { AllowsAll K.asks K.written K.allows sink.old piece.now }
+    ensures client { K.asks sink.new ≡ K.asks sink.old }
     ensures bytes { WritesAll result piece.now (K.written sink.old) (K.written sink.new) }
+    ensures unmodelled { K.written sink.old ≡ None → K.written sink.new ≡ None }
     ensures faults_stay { K.faults sink.old ≤ K.faults sink.new }
     ensures failed { result ≡ false → Rose (K.faults sink.old) (K.faults sink.new) }
     ensures fails_only { result ≡ true → K.faults sink.new ≡ K.faults sink.old }
@@ -41,6 +44,7 @@ fn write_piece<K: ClientSink>(own: &Bell, sink: &mut K, piece: &[u8]) -> bool
 }
 
 fn tell_end<K: ClientSink>(own: &Bell, sink: &mut K)
+    ensures client { K.asks sink.new ≡ K.asks sink.old }
     ensures bytes { K.written sink.new ≡ K.written sink.old }
     ensures faults { K.faults sink.new ≡ K.faults sink.old }
 {
@@ -51,8 +55,11 @@ fn tell_end<K: ClientSink>(own: &Bell, sink: &mut K)
 
 fn write_some<K: ClientSink>(own: &Bell, sink: &mut K, piece: &[u8]) -> WriteStep
     requires some { 0 < length piece.now }
+    requires allowed { (now : K) → K.asks now ≡ K.asks sink.old → K.written now ≡ K.written sink.old → K.allows now piece.now }
+    ensures client { K.asks sink.new ≡ K.asks sink.old }
     ensures fits { FitsPiece result (length piece.now) }
     ensures bytes { WritesPiece result piece.now (K.written sink.old) (K.written sink.new) }
+    ensures unmodelled { K.written sink.old ≡ None → K.written sink.new ≡ None }
     ensures faults_stay { K.faults sink.old ≤ K.faults sink.new }
     ensures failed { result ≡ WriteStep.Failed → Rose (K.faults sink.old) (K.faults sink.new) }
     ensures fails_only { FailsOnly result (K.faults sink.old) (K.faults sink.new) }
@@ -61,7 +68,7 @@ fn write_some<K: ClientSink>(own: &Bell, sink: &mut K, piece: &[u8]) -> WriteSte
     sink.write(piece)
 }
 
-/// Takes the items that wait, as far as the buffer's room goes. The item that goes past it is handed back.
+/// Takes the waiting items for which the buffer has room. The first one without room is handed back.
 fn gather<R: Wait + Copy>(rt: &R, items: &mut Rx<Item, R>, joined: &mut Vec<u8>) -> Option<Item>
     ensures gathers { Gathers result joined.old.items joined.new.items items.old.got items.new.got }
     ensures lane { items.new ≡ record items.old { got = items.new.got } }
@@ -105,7 +112,9 @@ fn write_on<K: ClientSink, R: Wait + Copy>(
     sink: &mut K,
     room: Vec<u8>,
 ) -> WriterEnd
-    requires { room.items ≡ [] }
+    requires room { room.items ≡ [] }
+    requires goes_on { MayGoOn K.asks K.written K.allows sink.old items.old }
+    ensures goes_on { result ≡ WriterEnd.Drained → MayGoOn K.asks K.written K.allows sink.new items.new }
     ensures writes { Writes result items.old.got items.new.got (K.written sink.old) (K.written sink.new) }
     ensures lane { items.new ≡ record items.old { got = items.new.got } }
     ensures faults_stay { K.faults sink.old ≤ K.faults sink.new }
@@ -116,6 +125,7 @@ fn write_on<K: ClientSink, R: Wait + Copy>(
     'rounds: for _ in rt.forever() {
         let closed = own.is_closed();
         let over = gather(rt, items, &mut joined);
+        items.show_due();
         if !write_piece(own, sink, joined.as_slice()) {
             return WriterEnd::WriteFault;
         }
@@ -143,9 +153,11 @@ fn write_on<K: ClientSink, R: Wait + Copy>(
     unreachable!()
 }
 
-/// Brings what was written to the client, which also ends a read of the same socket.
+/// Delivers what was written to the client, which also ends a read of the same socket.
 #[tactic(auto, using(crate::proofs::Rounds::undelivered))]
 fn deliver<K: ClientSink>(sink: &mut K, end: WriterEnd) -> WriterEnd
+    ensures client { K.asks sink.new ≡ K.asks sink.old }
+    ensures bytes { K.written sink.new ≡ K.written sink.old }
     ensures writes { (got got' : List (List ℕ)) (before : Option (List ℕ)) → Writes end got got' before (K.written sink.old)
         → Writes result got got' before (K.written sink.new) }
     ensures faults_stay { K.faults sink.old ≤ K.faults sink.new }
@@ -159,11 +171,13 @@ fn deliver<K: ClientSink>(sink: &mut K, end: WriterEnd) -> WriterEnd
     WriterEnd::WriteFault
 }
 
-/// Writes the items of a session until its bell is closed and none waits, or its sink fails, and brings them then to the client. That ends a
+/// Writes the items of a session until its bell is closed and none waits, or its sink fails, and then delivers them to the client. That ends a
 /// read of the same socket.
 ///
 /// It asks for 16 KB once, to join what waits; if they are refused, it writes item by item. Once its bell is closed, the sink is told that it
-/// ends soon, so that a client that takes little at a time does not hold it.
+/// ends soon, so that a slow client does not hold it up.
+///
+/// Each write is one that the sink allows, also of a writer that never returns: with what was written before, it begins what the client is due.
 pub fn write_items<K: ClientSink, R: Wait + Copy>(
     rt: &R,
     alloc: Global,
@@ -171,6 +185,8 @@ pub fn write_items<K: ClientSink, R: Wait + Copy>(
     own: &Bell,
     sink: &mut K,
 ) -> WriterEnd
+    requires goes_on { MayGoOn K.asks K.written K.allows sink.old items.old }
+    ensures goes_on { result ≡ WriterEnd.Drained → MayGoOn K.asks K.written K.allows sink.new items.new }
     ensures writes { Writes result items.old.got items.new.got (K.written sink.old) (K.written sink.new) }
     ensures lane { items.new ≡ record items.old { got = items.new.got } }
     ensures faults_stay { K.faults sink.old ≤ K.faults sink.new }

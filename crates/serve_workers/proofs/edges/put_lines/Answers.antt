@@ -3,6 +3,7 @@ use Rattle.gps_lane.specs.Ends.{Putting}
 use Rattle.serve_pieces.specs.declared.piece.Piece.{Piece}
 use Rattle.line_cut.specs.Lines.{text_of}
 use Rattle.serve_workers.proofs.Cutting.{begun, line_put, passed_over, all_put, first_put, first_put_closed, steps_as}
+use Rattle.serve_workers.proofs.LineSourcing.{line_begins, line_short}
 use Rattle.serve_workers.proofs.edges.put_lines.Goals as goal
 
 pub cuts-init : goal.cuts-init
@@ -47,3 +48,15 @@ returns-in-Ok-Used-clause-puts g c bytes stands =
 
 pub returns-in-Err-clause-puts : goal.returns-in-Err-clause-puts
 returns-in-Err-clause-puts g c bytes stands = first_put bytes _ _ _ _ _ _ (c.cuts.invariant.cuts bytes stands)
+
+pub put_line-requires-clause-due : goal.put_line-requires-clause-due
+put_line-requires-clause-due g c =
+    let from = c.requires.from in
+    line_begins _ _ from.0 _ _ _ _ c.in-Ok-Line.line c.in-Ok-Line.used _ c.cuts.invariant.lane from.2 (c.cuts.invariant.cuts from.0 from.1)
+    (c.cuts.invariant.limit ∙ c.requires.limit) (steps_as _ _ _ _ _ c.in-Ok-Line.field-0-is c.in-Ok-Line.ensures.steps) (c.text_of.ensures ∙ ap text_of c.as_slice.ensures)
+
+pub put_line-requires-clause-short : goal.put_line-requires-clause-short
+put_line-requires-clause-short g c =
+    let from = c.requires.from in
+    line_short from.0 _ _ _ _ _ _ c.in-Ok-Line.line c.in-Ok-Line.used _ (c.cuts.invariant.cuts from.0 from.1)
+    (c.cuts.invariant.limit ∙ c.requires.limit) (steps_as _ _ _ _ _ c.in-Ok-Line.field-0-is c.in-Ok-Line.ensures.steps) (c.text_of.ensures ∙ ap text_of c.as_slice.ensures)

@@ -1,0 +1,9 @@
+use Rattle.std.proofs.Common.{sym, subst, [], ◌∷◌, ◌++◌}
+use Rattle.gps_lane.specs.Lane.{Begins}
+use Rattle.serve_pieces.specs.declared.piece.Piece.{Piece}
+use Rattle.serve_pieces.specs.Held.{AreDue, AreHeld}
+use Rattle.serve_workers.proofs.edges.put_line.Goals as goal
+
+pub put-requires-clause-due : goal.put-requires-clause-due
+put-requires-clause-due g c =
+    subst (λ (piece : Piece). Begins AreDue c.args.pieces.now.about (c.args.pieces.now.put ++ piece ∷ [])) (sym c.in-Ok.ensures) c.requires.due

@@ -4,14 +4,14 @@ use Rattle.std.proofs.lemmas.List.{append-nil}
 use Rattle.gps_world.specs.Asking.{Asking, asked_nothing}
 use Rattle.gps_world.specs.declared.place.Place.{Place}
 use Rattle.world_opening.specs.declared.opening.Stop.{Stop}
-use Rattle.world_opening.specs.Opening.{AsksAll, AsksSome, OpenAsks, places_in}
+use Rattle.world_opening.specs.Opening.{AsksAll, AsksPrefix, OpenAsks, places_in}
 
 pub all_of : {X : Type 0} (x : X) (old new : Asking) (places : List Place) (listen : List ℕ) → old ≡ asked_nothing → OpenAsks {X = X} (Ok x) old new places listen
     → AsksAll new places listen
 all_of x old new places listen none asks = (asks.0 ∙ ap (λ (a : Asking). a.places ++ places) none, asks.1)
 
 pub some_of : {X : Type 0} (result : Result X Stop) (old new : Asking) (places : List Place) (listen : List ℕ) → old ≡ asked_nothing → OpenAsks result old new places listen
-    → AsksSome new places listen
+    → AsksPrefix new places listen
 some_of (Ok x) old new places listen none asks =
     (([], sym (asks.0 ∙ ap (λ (a : Asking). a.places ++ places) none) ∙ sym (append-nil new.places)), inr asks.1)
 some_of (Err stop) old new places listen none asks =
@@ -31,6 +31,6 @@ few_of asked inputs edges devices none is are eight =
     omega arith
 
 -- if the world is the same
-pub still_asked : {W : Type 0} (asked : W → Asking) (w w' : W) (places : List Place) (listen : List ℕ) → w' ≡ w → AsksSome (asked w) places listen
-    → AsksSome (asked w') places listen
-still_asked {W} asked w w' places listen is so = subst (λ (x : W). AsksSome (asked x) places listen) (sym is) so
+pub still_asked : {W : Type 0} (asked : W → Asking) (w w' : W) (places : List Place) (listen : List ℕ) → w' ≡ w → AsksPrefix (asked w) places listen
+    → AsksPrefix (asked w') places listen
+still_asked {W} asked w w' places listen is so = subst (λ (x : W). AsksPrefix (asked x) places listen) (sym is) so

@@ -7,7 +7,7 @@ use Rattle.gps_outside.specs.Counts.{Rose}
 use Rattle.world_opening.specs.declared.opening.Stop.{Stop}
 use Rattle.world_opening.specs.declared.opening.Stop.TheVariants.{Input, Listen}
 use Rattle.world_opening.specs.Opening.{OpeningHasCause, world_faults}
-use Rattle.gps_serve.specs.Doors.{FailsBy}
+use Rattle.serve_door.specs.Doors.{FailsBy}
 
 either : (before now : Bool) → (before || now) ≡ true → (before ≡ true) ⊎ (now ≡ true)
 either true now is = inl refl
@@ -27,18 +27,6 @@ gate_cause failed before now fails is = let rose = fails.cause is in omega (arit
 -- a door that had no fault before, and did not fail, has none
 pub gate_sound : (failed : Bool) (before now : ℕ) → FailsBy failed before now → before ≡ 0 → failed ≡ false → now ≡ 0
 gate_sound failed before now fails none is = fails.still is ∙ none
-
--- a door that failed gives 8, unless a source failed
-pub door_first : {G : Type 0} (faults : G → ℕ) (gate : G) (given : Option G) (failed : Bool) (status : ℕ) → given ≡ Some gate → (failed ≡ false → faults gate ≡ 0)
-    → (failed ≡ true → (status ≡ 3) ⊎ (status ≡ 8)) → SourceFailed faults given → (status ≡ 3) ⊎ (status ≡ 8)
-door_first {G} faults gate given failed status is sound first some = by failed refl
-  where
-    rose : 0 < faults gate
-    rose = subst (SourceFailed faults) is some
-
-    by : (b : Bool) → failed ≡ b → (status ≡ 3) ⊎ (status ≡ 8)
-    by true e = first e
-    by false e = let none = sound e in absurd (omega (arith, rose, none))
 
 -- if no door is handed back, none failed
 pub no_gate : {G : Type 0} (faults : G → ℕ) (given : Option G) (status : ℕ) → given ≡ None → SourceFailed faults given → (status ≡ 3) ⊎ (status ≡ 8)

@@ -15,15 +15,16 @@ use Rattle.serve_pieces.specs.Carried.{device_part}
 use Rattle.serve_end_parts.specs.declared.done.DeviceDone.{DeviceDone}
 use Rattle.serve_end_settling.specs.declared.device.DeviceRun.{DeviceRun}
 use Rattle.serve_end_settling.specs.Failing.{source_of}
-use Rattle.serve_end_settling.specs.Lanes.{AreEnds, Settles, SettlesSome, tx_of}
-use Rattle.serve_end_settling.proofs.Endings.{devices_tell_last, edges_tell_last}
+use Rattle.serve_end_settling.specs.Lanes.{AreEnds, OneMoreOfEach, Settles, SettlesSome, ZipOption, tx_of}
+use Rattle.serve_end_settling.specs.Lanes as lane
+use Rattle.serve_end_settling.proofs.Endings.{each_one_more}
 use Rattle.gps_serve.specs.declared.starts.DeviceStart.{DeviceStart}
 use Rattle.gps_serve.specs.declared.starts.EdgeStart.{EdgeStart}
-use Rattle.gps_serve.specs.Served.{BytesServed, DeviceServed, EdgesServed}
-use Rattle.serve_end_settling.specs.Runs.{EdgesRan, SourceFacts}
+use Rattle.gps_serve.specs.Served.{DeviceServed, IsOneLane, ReaderServed}
+use Rattle.serve_end_settling.specs.Runs.{EdgeStartsEmpty, EdgesRan, SourceFacts}
 use Rattle.gps_serve.specs.Runs.{DeviceReady, DevicesRan, DevicesSoFar, RanOn}
-use Rattle.gps_serve.specs.Starts.{IsFreshDevice, IsFreshEdge, edge_start_of}
-use Rattle.gps_serve.proofs.Zips.{zip_more}
+use Rattle.gps_serve.specs.Starts.{IsFreshDevice, IsFreshEdge, edge_start_of, starts_of}
+use Rattle.serve_threads.proofs.Zips.{zip_more}
 
 -- the end that gets a device's bytes is still that of its reader's lane
 pub bytes_lane : {S R : Type 0} (may : Option (List Moment)) (facts : SourceFacts S) (x : InletsView) (run : DeviceRun S R) → DeviceReady may facts x run
@@ -50,67 +51,73 @@ pub edges_lane : {S R : Type 0} (may : Option (List Moment)) (facts : SourceFact
 edges_lane may facts x run ready =
     edge_ends facts ready.start.edges ready.first.edges x.edges run.edges ready.fresh.edges (ap (λ (n : LaneNames). n.edges) ready.lanes) ready.ran.edges
 
-bytes_served : {S R : Type 0} (may : Option (List Moment)) (facts : SourceFacts S) (x : InletsView) (run : DeviceRun S R) (rx : Taking Piece) → DeviceReady may facts x run
-    → Settles run.bytes.pieces x.bytes rx → BytesServed may facts x.bytes run.bytes.pieces rx run.bytes.source
-bytes_served may facts x run rx ready settles =
+bytes_served : {S R : Type 0} (may : Option (List Moment)) (facts : SourceFacts S) (x : InletsView) (run : DeviceRun S R) → DeviceReady may facts x run
+    → ReaderServed (HandsOn device_part (IsDevicePiece may)) facts run.bytes.pieces run.bytes.source
+bytes_served may facts x run ready =
     let start = ready.start in
-    let hands : HandsOn device_part (IsDevicePiece may) run.bytes.ending [] run.bytes.pieces.put (facts.content start.source) (facts.content run.bytes.source) =
-    subst (λ put. HandsOn device_part (IsDevicePiece may) run.bytes.ending put run.bytes.pieces.put (facts.content start.source) (facts.content run.bytes.source))
-    ready.fresh.bytes.put ready.ran.bytes.hands in
     record {
       first = start.source;
       unread = ready.fresh.unread;
       ending = run.bytes.ending;
-      hands = hands;
+      hands = subst (λ put. HandsOn device_part (IsDevicePiece may) run.bytes.ending put run.bytes.pieces.put (facts.content start.source) (facts.content run.bytes.source))
+          ready.fresh.bytes.put ready.ran.bytes.hands;
       failed = λ (e : run.bytes.ending ≡ Some Failed). let rose = ready.ran.bytes.meets.rose (ready.ran.bytes.meets.said e) in omega (arith, rose);
-      lane = record {
-        one = settles.one;
-        begins = settles.begins;
-        settled = settles.behind (devices_tell_last may run.bytes.ending [] run.bytes.pieces.put (facts.content start.source) (facts.content run.bytes.source) hands refl);
-      };
     }
 
-lines_served : {S R : Type 0} (facts : SourceFacts S) (start : Option (EdgeStart S R)) (first rx rx' : Option (Taking Piece)) (reader : Option (ReaderDone S R))
-    → IsFreshEdge facts start first → EdgesRan facts (option_map edge_start_of start) reader → AreEnds (tx_of reader) rx → SettlesSome (tx_of reader) rx rx'
-    → EdgesServed facts rx (tx_of reader) rx' (source_of reader)
-lines_served facts None None None None None fresh ran ends settles = tt
-lines_served facts None None None (Some rx') None fresh ran ends settles = absurd cc
-lines_served facts None None (Some rx) rx' None fresh ran ends settles = absurd ends
-lines_served facts None None rx rx' (Some reader) fresh ran ends settles = absurd ran
-lines_served facts None (Some first) rx rx' reader fresh ran ends settles = absurd fresh
-lines_served facts (Some start) None rx rx' reader fresh ran ends settles = absurd fresh
-lines_served facts (Some start) (Some first) rx rx' None fresh ran ends settles = absurd ran
-lines_served facts (Some start) (Some first) None rx' (Some reader) fresh ran ends settles = absurd ends
-lines_served facts (Some start) (Some first) (Some rx) None (Some reader) fresh ran ends settles = absurd settles
-lines_served facts (Some start) (Some first) (Some rx) (Some rx') (Some reader) fresh ran ends settles =
-    let hands : HandsLines reader.ending [] reader.pieces.put (facts.content start.source) (facts.content reader.source) =
-    subst (λ put. HandsLines reader.ending put reader.pieces.put (facts.content start.source) (facts.content reader.source)) fresh.0.put ran.hands in
-    record {
-      first = start.source;
-      unread = fresh.1;
-      ending = reader.ending;
-      hands = hands;
-      failed = λ (e : reader.ending ≡ Some Failed). let rose = ran.meets.rose (ran.meets.said e) in omega (arith, rose);
-      lane = record {
-        one = settles.one;
-        begins = settles.begins;
-        settled = settles.behind (edges_tell_last reader.ending [] reader.pieces.put (facts.content start.source) (facts.content reader.source) hands refl);
-      };
-    }
+lines_served : {S R : Type 0} (facts : SourceFacts S) (start : Option (EdgeStart S R)) (first : Option (Taking Piece)) (reader : Option (ReaderDone S R))
+    → IsFreshEdge facts start first → EdgesRan facts (option_map edge_start_of start) reader
+    → ZipOption (ReaderServed HandsLines facts) (tx_of reader) (source_of reader)
+lines_served facts start first None fresh ran = tt
+lines_served facts None first (Some reader) fresh ran = absurd ran
+lines_served facts (Some start) None (Some reader) fresh ran = absurd fresh
+lines_served facts (Some start) (Some first) (Some reader) fresh ran = record {
+  first = start.source;
+  unread = fresh.1;
+  ending = reader.ending;
+  hands = subst (λ put. HandsLines reader.ending put reader.pieces.put (facts.content start.source) (facts.content reader.source)) fresh.0.put ran.hands;
+  failed = λ (e : reader.ending ≡ Some Failed). let rose = ran.meets.rose (ran.meets.said e) in omega (arith, rose);
+}
+
+-- both ends of a lane that is settled
+edge_lane : (tx : Option (Putting Piece)) (rx rx' : Option (Taking Piece)) → AreEnds tx rx → SettlesSome tx rx rx' → ZipOption IsOneLane tx rx'
+edge_lane None None None ends settles = tt
+edge_lane None None (Some rx') ends settles = absurd cc
+edge_lane None (Some rx) rx' ends settles = absurd ends
+edge_lane (Some tx) None rx' ends settles = absurd ends
+edge_lane (Some tx) (Some rx) None ends settles = absurd settles
+edge_lane (Some tx) (Some rx) (Some rx') ends settles = record { one = settles.one; begins = settles.begins }
+
+-- the readers of a device began with empty lanes
+edge_starts_empty : {S R : Type 0} (facts : SourceFacts S) (start : Option (EdgeStart S R)) (first : Option (Taking Piece)) → IsFreshEdge facts start first
+    → EdgeStartsEmpty (option_map edge_start_of start)
+edge_starts_empty facts None first fresh = tt
+edge_starts_empty facts (Some start) None fresh = absurd fresh
+edge_starts_empty facts (Some start) (Some first) fresh = fresh.0.put
 
 -- what is left of a device, once its lanes are settled
 pub device_served : {S R : Type 0} (may : Option (List Moment)) (facts : SourceFacts S) (x : InletsView) (run : DeviceRun S R) (done : DeviceDone S R)
     → DeviceReady may facts x run → done.source ≡ Some run.bytes.source → done.edges ≡ source_of run.edges → done.bytes_tx ≡ run.bytes.pieces
     → done.edges_tx ≡ tx_of run.edges → Settles run.bytes.pieces x.bytes done.bytes_rx → SettlesSome (tx_of run.edges) x.edges done.edges_rx
     → DeviceServed may facts x done
-device_served may facts x run done ready source edges bytes_tx edges_tx bytes_rx edges_rx = record {
-  source = run.bytes.source;
-  source_is = source;
-  bytes = subst (λ tx. BytesServed may facts x.bytes tx done.bytes_rx run.bytes.source) (sym bytes_tx) (bytes_served may facts x run done.bytes_rx ready bytes_rx);
-  edges = subst (λ tx. EdgesServed facts x.edges tx done.edges_rx done.edges) (sym edges_tx)
-      (subst (λ s. EdgesServed facts x.edges (tx_of run.edges) done.edges_rx s) (sym edges)
-      (lines_served facts ready.start.edges ready.first.edges x.edges done.edges_rx run.edges ready.fresh.edges ready.ran.edges (edges_lane may facts x run ready) edges_rx));
-}
+device_served {S} {R} may facts x run done ready source edges bytes_tx edges_tx bytes_rx edges_rx =
+    let start = ready.start in
+    let ends : AreEnds (tx_of run.edges) x.edges = edges_lane may facts x run ready in
+    let more : OneMoreOfEach (lane.lanes x.bytes x.edges) (lane.lanes done.bytes_rx done.edges_rx) =
+    each_one_more facts run x.bytes done.bytes_rx x.edges done.edges_rx ends bytes_rx edges_rx may (starts_of start) ready.ran
+    (record { bytes = ready.fresh.bytes.put; edges = edge_starts_empty facts start.edges ready.first.edges ready.fresh.edges }) in
+    record {
+      source = run.bytes.source;
+      source_is = source;
+      bytes = subst (λ (tx : Putting Piece). ReaderServed (HandsOn device_part (IsDevicePiece may)) facts tx run.bytes.source) (sym bytes_tx)
+          (bytes_served may facts x run ready);
+      bytes_lane = subst (λ (tx : Putting Piece). IsOneLane tx done.bytes_rx) (sym bytes_tx) (record { one = bytes_rx.one; begins = bytes_rx.begins });
+      edges = subst (λ (tx : Option (Putting Piece)). ZipOption (ReaderServed HandsLines facts) tx done.edges) (sym edges_tx)
+          (subst (λ (s : Option S). ZipOption (ReaderServed HandsLines facts) (tx_of run.edges) s) (sym edges)
+          (lines_served facts start.edges ready.first.edges run.edges ready.fresh.edges ready.ran.edges));
+      edges_lane = subst (λ (tx : Option (Putting Piece)). ZipOption IsOneLane tx done.edges_rx) (sym edges_tx)
+          (edge_lane (tx_of run.edges) x.edges done.edges_rx ends edges_rx);
+      settled = record { bytes = more.bytes; edges = more.edges };
+    }
 
 -- of each device
 all_ready : {S R : Type 0} (may : Option (List Moment)) (facts : SourceFacts S) (starts : List (DeviceStart S R)) (first inlets : List InletsView) (runs : List (DeviceRun S R))

@@ -1,8 +1,8 @@
 -- The stamps that a clock may give, if the world tells them.
-use Rattle.std.proofs.Common.{◌≡◌, ◌<◌, ◌⊎◌, inl, inr, ℕ, Bool, true, List, [], ◌∷◌, length, Option, Some, None, IfSome, refl, ap, subst, sym, ◌∙◌}
+use Rattle.std.proofs.Common.{◌≡◌, ◌<◌, ◌⊎◌, inl, inr, ℕ, Bool, true, List, [], ◌∷◌, length, map, Option, Some, None, IfSome, refl, ap, subst, sym, ◌∙◌}
 use Rattle.std.specs.List.{AllZip}
 use Rattle.gps_fixed.specs.Moment.{Moment}
-use Rattle.gps_lane.specs.Ends.{Putting, Taking}
+use Rattle.gps_lane.specs.Ends.{Putting}
 use Rattle.gps_outside.specs.Ticks.{Dial}
 use Rattle.gps_outside.specs.Told.{Stream}
 use Rattle.gps_world.specs.Opening.{Tells}
@@ -18,10 +18,11 @@ use Rattle.serve_pieces.specs.declared.piece.Piece.TheVariants.{Bytes, Line, Inp
 use Rattle.serve_end_settling.specs.Runs.{SourceFacts}
 use Rattle.serve_workers.specs.Clocks.{MayGive}
 use Rattle.serve_workers.specs.Readings.{Each, HandsOn, IsDevicePiece}
-use Rattle.gps_serve.specs.AtEnd.{AtEnd, DaemonSettings, HandedBack, MemoryWasShort, settings_in, settings_of, start_with}
+use Rattle.gps_serve.specs.AtEnd.{AtEnd, DaemonSettings, HandedBack, ShowsOutOfMemory, settings_in, settings_of, start_with}
 use Rattle.gps_serve.specs.Facts.{WorldFacts}
-use Rattle.gps_serve.specs.Served.{BytesServed, DeviceServed}
-use Rattle.gps_serve.specs.Doors.{NoneLeft, Way}
+use Rattle.gps_serve.specs.Served.{DeviceServed, ReaderServed}
+use Rattle.serve_door.specs.Doors.{NoneLeft, Way}
+use Rattle.gps_serve.proofs.Stamps.{stamps_untold}
 
 untold_pieces : (may : Option (List Moment)) (pieces : List Piece) → Each (IsDevicePiece may) pieces → Each (IsDevicePiece None) pieces
 untold_pieces may [] each = tt
@@ -35,15 +36,14 @@ untold_hands : (may : Option (List Moment)) (ending : Option Ending) (put put' :
 untold_hands may ending put put' before after hands =
     record { pieces = hands.pieces; puts = hands.puts; good = untold_pieces may hands.pieces hands.good; took = hands.took }
 
-untold_bytes : {S : Type 0} (may : Option (List Moment)) (facts : SourceFacts S) (x : Taking Piece) (tx : Putting Piece) (rx : Taking Piece) (source : S)
-    → BytesServed may facts x tx rx source → BytesServed None facts x tx rx source
-untold_bytes may facts x tx rx source served = record {
+untold_bytes : {S : Type 0} (may : Option (List Moment)) (facts : SourceFacts S) (tx : Putting Piece) (source : S)
+    → ReaderServed (HandsOn device_part (IsDevicePiece may)) facts tx source → ReaderServed (HandsOn device_part (IsDevicePiece None)) facts tx source
+untold_bytes may facts tx source served = record {
   first = served.first;
   unread = served.unread;
   ending = served.ending;
   hands = untold_hands may served.ending [] tx.put (facts.content served.first) (facts.content source) served.hands;
   failed = served.failed;
-  lane = served.lane;
 }
 
 untold_devices : {S R : Type 0} (may : Option (List Moment)) (facts : SourceFacts S) (inlets : List InletsView) (devices : List (DeviceDone S R))
@@ -55,16 +55,19 @@ untold_devices may facts (x ∷ inlets) (d ∷ devices) served = (
   record {
     source = served.0.source;
     source_is = served.0.source_is;
-    bytes = untold_bytes may facts x.bytes d.bytes_tx d.bytes_rx served.0.source served.0.bytes;
+    bytes = untold_bytes may facts d.bytes_tx served.0.source served.0.bytes;
+    bytes_lane = served.0.bytes_lane;
     edges = served.0.edges;
+    edges_lane = served.0.edges_lane;
+    settled = served.0.settled;
   },
   untold_devices may facts inlets devices served.1,
 )
 
 module _ {G S K R : Type 0} (told : DaemonSettings) (facts : WorldFacts G S K) (back : HandedBack G S K R) (b : BookView) where
-  untold : (may : Option (List Moment)) (links : Option (List (Way S K))) → AtEnd (start_with told may links) facts back b
-      → AtEnd (start_with told None links) facts back b
-  untold may links at = record {
+  untold : (may : Option (List Moment)) (clock : Option Dial) (links : Option (List (Way S K))) → AtEnd (start_with told may clock links) facts back b
+      → AtEnd (start_with told None None links) facts back b
+  untold may clock links at = record {
     names = at.names;
     limit = at.limit;
     queue = at.queue;
@@ -72,6 +75,7 @@ module _ {G S K R : Type 0} (told : DaemonSettings) (facts : WorldFacts G S K) (
     done = at.done;
     hub = at.hub;
     devices_are = untold_devices may facts.sources at.inlets back.devices at.devices_are;
+    stamps = stamps_untold clock (map (λ (d : DeviceDone S R). d.bytes_tx.put) back.devices) at.stamps;
     inputs_are = at.inputs_are;
     outlets_are = at.outlets_are;
     numbers = at.numbers;
@@ -88,10 +92,10 @@ module _ {G S K R : Type 0} (told : DaemonSettings) (facts : WorldFacts G S K) (
 
   -- the clock tells what the world told of it
   pub as_told : (links : Option (List (Way S K))) (stamps shown : Option Dial) → Tells stamps shown
-      → AtEnd (start_with told (dial_of shown) links) facts back b → AtEnd (start_with told (dial_of stamps) links) facts back b
-  as_told links None shown tells at = untold (dial_of shown) links at
+      → AtEnd (start_with told (dial_of shown) shown links) facts back b → AtEnd (start_with told (dial_of stamps) stamps links) facts back b
+  as_told links None shown tells at = untold (dial_of shown) shown links at
   as_told links (Some dial) shown tells at =
-      subst (λ (s : Option Dial). AtEnd (start_with told (dial_of s) links) facts back b) tells at
+      subst (λ (s : Option Dial). AtEnd (start_with told (dial_of s) s links) facts back b) tells at
 
   untold_asked : (links : Option (List (Way S K))) (taken : List (Way S K)) (g : G)
       → (0 < length taken) ⊎ (0 < facts.gates.quiets g) ⊎ (0 < facts.gates.faults g) ⊎ NoneLeft links (facts.gates.links g)
@@ -99,7 +103,7 @@ module _ {G S K R : Type 0} (told : DaemonSettings) (facts : WorldFacts G S K) (
   untold_asked links taken g was =
       elim was [ inl some ↦ inl some | inr (inl quiet) ↦ inr (inl quiet) | inr (inr (inl fault)) ↦ inr (inr (inl fault)) | inr (inr (inr none)) ↦ inr (inr (inr tt)) ]
 
-  untold_short : (links left : Option (List (Way S K))) → MemoryWasShort links left back b → MemoryWasShort None left back b
+  untold_short : (links left : Option (List (Way S K))) → ShowsOutOfMemory links left back b → ShowsOutOfMemory None left back b
   untold_short links left short = elim short [
     | inl device ↦ inl device
     | inr (inl reader) ↦ inr (inl reader)
@@ -109,9 +113,9 @@ module _ {G S K R : Type 0} (told : DaemonSettings) (facts : WorldFacts G S K) (
     | inr (inr (inr (inr (inr link)))) ↦ inr (inr (inr (inr (inr (record { taken = link.taken; passed = tt; more = link.more })))))
   ]
 
-  untold_links : (may : Option (List Moment)) (links : Option (List (Way S K))) → AtEnd (start_with told may links) facts back b
-      → AtEnd (start_with told may None) facts back b
-  untold_links may links at = record {
+  untold_links : (may : Option (List Moment)) (clock : Option Dial) (links : Option (List (Way S K))) → AtEnd (start_with told may clock links) facts back b
+      → AtEnd (start_with told may clock None) facts back b
+  untold_links may clock links at = record {
     names = at.names;
     limit = at.limit;
     queue = at.queue;
@@ -119,6 +123,7 @@ module _ {G S K R : Type 0} (told : DaemonSettings) (facts : WorldFacts G S K) (
     done = at.done;
     hub = at.hub;
     devices_are = at.devices_are;
+    stamps = at.stamps;
     inputs_are = at.inputs_are;
     outlets_are = at.outlets_are;
     numbers = at.numbers;
@@ -135,6 +140,9 @@ module _ {G S K R : Type 0} (told : DaemonSettings) (facts : WorldFacts G S K) (
       count = at.door.count;
       few = at.door.few;
       none_early = at.door.none_early;
+      drops = at.door.drops;
+      counted = at.door.counted;
+      dealt = at.door.dealt;
       served = at.door.served;
       order = at.door.order;
       links_are = at.door.links_are;
@@ -146,11 +154,11 @@ module _ {G S K R : Type 0} (told : DaemonSettings) (facts : WorldFacts G S K) (
   }
 
   -- the door tells what the world told of it
-  pub as_linked : (may : Option (List Moment)) (links shown : Option (List (Way S K))) → Tells links shown
-      → AtEnd (start_with told may shown) facts back b → AtEnd (start_with told may links) facts back b
-  as_linked may None shown tells at = untold_links may shown at
-  as_linked may (Some links) shown tells at =
-      subst (λ (l : Option (List (Way S K))). AtEnd (start_with told may l) facts back b) tells at
+  pub as_linked : (may : Option (List Moment)) (clock : Option Dial) (links shown : Option (List (Way S K))) → Tells links shown
+      → AtEnd (start_with told may clock shown) facts back b → AtEnd (start_with told may clock links) facts back b
+  as_linked may clock None shown tells at = untold_links may clock shown at
+  as_linked may clock (Some links) shown tells at =
+      subst (λ (l : Option (List (Way S K))). AtEnd (start_with told may clock l) facts back b) tells at
 
 gives : (stamps : Option Dial) → MayGive (dial_of stamps) stamps
 gives None = tt
@@ -172,10 +180,10 @@ same_told b first plan names limit =
 -- of a book that was made for the plan
 pub told_again : {G S K R : Type 0} (facts : WorldFacts G S K) (back : HandedBack G S K R) (book : Option BookView) (b : BookView) (first : List InletsView) (plan : Plan)
     (stamps shown : Option Dial) (links linked : Option (List (Way S K))) → b.names ≡ plan.names → b.log.limit ≡ plan.limit → Tells stamps shown → Tells links linked
-    → IfSome book (AtEnd (start_with (settings_of (terms_of b first plan.wait) plan.queue plan.tries) (dial_of shown) linked) facts back)
-    → IfSome book (AtEnd (start_with (settings_in plan) (dial_of stamps) links) facts back)
+    → IfSome book (AtEnd (start_with (settings_of (terms_of b first plan.wait) plan.queue plan.tries) (dial_of shown) shown linked) facts back)
+    → IfSome book (AtEnd (start_with (settings_in plan) (dial_of stamps) stamps links) facts back)
 told_again facts back None b first plan stamps shown links linked names limit tells tells' so = tt
 told_again facts back (Some x) b first plan stamps shown links linked names limit tells tells' so =
-    as_linked (settings_in plan) facts back x (dial_of stamps) links linked tells'
+    as_linked (settings_in plan) facts back x (dial_of stamps) stamps links linked tells'
     (as_told (settings_in plan) facts back x linked stamps shown tells
-    (subst (λ (t : DaemonSettings). AtEnd (start_with t (dial_of shown) linked) facts back x) (same_told b first plan names limit) so))
+    (subst (λ (t : DaemonSettings). AtEnd (start_with t (dial_of shown) shown linked) facts back x) (same_told b first plan names limit) so))

@@ -5,6 +5,7 @@ use Rattle.std.specs.List.{All, AllZip, list_all, range_with_len}
 use Rattle.gps_fixed.specs.Moment.{Moment}
 use Rattle.book_units.specs.Units.{IsUnit, UnitView, segment_of}
 use Rattle.gps_lane.specs.Ends.{Taking}
+use Rattle.gps_outside.specs.Ticks.{Dial}
 use Rattle.report_book.specs.BookView.{BookView}
 use Rattle.report_book.specs.Standing.{BookHolds}
 use Rattle.hub_promise.specs.declared.ends.DeviceEnd.{DeviceEnd}
@@ -12,7 +13,7 @@ use Rattle.hub_promise.specs.DaemonHub.{DaemonHub}
 use Rattle.hub_door.specs.Admissions.{Admissions}
 use Rattle.hub_promise.specs.Given.{is_end}
 use Rattle.hub_promise.specs.Keeping.{IsClosed}
-use Rattle.hub_promise.specs.Parts.{AreAdmitted, InletsView, Parts, Terms, terms_of}
+use Rattle.hub_promise.specs.Parts.{AreAdmitted, InletsView, Terms, devices_of, terms_of}
 use Rattle.serve_pieces.specs.declared.piece.Piece.{Piece}
 use Rattle.serve_end_parts.specs.declared.done.DeviceDone.{DeviceDone}
 use Rattle.serve_end_parts.specs.declared.done.MonitorDone.{MonitorDone}
@@ -24,16 +25,19 @@ use Rattle.serve_threads.specs.declared.monitors.MonitorStart.{MonitorStart}
 use Rattle.serve_threads.specs.Segments.{segments_of}
 use Rattle.gps_serve.specs.declared.starts.DeviceStart.{DeviceStart}
 use Rattle.serve_threads.specs.declared.session.SessionLink.{SessionLink}
-use Rattle.gps_serve.specs.AtEnd.{AtEnd, HandedBack, MemoryWasShort, settings_of, start_with}
+use Rattle.gps_serve.specs.AtEnd.{AtEnd, HandedBack, ShowsOutOfMemory, settings_of, start_with}
 use Rattle.gps_serve.specs.Facts.{WorldFacts}
 use Rattle.gps_serve.specs.Served.{DeviceServed, GateServed, MonitorServed, watched_units}
-use Rattle.gps_serve.specs.Doors.{Way, lanes_of}
+use Rattle.serve_door.specs.Doors.{Way, lanes_of}
 use Rattle.gps_serve.specs.Readies.{AllServed, MonitorReady}
 use Rattle.gps_serve.specs.Runs.{DeviceReady, DevicesRan, RanOn}
+use Rattle.gps_serve.specs.Stamps.{StampsAreGiven}
 use Rattle.gps_serve.specs.Starts.{IsFreshDevice}
-use Rattle.gps_serve.specs.Statuses.{AllEnded, EachWhole, HasStopped}
-use Rattle.gps_serve.specs.Units.{AreAtRest, CountFromZero}
-use Rattle.gps_serve.specs.Works.{WatchedBy, WatchersRan, monitored}
+use Rattle.serve_floor.specs.Bursts.{HasStopped}
+use Rattle.gps_serve.specs.Statuses.{AllEnded, EachWhole}
+use Rattle.serve_floor.specs.Bursts.{AreAtRest}
+use Rattle.gps_serve.specs.Units.{CountFromZero}
+use Rattle.gps_serve.specs.Works.{WatchedBy, MonitorsRan, monitored}
 use Rattle.gps_serve.proofs.Devices.{devices_ready}
 use Rattle.gps_serve.proofs.Gates.{each_end, of_queue}
 use Rattle.gps_serve.proofs.Resting.{all_served}
@@ -45,19 +49,16 @@ pub devices_by : {S R : Type 0} (may : Option (List Moment)) (facts : SourceFact
 devices_by may facts terms b inlets runs same ran =
     devices_ready may facts inlets runs (subst (λ lanes. DevicesRan may facts lanes runs) (sym (ap (λ (t : Terms). t.lanes) same)) ran)
 
-pub ends_count : (p : Parts) → DaemonHub p → length p.ends ≡ length p.inlets
-ends_count p hub = hub.1.ends_count ∙ sym hub.1.count
-
 pub units_few : (b : BookView) → BookHolds b → length b.units ≤ 16
 units_few b holds = let u = holds.units in let n = holds.count in omega arith
 
 pub monitors_by : (tries : ℕ) (no_memory : Bool) (terms : Terms) (b b' : BookView) (inlets : List InletsView) (watched : List ReadingsDone)
-    → terms_of b inlets terms.wait ≡ terms → WatchersRan tries terms.segments watched → (no_memory ≡ false → EachWhole watched) → b' ≡ b
+    → terms_of b inlets terms.wait ≡ terms → MonitorsRan tries terms.segments watched → (no_memory ≡ false → EachWhole watched) → b' ≡ b
     → AllZip (MonitorReady tries no_memory) (watched_units tries b'.units) watched
 monitors_by tries no_memory terms b b' inlets watched same ran whole is =
     let segments = ran.segments_are ∙ ap (monitored tries) (sym (ap (λ (t : Terms). t.segments) same)) in
     subst (λ (x : BookView). AllZip (MonitorReady tries no_memory) (watched_units tries x.units) watched) (sym is)
-    (monitors_ready tries no_memory b.units ran.watchers watched segments ran.by whole)
+    (monitors_ready tries no_memory b.units ran.monitor_starts watched segments ran.by whole)
 
 pub all_ended_by : {S R : Type 0} (devices : List (DeviceDone S R)) (ends : List (Option DeviceEnd)) → map (λ (d : DeviceDone S R). d.end) devices ≡ ends
     → list_all is_end ends ≡ true → AllEnded devices
@@ -68,23 +69,23 @@ first_false : (a b : Bool) → (a || b) ≡ false → a ≡ false
 first_false true b e = absurd cc
 first_false false b e = refl
 
-pub not_lacked : (no_memory other lacks : Bool) → lacks ≡ (no_memory || other) → lacks ≡ false → no_memory ≡ false
-not_lacked no_memory other lacks is e = first_false no_memory other (sym is ∙ e)
+pub not_lacked : (no_memory other is_out_of_memory : Bool) → is_out_of_memory ≡ (no_memory || other) → is_out_of_memory ≡ false → no_memory ≡ false
+not_lacked no_memory other is_out_of_memory is e = first_false no_memory other (sym is ∙ e)
 
-served_still : (tries : ℕ) (no_memory lacks : Bool) (units : List UnitView) (monitors : List MonitorDone) → (lacks ≡ false → no_memory ≡ false)
-    → AllZip (MonitorServed tries no_memory) units monitors → AllZip (MonitorServed tries lacks) units monitors
-served_still tries no_memory lacks [] [] so served = tt
-served_still tries no_memory lacks [] (m ∷ monitors) so served = absurd served
-served_still tries no_memory lacks (u ∷ units) [] so served = absurd served
-served_still tries no_memory lacks (u ∷ units) (m ∷ monitors) so served = (
+served_still : (tries : ℕ) (no_memory is_out_of_memory : Bool) (units : List UnitView) (monitors : List MonitorDone) → (is_out_of_memory ≡ false → no_memory ≡ false)
+    → AllZip (MonitorServed tries no_memory) units monitors → AllZip (MonitorServed tries is_out_of_memory) units monitors
+served_still tries no_memory is_out_of_memory [] [] so served = tt
+served_still tries no_memory is_out_of_memory [] (m ∷ monitors) so served = absurd served
+served_still tries no_memory is_out_of_memory (u ∷ units) [] so served = absurd served
+served_still tries no_memory is_out_of_memory (u ∷ units) (m ∷ monitors) so served = (
   record {
     segment = served.0.segment;
     published = served.0.published;
     climbs = served.0.climbs;
-    all = λ (e : lacks ≡ false). served.0.all (so e);
-    loads = λ (e : lacks ≡ false). served.0.loads (so e);
+    all = λ (e : is_out_of_memory ≡ false). served.0.all (so e);
+    loads = λ (e : is_out_of_memory ≡ false). served.0.loads (so e);
   },
-  served_still tries no_memory lacks units monitors so served.1,
+  served_still tries no_memory is_out_of_memory units monitors so served.1,
 )
 
 segments_of_units : (units : List UnitView) → length (map segment_of units) ≡ length units
@@ -92,11 +93,11 @@ segments_of_units [] = refl
 segments_of_units (u ∷ units) = ap suc (segments_of_units units)
 
 -- the headline, of the parts as they are handed back
-pub at_end_of : {G S K R : Type 0} (terms : Terms) (queue tries : ℕ) (may : Option (List Moment)) (links : Option (List (Way S K))) (facts : WorldFacts G S K)
+pub at_end_of : {G S K R : Type 0} (terms : Terms) (queue tries : ℕ) (may : Option (List Moment)) (clock : Option Dial) (links : Option (List (Way S K))) (facts : WorldFacts G S K)
     (back : HandedBack G S K R) (no_memory : Bool) (seat : Admissions) (ways : List (SessionLink S K R)) (gate : G)
     (b b' b'' : BookView) (inlets : List InletsView) (inputs : List (Taking Piece)) (ends : List (Option DeviceEnd))
     → terms_of b inlets terms.wait ≡ terms
-    → DaemonHub (record { book = b; inlets = inlets; ends = ends; inputs = inputs; done = seat.done; wait = terms.wait })
+    → DaemonHub (record { book = b; devices = devices_of inlets ends; inputs = inputs; done = seat.done; wait = terms.wait })
     → AreAdmitted seat.links b.sessions inputs → map (lanes_of queue) ways ≡ seat.links
     → All IsUnit b.units → AreAtRest (length terms.segments) b.units → CountFromZero terms.segments → All IsClosed b.sessions → All HasStopped ends
     → AllZip (DeviceServed may facts.sources) inlets back.devices → map (λ (d : DeviceDone S R). d.end) back.devices ≡ ends
@@ -104,12 +105,13 @@ pub at_end_of : {G S K R : Type 0} (terms : Terms) (queue tries : ℕ) (may : Op
     → b'' ≡ b' → AllZip (MonitorServed tries no_memory) (watched_units tries b'.units) back.monitors
     → map (λ (m : MonitorDone). m.unit) back.monitors ≡ range_with_len 0 (length back.monitors) → (back.no_memory ≡ false → no_memory ≡ false)
     → back.gate ≡ Some gate → GateServed facts links back.full back.no_memory seat.done back.sessions gate
-    → (back.no_memory ≡ true → MemoryWasShort links (facts.gates.links gate) back b)
-    → AtEnd (start_with (settings_of terms queue tries) may links) facts back b''
-at_end_of {G} {S} {K} {R} terms queue tries may links facts back no_memory seat ways gate b b' b'' inlets inputs ends same hub admitted lanes keeps
-    rests zeros closed stopped served ends_are is sessions_are is' monitors_are numbers so gate_is door short =
+    → (back.no_memory ≡ true → ShowsOutOfMemory links (facts.gates.links gate) back b)
+    → StampsAreGiven clock (map (λ (d : DeviceDone S R). d.bytes_tx.put) back.devices)
+    → AtEnd (start_with (settings_of terms queue tries) may clock links) facts back b''
+at_end_of {G} {S} {K} {R} terms queue tries may clock links facts back no_memory seat ways gate b b' b'' inlets inputs ends same hub admitted lanes keeps
+    rests zeros closed stopped served ends_are is sessions_are is' monitors_are numbers so gate_is door short stamps =
     let segments : map segment_of b.units ≡ terms.segments = ap (λ (t : Terms). t.segments) same in
-    subst (λ (x : BookView). AtEnd (start_with (settings_of terms queue tries) may links) facts back x) (sym (is' ∙ is)) (
+    subst (λ (x : BookView). AtEnd (start_with (settings_of terms queue tries) may clock links) facts back x) (sym (is' ∙ is)) (
     record {
       names = ap (λ (t : Terms). t.names) same;
       limit = ap (λ (t : Terms). t.limit) same;
@@ -117,8 +119,9 @@ at_end_of {G} {S} {K} {R} terms queue tries may links facts back no_memory seat 
       inlets = inlets;
       done = seat.done;
       hub = hub_returned facts.sources b inlets (map (λ (d : DeviceDone S R). d.end) back.devices) inputs seat.done terms.wait back.sessions closed sessions_are.inputs_are
-          (subst (λ (e : List (Option DeviceEnd)). DaemonHub (record { book = b; inlets = inlets; ends = e; inputs = inputs; done = seat.done; wait = terms.wait })) (sym ends_are) hub);
+          (subst (λ (e : List (Option DeviceEnd)). DaemonHub (record { book = b; devices = devices_of inlets e; inputs = inputs; done = seat.done; wait = terms.wait })) (sym ends_are) hub);
       devices_are = served;
+      stamps = stamps;
       inputs_are = all_read facts.sources inputs back.sessions sessions_are.inputs_are;
       outlets_are = sessions_are.outlets_are;
       numbers = sessions_are.numbers;
@@ -151,11 +154,11 @@ devices_ran_on may facts terms b w starts starts' first runs are fresh same ran 
 }
 
 -- the monitors read the segments that the hub was told of
-pub watchers_ran_on : (tries : ℕ) (terms : Terms) (b : BookView) (first : List InletsView) (w : ℕ) (watchers watchers' : List MonitorStart) (watched : List ReadingsDone)
-    → terms ≡ terms_of b first w → segments_of watchers ≡ monitored tries (map segment_of b.units) → watchers' ≡ watchers → AllZip (WatchedBy tries) watchers' watched
-    → WatchersRan tries terms.segments watched
-watchers_ran_on tries terms b first w watchers watchers' watched are segments same by = record {
-  watchers = watchers;
+pub monitors_ran_on : (tries : ℕ) (terms : Terms) (b : BookView) (first : List InletsView) (w : ℕ) (monitor_starts monitor_starts' : List MonitorStart) (watched : List ReadingsDone)
+    → terms ≡ terms_of b first w → segments_of monitor_starts ≡ monitored tries (map segment_of b.units) → monitor_starts' ≡ monitor_starts → AllZip (WatchedBy tries) monitor_starts' watched
+    → MonitorsRan tries terms.segments watched
+monitors_ran_on tries terms b first w monitor_starts monitor_starts' watched are segments same by = record {
+  monitor_starts = monitor_starts;
   segments_are = segments ∙ ap (λ (t : Terms). monitored tries t.segments) (sym are);
   by = subst (λ l. AllZip (WatchedBy tries) l watched) same by;
 }

@@ -14,15 +14,17 @@ use Rattle.serve_pieces.specs.declared.piece.Piece.{Piece}
 use Rattle.serve_threads.specs.declared.reading.ReaderDone.{ReaderDone}
 use Rattle.serve_end_settling.specs.declared.device.DeviceRun.{DeviceRun}
 use Rattle.serve_end_settling.specs.Failing.{AnyOf, DeviceFailed, EdgeFailed, EdgeSaysFailed, MetFault, SaysFailed, SourceFailed, source_of}
-use Rattle.serve_end_settling.specs.Lanes.{tx_of}
+use Rattle.serve_end_settling.specs.Lanes.{ZipOption, tx_of}
 use Rattle.serve_end_settling.specs.Runs.{EachRun, EdgesRan, SourceFacts}
 use Rattle.serve_end_settling.proofs.Causes.{each_run_more}
 use Rattle.gps_serve.specs.declared.starts.EdgeStart.{EdgeStart}
+use Rattle.serve_workers.specs.EdgeLines.{HandsLines}
 use Rattle.gps_serve.specs.Runs.{DeviceReady}
 use Rattle.gps_serve.specs.Starts.{IsFreshEdge, edge_start_of}
 use Rattle.gps_serve.specs.Lost.{WasLostOutOfMemory}
-use Rattle.gps_serve.specs.Statuses.{HasStopped, TellsFault, TellsNoFault, WasLostByFault}
-use Rattle.gps_serve.specs.Whole.{EdgesWhole, IsWhole}
+use Rattle.serve_floor.specs.Bursts.{HasStopped}
+use Rattle.gps_serve.specs.Statuses.{TellsFault, TellsNoFault, WasLostByFault}
+use Rattle.gps_serve.specs.Whole.{IsWhole, ReaderWhole}
 use Rattle.gps_serve.proofs.Lost.{neither, one_false}
 use Rattle.gps_serve.proofs.Whole.{bytes_told, lines_told}
 
@@ -121,11 +123,6 @@ missed_more P before now failed xs xs' x so one is more e some =
     let none = neither before now (sym is ∙ e) in
     elim (any_split P xs x (subst (AnyOf P) more some)) [ inl front ↦ so none.0 front | inr last ↦ one none.1 last ]
 
--- a fault that was met gives status 3
-pub three_if : {X : Type 0} (failed : Bool) (status : ℕ) → (failed ≡ true → status ≡ 3) → (failed ≡ false → X → ⊥) → X → status ≡ 3
-three_if true status three missed some = three refl
-three_if false status three missed some = absurd (missed refl some)
-
 -- a device is lost by a fault as one of its sources failed
 fault_of : (bytes edges : Ending) (end : Option DeviceEnd) → end ≡ Some (end_of bytes edges) → end ≡ Some ReadFault → (bytes ≡ Failed) ⊎ (edges ≡ Failed)
 fault_of NoMemory edges end is lost = absurd (cc (is, lost))
@@ -134,17 +131,15 @@ fault_of End End end is lost = absurd (cc (is, lost))
 fault_of End Failed end is lost = inr refl
 fault_of End NoMemory end is lost = absurd (cc (is, lost))
 
-lines_tell : {S : Type 0} (facts : SourceFacts S) (ending : Ending) (tx : Option (Putting Piece)) (rx : Option (Taking Piece)) (source : Option S)
-    → EdgesWhole facts ending tx rx source → ending ≡ Failed → TellsFault tx
-lines_tell facts ending None None None whole failed =
-    let ended : ending ≡ End = whole in
+lines_tell : {S : Type 0} (facts : SourceFacts S) (ending : Ending) (tx : Option (Putting Piece)) (source : Option S) → (source ≡ None → ending ≡ End)
+    → ZipOption (ReaderWhole HandsLines facts ending) tx source → ending ≡ Failed → TellsFault tx
+lines_tell facts ending None None none whole failed =
+    let ended : ending ≡ End = none refl in
     absurd (cc (ended, failed))
-lines_tell facts ending None None (Some source) whole failed = absurd whole
-lines_tell facts ending None (Some rx) source whole failed = absurd whole
-lines_tell facts ending (Some tx) None source whole failed = absurd whole
-lines_tell facts ending (Some tx) (Some rx) None whole failed = absurd whole
-lines_tell facts ending (Some tx) (Some rx) (Some source) whole failed =
-    ap ending_of (sym whole.got) ∙ lines_told (Some ending) [] rx.got (facts.content whole.first) (facts.content source) whole.hands refl ∙ ap Some failed
+lines_tell facts ending None (Some source) none whole failed = absurd whole
+lines_tell facts ending (Some tx) None none whole failed = absurd whole
+lines_tell facts ending (Some tx) (Some source) none whole failed =
+    lines_told (Some ending) [] tx.put (facts.content whole.first) (facts.content source) whole.hands refl ∙ ap Some failed
 
 -- what was put into its lanes says so
 not_lost : {S R : Type 0} (may : Option (List Moment)) (facts : SourceFacts S) (device : DeviceDone S R) → TellsNoFault device → IsWhole may facts device
@@ -153,14 +148,13 @@ not_lost may facts device untold whole lost =
     let came = whole (inr lost) in
     elim (fault_of came.bytes_ending came.edges_ending device.end came.end_is lost) [
       | inl failed ↦ untold.bytes (
-          ap ending_of (sym came.bytes.got)
-          ∙ bytes_told may (Some came.bytes_ending) [] device.bytes_rx.got (facts.content came.bytes.first) (facts.content came.source) came.bytes.hands refl
+          bytes_told may (Some came.bytes_ending) [] device.bytes_tx.put (facts.content came.bytes.first) (facts.content came.source) came.bytes.hands refl
           ∙ ap Some failed
           )
-      | inr failed ↦ untold.edges (lines_tell facts came.edges_ending device.edges_tx device.edges_rx device.edges came.edges failed)
+      | inr failed ↦ untold.edges (lines_tell facts came.edges_ending device.edges_tx device.edges came.no_edges came.edges failed)
     ]
 
-none_lost : {S R : Type 0} (may : Option (List Moment)) (facts : SourceFacts S) (devices : List (DeviceDone S R)) → EachRun TellsNoFault devices
+pub none_lost : {S R : Type 0} (may : Option (List Moment)) (facts : SourceFacts S) (devices : List (DeviceDone S R)) → EachRun TellsNoFault devices
     → All (IsWhole may facts) devices → AnyOf WasLostByFault devices → ⊥
 none_lost may facts [] untold whole lost = lost
 none_lost may facts (device ∷ devices) untold whole lost = elim lost [
@@ -192,29 +186,16 @@ some_lost {S} {R} may facts (device ∷ devices) untold whole stopped unended =
           (λ k d there. stopped (suc k) d (omega (arith, there))) later)
     ]
 
--- of the causes of a status a device that was lost by a fault is the first
-pub first_of : {S R : Type 0} (may : Option (List Moment)) (facts : SourceFacts S) (devices : List (DeviceDone S R)) (failed : Bool) (status : ℕ)
-    → (failed ≡ true → status ≡ 3) → (failed ≡ false → EachRun TellsNoFault devices) → All (IsWhole may facts) devices
-    → AnyOf WasLostByFault devices → status ≡ 3
-first_of may facts devices true status three untold whole lost = three refl
-first_of may facts devices false status three untold whole lost = absurd (none_lost may facts devices (untold refl) whole lost)
-
 -- if no device is there, none was lost, and none failed
 pub no_devices : {X : Type 0} (P : X → Type 0) (devices : List X) (status : ℕ) → devices ≡ [] → AnyOf P devices → status ≡ 3
 no_devices P [] status none lost = absurd lost
 no_devices P (device ∷ devices) status none lost = absurd (cc)
 
 -- of each of them, by its number
-all_of_each : {X : Type 0} (P : X → Type 0) (xs : List X) → EachRun P xs → All P xs
+pub all_of_each : {X : Type 0} (P : X → Type 0) (xs : List X) → EachRun P xs → All P xs
 all_of_each P [] each k x there = absurd (omega arith)
 all_of_each P (y ∷ xs) each zero x there = each.0
 all_of_each P (y ∷ xs) each (suc k) x there = all_of_each P xs each.1 k x (omega (arith, there))
-
--- the status is 3, or no lane tells of a failed source
-pub three_or_untold : {S R : Type 0} (devices : List (DeviceDone S R)) (failed : Bool) (status : ℕ) → (failed ≡ true → status ≡ 3)
-    → (failed ≡ false → EachRun TellsNoFault devices) → (status ≡ 3) ⊎ All TellsNoFault devices
-three_or_untold devices true status three untold = inl (three refl)
-three_or_untold devices false status three untold = inr (all_of_each TellsNoFault devices (untold refl))
 
 -- if no device is there, none tells of one
 pub none_tell : {S R : Type 0} (devices : List (DeviceDone S R)) (status : ℕ) → devices ≡ [] → (status ≡ 3) ⊎ All TellsNoFault devices

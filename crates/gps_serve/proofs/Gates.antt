@@ -1,9 +1,10 @@
 -- What is left of the door, and what it says of the sessions.
-use Rattle.std.proofs.Common.{◌≡◌, ◌<◌, ◌≤◌, ◌+◌, ◌-◌, ◌^◌, inl, inr, ℕ, Bool, true, false, zero, suc, List, [], ◌∷◌, map, length, get_or, Option, Some, None, is_some, refl, sym, ◌∙◌, ap, subst, arith}
+use Rattle.std.proofs.Common.{◌≡◌, ◌<◌, ◌≤◌, ◌+◌, ◌-◌, ◌^◌, inl, inr, ℕ, Bool, true, false, zero, suc, List, [], ◌∷◌, map, length, min, get_or, Option, Some, None, is_some, refl, sym, ◌∙◌, ap, subst, arith}
 use Rattle.std.specs.List.{All, AllZip}
 use Rattle.book_sessions.specs.MemberView.{MemberView}
 use Rattle.gps_lane.specs.Ends.{Taking}
-use Rattle.hub_door.specs.Admissions.{Admissions, SessionLanes}
+use Rattle.book_sessions.specs.Roster.{most_live}
+use Rattle.hub_door.specs.Admissions.{Admissions, LinkDrop, SessionLanes}
 use Rattle.hub_promise.specs.declared.ends.DeviceEnd.{DeviceEnd}
 use Rattle.hub_promise.specs.Parts.{AreAdmitted}
 use Rattle.report_book.specs.BookView.{BookView}
@@ -13,11 +14,11 @@ use Rattle.serve_pieces.specs.declared.piece.Piece.{Piece}
 use Rattle.serve_threads.specs.declared.session.SessionLink.{SessionLink}
 use Rattle.serve_threads.specs.declared.session.LinkDone.{LinkDone}
 use Rattle.serve_threads.specs.Sessions.{SessionRuns}
-use Rattle.gps_serve.specs.AtEnd.{AreOfQueue}
+use Rattle.gps_serve.specs.AtEnd.{HaveQueue}
 use Rattle.gps_serve.specs.Facts.{WorldFacts}
 use Rattle.gps_serve.specs.Served.{GateServed, ServesLink}
-use Rattle.gps_serve.specs.Doors.{DoorNow, IsNewLink, Tended, Way, door_now, lanes_of, way_of}
-use Rattle.gps_serve.specs.Lost.{IsNotCut, IsNotLost, LinkIsUncounted, NoneLost}
+use Rattle.serve_door.specs.Doors.{Dealt, DoorNow, IsNewLink, Tended, Way, door_now, lanes_of, way_of}
+use Rattle.gps_serve.specs.Lost.{IsNotClosedOutOfMemory, IsNotLostOutOfMemory, LinkIsUncounted, NoneLost}
 use Rattle.gps_serve.specs.Readies.{IsLeftOfLink}
 use Rattle.gps_serve.proofs.Devices.{zip_length}
 use Rattle.gps_serve.proofs.Taking.{links_served}
@@ -26,14 +27,24 @@ map_length : {A B : Type 0} (f : A → B) (xs : List A) → length (map f xs) �
 map_length f [] = refl
 map_length f (x ∷ xs) = let same = map_length f xs in omega (arith, same)
 
+-- before 64 sessions were admitted no link is dropped for a bound
+none_dropped : {X : Type 0} (admitted : ℕ) (taken sessions : List X) (drops : List LinkDrop) → admitted + length sessions < most_live → Dealt admitted taken sessions drops
+    → length drops ≡ 0
+none_dropped admitted [] sessions drops few dealt = ap length dealt.1
+none_dropped admitted (way ∷ taken) sessions drops few dealt = elim dealt [
+  | inl seated ↦ let n = ap length seated.1 in none_dropped (suc admitted) taken seated.0 drops (omega (arith, few, n)) seated.2
+  | inr (inl dropped) ↦ let some = dropped.3.some in absurd (omega (arith, few, some))
+  | inr (inr was_out_of_memory) ↦ none_dropped admitted taken sessions drops few was_out_of_memory
+]
+
 pub gate_served : {G S K R : Type 0} (facts : WorldFacts G S K) (queue : ℕ) (told : Option (List (Way S K))) (gate : G) (full : ℕ)
-    (no_memory lacks : Bool) (seat : Admissions) (runs : List (LinkDone S K R)) (sessions : List (SessionDone S K R))
+    (no_memory is_out_of_memory : Bool) (seat : Admissions) (runs : List (LinkDone S K R)) (sessions : List (SessionDone S K R))
     → Tended (IsNewLink facts.sources.content facts.sources.faults facts.sources.quiets facts.sinks.written facts.sinks.faults)
     (SessionRuns facts.sources.content facts.sources.faults facts.sources.quiets facts.sinks.written facts.sinks.faults) queue told
-    (door_now (facts.gates.links gate) (facts.gates.faults gate) (facts.gates.quiets gate) full no_memory) seat runs
-    → AllZip (IsLeftOfLink facts.sources facts.sinks) runs sessions → (lacks ≡ false → no_memory ≡ false)
-    → GateServed facts told full lacks seat.done sessions gate
-gate_served {G} {S} {K} {R} facts queue told gate full no_memory lacks seat runs sessions tended are so =
+    (door_now (facts.gates.links gate) (facts.gates.faults gate) (facts.gates.quiets gate) seat.drops full no_memory) seat runs
+    → AllZip (IsLeftOfLink facts.sources facts.sinks) runs sessions → (is_out_of_memory ≡ false → no_memory ≡ false)
+    → GateServed facts told full is_out_of_memory seat.done sessions gate
+gate_served {G} {S} {K} {R} facts queue told gate full no_memory is_out_of_memory seat runs sessions tended are so =
     let sources = facts.sources in
     let sinks = facts.sinks in
     let ran = zip_length (SessionRuns sources.content sources.faults sources.quiets sinks.written sinks.faults) tended.links runs tended.ran in
@@ -41,15 +52,21 @@ gate_served {G} {S} {K} {R} facts queue told gate full no_memory lacks seat runs
     let ways = map_length way_of tended.links in
     let same : length (map way_of tended.links) ≡ length sessions = omega (arith, ran, left, ways) in
     let takes = tended.tends.takes in
+    let full_is : full ≡ min (length seat.drops) (2 ^ 64 - 1) = takes.full in
     let served = links_served sources sinks tended.links runs sessions tended.seated.unused tended.seated.each tended.ran are in
     record {
       taken = tended.tends.taken;
       passed = takes.passed;
-      few = subst (λ n. n + full ≤ length tended.tends.taken) same takes.few;
-      count = λ (e : lacks ≡ false) (f : full < 2 ^ 64 - 1). takes.count (so e) f ∙ ap (λ n. n + full) same;
-      none_early = λ (f : length sessions < 64). takes.full (subst (λ n. n < 64) (sym same) f);
+      few = let few = takes.few in omega (arith, few, full_is, same);
+      count = λ (e : is_out_of_memory ≡ false) (f : full < 2 ^ 64 - 1). let all = takes.count (so e) in omega (arith, all, full_is, same, f);
+      none_early = λ (f : length sessions < most_live).
+          let none = none_dropped 0 tended.tends.taken (map way_of tended.links) seat.drops (omega (arith, same, f)) takes.dealt in
+          omega (arith, none, full_is);
+      drops = seat.drops;
+      counted = full_is;
       served = map way_of tended.links;
       order = takes.order;
+      dealt = takes.dealt;
       links_are = served;
       each = λ (e : length tended.tends.taken ≡ length sessions).
           subst (λ (l : List (Way S K)). AllZip (ServesLink sources sinks) l sessions) (takes.each (e ∙ sym same)) served;
@@ -62,7 +79,7 @@ pub link_uncounted : {G S K R : Type 0} (facts : WorldFacts G S K) (queue : ℕ)
     (runs : List (LinkDone S K R)) (sessions : List (SessionDone S K R))
     → Tended (IsNewLink facts.sources.content facts.sources.faults facts.sources.quiets facts.sinks.written facts.sinks.faults)
     (SessionRuns facts.sources.content facts.sources.faults facts.sources.quiets facts.sinks.written facts.sinks.faults) queue told
-    (door_now (facts.gates.links gate) (facts.gates.faults gate) (facts.gates.quiets gate) full no_memory) seat runs
+    (door_now (facts.gates.links gate) (facts.gates.faults gate) (facts.gates.quiets gate) seat.drops full no_memory) seat runs
     → AllZip (IsLeftOfLink facts.sources facts.sinks) runs sessions → no_memory ≡ true → LinkIsUncounted told (facts.gates.links gate) (length sessions) full
 link_uncounted {G} {S} {K} {R} facts queue told gate full no_memory seat runs sessions tended are short =
     let sources = facts.sources in
@@ -74,12 +91,15 @@ link_uncounted {G} {S} {K} {R} facts queue told gate full no_memory seat runs se
     record {
       taken = tended.tends.taken;
       passed = tended.tends.takes.passed;
-      more = subst (λ n. n + full < length tended.tends.taken) same (tended.tends.takes.uncounted short);
+      more =
+          let more = tended.tends.takes.uncounted short in
+          let full_is : full ≡ min (length seat.drops) (2 ^ 64 - 1) = tended.tends.takes.full in
+          omega (arith, more, full_is, same);
     }
 
 module _ {S K R : Type 0} (queue : ℕ) where
   caps_are : (links : List (SessionLink S K R)) (sessions : List MemberView)
-      → map (λ (a : MemberView). a.session.cap) sessions ≡ map (λ (l : SessionLanes). l.cap) (map (lanes_of queue) links) → AreOfQueue queue sessions
+      → map (λ (a : MemberView). a.session.cap) sessions ≡ map (λ (l : SessionLanes). l.cap) (map (lanes_of queue) links) → HaveQueue queue sessions
   caps_are links [] same k d there = absurd (omega arith)
   caps_are [] (a ∷ sessions) same k d there = absurd cc
   caps_are (link ∷ links) (a ∷ sessions) same zero d there = cc same
@@ -87,7 +107,7 @@ module _ {S K R : Type 0} (queue : ℕ) where
 
   -- how many items may wait for each session that was admitted
   pub of_queue : (seat : Admissions) (links : List (SessionLink S K R)) (sessions : List MemberView) (inputs : List (Taking Piece)) → map (lanes_of queue) links ≡ seat.links
-      → AreAdmitted seat.links sessions inputs → AreOfQueue queue sessions
+      → AreAdmitted seat.links sessions inputs → HaveQueue queue sessions
   of_queue seat links sessions inputs same admitted =
       caps_are links sessions (admitted.caps ∙ ap (map (λ (l : SessionLanes). l.cap)) (sym same))
 
@@ -105,9 +125,9 @@ each_end {S} {R} P devices ends are all k d there =
 
 -- no device was lost, and no session of the book closed, because it was out of memory
 pub none_lost_in : {S R : Type 0} (b b' b'' : BookView) (devices : List (DeviceDone S R)) (ends : List (Option DeviceEnd)) → b' ≡ b → b'' ≡ b'
-    → map (λ (d : DeviceDone S R). d.end) devices ≡ ends → All IsNotLost ends → All (λ (a : MemberView). IsNotCut a.session.closing) b.sessions
+    → map (λ (d : DeviceDone S R). d.end) devices ≡ ends → All IsNotLostOutOfMemory ends → All (λ (a : MemberView). IsNotClosedOutOfMemory a.session.closing) b.sessions
     → NoneLost b'' devices
 none_lost_in b b' b'' devices ends is is' are kept sessions = record {
-  devices_kept = each_end IsNotLost devices ends are kept;
-  sessions_kept = subst (λ (x : BookView). All (λ (a : MemberView). IsNotCut a.session.closing) x.sessions) (sym (is' ∙ is)) sessions;
+  devices_kept = each_end IsNotLostOutOfMemory devices ends are kept;
+  sessions_kept = subst (λ (x : BookView). All (λ (a : MemberView). IsNotClosedOutOfMemory a.session.closing) x.sessions) (sym (is' ∙ is)) sessions;
 }

@@ -19,7 +19,7 @@ use Rattle.serve_end_settling.specs.Lanes.{tx_of}
 use Rattle.serve_end_settling.specs.Runs.{EdgesRan, SourceFacts}
 use Rattle.gps_serve.specs.declared.starts.EdgeStart.{EdgeStart}
 use Rattle.gps_serve.specs.Facts.{SinkFacts}
-use Rattle.gps_serve.specs.Lost.{DeviceHadMemory, DeviceTellsShort, ReadersHadMemory, SessionHadMemory, SessionTellsShort, TellsShort, is_short, lines_lack, link_lacks, run_lacks}
+use Rattle.gps_serve.specs.Lost.{DeviceHadMemory, DeviceTellsOutOfMemory, ReadersHadMemory, SessionHadMemory, SessionTellsOutOfMemory, TellsOutOfMemory, ended_out_of_memory, lines_out_of_memory, link_out_of_memory, run_out_of_memory}
 use Rattle.gps_serve.specs.Readies.{AreReady, IsLeftOfLink, SessionReady}
 use Rattle.gps_serve.specs.Runs.{DeviceReady, IsLeftOf}
 use Rattle.gps_serve.specs.Starts.{IsFreshEdge, edge_start_of}
@@ -27,13 +27,13 @@ use Rattle.gps_serve.proofs.Lost.{either, neither}
 use Rattle.gps_serve.proofs.Whole.{bytes_told, input_told, lines_told}
 
 -- a reader that had memory did not end out of memory
-not_short : (ending : Option Ending) → is_short ending ≡ false → ending ≡ Some NoMemory → ⊥
+not_short : (ending : Option Ending) → ended_out_of_memory ending ≡ false → ending ≡ Some NoMemory → ⊥
 not_short ending had is =
-    let so : is_short ending ≡ true = ap is_short is in
+    let so : ended_out_of_memory ending ≡ true = ap ended_out_of_memory is in
     absurd (cc (so, had))
 
 bytes_had : {S R : Type 0} (may : Option (List Moment)) (facts : SourceFacts S) (x : InletsView) (run : DeviceRun S R) → DeviceReady may facts x run
-    → is_short run.bytes.ending ≡ false → ending_of run.bytes.pieces.put ≡ Some NoMemory → ⊥
+    → ended_out_of_memory run.bytes.ending ≡ false → ending_of run.bytes.pieces.put ≡ Some NoMemory → ⊥
 bytes_had may facts x run ready had tells =
     let start = ready.start in
     not_short run.bytes.ending had
@@ -42,7 +42,7 @@ bytes_had may facts x run ready had tells =
     ∙ tells)
 
 lines_had : {S R : Type 0} (facts : SourceFacts S) (start : Option (EdgeStart S R)) (first : Option (Taking Piece)) (reader : Option (ReaderDone S R))
-    → IsFreshEdge facts start first → EdgesRan facts (option_map edge_start_of start) reader → lines_lack reader ≡ false → TellsShort (tx_of reader) → ⊥
+    → IsFreshEdge facts start first → EdgesRan facts (option_map edge_start_of start) reader → lines_out_of_memory reader ≡ false → TellsOutOfMemory (tx_of reader) → ⊥
 lines_had facts start first None fresh ran had tells = absurd tells
 lines_had facts None first (Some reader) fresh ran had tells = absurd ran
 lines_had facts (Some start) None (Some reader) fresh ran had tells = absurd fresh
@@ -51,30 +51,30 @@ lines_had facts (Some start) (Some first) (Some reader) fresh ran had tells =
     (sym (lines_told reader.ending start.lines.put reader.pieces.put (facts.content start.source) (facts.content reader.source) ran.hands fresh.0.put) ∙ tells)
 
 device_had : {S R : Type 0} (may : Option (List Moment)) (facts : SourceFacts S) (x : InletsView) (run : DeviceRun S R) (device : DeviceDone S R)
-    → DeviceReady may facts x run → IsLeftOf run device → run_lacks run ≡ false → DeviceHadMemory device
+    → DeviceReady may facts x run → IsLeftOf run device → run_out_of_memory run ≡ false → DeviceHadMemory device
 device_had may facts x run device ready left none =
-    let had = neither (is_short run.bytes.ending) (lines_lack run.edges) none in
+    let had = neither (ended_out_of_memory run.bytes.ending) (lines_out_of_memory run.edges) none in
     record {
       bytes = λ (tells : ending_of device.bytes_tx.put ≡ Some NoMemory).
           let same : ending_of run.bytes.pieces.put ≡ ending_of device.bytes_tx.put = ap (λ (tx : Putting Piece). ending_of tx.put) (sym left.bytes_tx) in
           bytes_had may facts x run ready had.0 (same ∙ tells);
-      edges = λ (tells : TellsShort device.edges_tx).
-          lines_had facts ready.start.edges ready.first.edges run.edges ready.fresh.edges ready.ran.edges had.1 (subst TellsShort left.edges_tx tells);
+      edges = λ (tells : TellsOutOfMemory device.edges_tx).
+          lines_had facts ready.start.edges ready.first.edges run.edges ready.fresh.edges ready.ran.edges had.1 (subst TellsOutOfMemory left.edges_tx tells);
     }
 
 pub devices_had : {S R : Type 0} (may : Option (List Moment)) (facts : SourceFacts S) (inlets : List InletsView) (runs : List (DeviceRun S R))
-    (devices : List (DeviceDone S R)) → AllZip (DeviceReady may facts) inlets runs → AllZip IsLeftOf runs devices → list_any run_lacks runs ≡ false
+    (devices : List (DeviceDone S R)) → AllZip (DeviceReady may facts) inlets runs → AllZip IsLeftOf runs devices → list_any run_out_of_memory runs ≡ false
     → All DeviceHadMemory devices
 devices_had may facts inlets runs [] ready left none k d there = absurd (omega arith)
 devices_had may facts inlets [] (device ∷ devices) ready left none k d there = absurd left
 devices_had may facts [] (run ∷ runs) (device ∷ devices) ready left none k d there = absurd ready
 devices_had may facts (x ∷ inlets) (run ∷ runs) (device ∷ devices) ready left none zero d there =
-    device_had may facts x run device ready.0 left.0 (neither (run_lacks run) (list_any run_lacks runs) none).0
+    device_had may facts x run device ready.0 left.0 (neither (run_out_of_memory run) (list_any run_out_of_memory runs) none).0
 devices_had may facts (x ∷ inlets) (run ∷ runs) (device ∷ devices) ready left none (suc k) d there =
-    devices_had may facts inlets runs devices ready.1 left.1 (neither (run_lacks run) (list_any run_lacks runs) none).1 k d (omega arith)
+    devices_had may facts inlets runs devices ready.1 left.1 (neither (run_out_of_memory run) (list_any run_out_of_memory runs) none).1 k d (omega arith)
 
 session_had : {S K R : Type 0} (sources : SourceFacts S) (sinks : SinkFacts K) (a : MemberView) (x : Taking Piece) (run : LinkDone S K R) (done : SessionDone S K R)
-    → SessionReady sources sinks a x run → IsLeftOfLink sources sinks run done → link_lacks run ≡ false → SessionHadMemory done
+    → SessionReady sources sinks a x run → IsLeftOfLink sources sinks run done → link_out_of_memory run ≡ false → SessionHadMemory done
 session_had sources sinks a x run done ready left had =
     let link = ready.link in
     record {
@@ -88,25 +88,25 @@ session_had sources sinks a x run done ready left had =
 
 pub sessions_had : {S K R : Type 0} (sources : SourceFacts S) (sinks : SinkFacts K) (sessions : List MemberView) (inputs : List (Taking Piece))
     (runs : List (LinkDone S K R)) (dones : List (SessionDone S K R)) → AreReady sources sinks sessions inputs runs
-    → AllZip (IsLeftOfLink sources sinks) runs dones → list_any link_lacks runs ≡ false → All SessionHadMemory dones
+    → AllZip (IsLeftOfLink sources sinks) runs dones → list_any link_out_of_memory runs ≡ false → All SessionHadMemory dones
 sessions_had sources sinks sessions inputs runs [] ready left none k d there = absurd (omega arith)
 sessions_had sources sinks sessions inputs [] (done ∷ dones) ready left none k d there = absurd left
 sessions_had sources sinks [] [] (run ∷ runs) (done ∷ dones) ready left none k d there = absurd ready
 sessions_had sources sinks [] (x ∷ inputs) (run ∷ runs) (done ∷ dones) ready left none k d there = absurd ready
 sessions_had sources sinks (a ∷ sessions) [] (run ∷ runs) (done ∷ dones) ready left none k d there = absurd ready
 sessions_had sources sinks (a ∷ sessions) (x ∷ inputs) (run ∷ runs) (done ∷ dones) ready left none zero d there =
-    session_had sources sinks a x run done ready.0 left.0 (neither (link_lacks run) (list_any link_lacks runs) none).0
+    session_had sources sinks a x run done ready.0 left.0 (neither (link_out_of_memory run) (list_any link_out_of_memory runs) none).0
 sessions_had sources sinks (a ∷ sessions) (x ∷ inputs) (run ∷ runs) (done ∷ dones) ready left none (suc k) d there =
-    sessions_had sources sinks sessions inputs runs dones ready.1 left.1 (neither (link_lacks run) (list_any link_lacks runs) none).1 k d (omega arith)
+    sessions_had sources sinks sessions inputs runs dones ready.1 left.1 (neither (link_out_of_memory run) (list_any link_out_of_memory runs) none).1 k d (omega arith)
 
-is_short_by : (ending : Option Ending) → is_short ending ≡ true → ending ≡ Some NoMemory
+is_short_by : (ending : Option Ending) → ended_out_of_memory ending ≡ true → ending ≡ Some NoMemory
 is_short_by None short = absurd (cc)
 is_short_by (Some End) short = absurd (cc)
 is_short_by (Some Failed) short = absurd (cc)
 is_short_by (Some NoMemory) short = refl
 
 lines_tell_short : {S R : Type 0} (facts : SourceFacts S) (start : Option (EdgeStart S R)) (first : Option (Taking Piece)) (reader : Option (ReaderDone S R))
-    → IsFreshEdge facts start first → EdgesRan facts (option_map edge_start_of start) reader → lines_lack reader ≡ true → TellsShort (tx_of reader)
+    → IsFreshEdge facts start first → EdgesRan facts (option_map edge_start_of start) reader → lines_out_of_memory reader ≡ true → TellsOutOfMemory (tx_of reader)
 lines_tell_short facts start first None fresh ran short = absurd (cc)
 lines_tell_short facts None first (Some reader) fresh ran short = absurd ran
 lines_tell_short facts (Some start) None (Some reader) fresh ran short = absurd fresh
@@ -116,34 +116,34 @@ lines_tell_short facts (Some start) (Some first) (Some reader) fresh ran short =
 
 -- a reader that was out of memory says so in its lane
 device_tells_short : {S R : Type 0} (may : Option (List Moment)) (facts : SourceFacts S) (x : InletsView) (run : DeviceRun S R) (device : DeviceDone S R)
-    → DeviceReady may facts x run → IsLeftOf run device → run_lacks run ≡ true → DeviceTellsShort device
+    → DeviceReady may facts x run → IsLeftOf run device → run_out_of_memory run ≡ true → DeviceTellsOutOfMemory device
 device_tells_short may facts x run device ready left some =
     let start = ready.start in
-    elim (either (is_short run.bytes.ending) (lines_lack run.edges) some) [
+    elim (either (ended_out_of_memory run.bytes.ending) (lines_out_of_memory run.edges) some) [
       | inl short ↦ inl (
           ap (λ (tx : Putting Piece). ending_of tx.put) left.bytes_tx
           ∙ bytes_told may run.bytes.ending start.bytes.put run.bytes.pieces.put (facts.content start.source) (facts.content run.bytes.source)
           ready.ran.bytes.hands ready.fresh.bytes.put
           ∙ is_short_by run.bytes.ending short
           )
-      | inr short ↦ inr (subst TellsShort (sym left.edges_tx)
+      | inr short ↦ inr (subst TellsOutOfMemory (sym left.edges_tx)
           (lines_tell_short facts ready.start.edges ready.first.edges run.edges ready.fresh.edges ready.ran.edges short))
     ]
 
 -- of some device
 pub devices_tell_short : {S R : Type 0} (may : Option (List Moment)) (facts : SourceFacts S) (inlets : List InletsView) (runs : List (DeviceRun S R))
-    (devices : List (DeviceDone S R)) → AllZip (DeviceReady may facts) inlets runs → AllZip IsLeftOf runs devices → list_any run_lacks runs ≡ true
-    → AnyOf DeviceTellsShort devices
+    (devices : List (DeviceDone S R)) → AllZip (DeviceReady may facts) inlets runs → AllZip IsLeftOf runs devices → list_any run_out_of_memory runs ≡ true
+    → AnyOf DeviceTellsOutOfMemory devices
 devices_tell_short may facts inlets [] devices ready left some = absurd (cc)
 devices_tell_short may facts [] (run ∷ runs) devices ready left some = absurd ready
 devices_tell_short may facts (x ∷ inlets) (run ∷ runs) [] ready left some = absurd left
-devices_tell_short may facts (x ∷ inlets) (run ∷ runs) (device ∷ devices) ready left some = elim (either (run_lacks run) (list_any run_lacks runs) some) [
+devices_tell_short may facts (x ∷ inlets) (run ∷ runs) (device ∷ devices) ready left some = elim (either (run_out_of_memory run) (list_any run_out_of_memory runs) some) [
   | inl this ↦ inl (device_tells_short may facts x run device ready.0 left.0 this)
   | inr later ↦ inr (devices_tell_short may facts inlets runs devices ready.1 left.1 later)
 ]
 
 session_tells_short : {S K R : Type 0} (sources : SourceFacts S) (sinks : SinkFacts K) (a : MemberView) (x : Taking Piece) (run : LinkDone S K R)
-    (done : SessionDone S K R) → SessionReady sources sinks a x run → IsLeftOfLink sources sinks run done → link_lacks run ≡ true → SessionTellsShort done
+    (done : SessionDone S K R) → SessionReady sources sinks a x run → IsLeftOfLink sources sinks run done → link_out_of_memory run ≡ true → SessionTellsOutOfMemory done
 session_tells_short sources sinks a x run done ready left short =
     let link = ready.link in
     ap (λ (tx : Putting Piece). ending_of tx.put) left.input
@@ -154,14 +154,14 @@ session_tells_short sources sinks a x run done ready left short =
 -- of some session
 pub sessions_tell_short : {S K R : Type 0} (sources : SourceFacts S) (sinks : SinkFacts K) (sessions : List MemberView) (inputs : List (Taking Piece))
     (runs : List (LinkDone S K R)) (dones : List (SessionDone S K R)) → AreReady sources sinks sessions inputs runs
-    → AllZip (IsLeftOfLink sources sinks) runs dones → list_any link_lacks runs ≡ true → AnyOf SessionTellsShort dones
+    → AllZip (IsLeftOfLink sources sinks) runs dones → list_any link_out_of_memory runs ≡ true → AnyOf SessionTellsOutOfMemory dones
 sessions_tell_short sources sinks sessions inputs [] dones ready left some = absurd (cc)
 sessions_tell_short sources sinks sessions inputs (run ∷ runs) [] ready left some = absurd left
 sessions_tell_short sources sinks [] [] (run ∷ runs) (done ∷ dones) ready left some = absurd ready
 sessions_tell_short sources sinks [] (x ∷ inputs) (run ∷ runs) (done ∷ dones) ready left some = absurd ready
 sessions_tell_short sources sinks (a ∷ sessions) [] (run ∷ runs) (done ∷ dones) ready left some = absurd ready
 sessions_tell_short sources sinks (a ∷ sessions) (x ∷ inputs) (run ∷ runs) (done ∷ dones) ready left some =
-    elim (either (link_lacks run) (list_any link_lacks runs) some) [
+    elim (either (link_out_of_memory run) (list_any link_out_of_memory runs) some) [
       | inl this ↦ inl (session_tells_short sources sinks a x run done ready.0 left.0 this)
       | inr later ↦ inr (sessions_tell_short sources sinks sessions inputs runs dones ready.1 left.1 later)
     ]

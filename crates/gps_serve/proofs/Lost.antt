@@ -1,4 +1,4 @@
--- When it was out of memory: then alone a device was lost, or a session closed, for that.
+-- A device is lost, or a session closed, for lack of memory only if the daemon says that it was out of memory.
 use Rattle.std.proofs.Common.{◌≡◌, ◌<◌, ◌≤◌, ◌+◌, ◌||◌, ◌&&◌, ◌⊎◌, inl, inr, ℕ, Bool, true, false, zero, suc, List, [], ◌∷◌, length, map, get_or, slice_get, Option, Some, None, refl, sym, ◌∙◌, ap, subst, arith}
 use Rattle.std.specs.Prelude.{not}
 use Rattle.std.specs.List.{All, list_any}
@@ -9,7 +9,7 @@ use Rattle.hub_promise.specs.declared.ends.DeviceEnd.{DeviceEnd}
 use Rattle.hub_promise.specs.declared.ends.DeviceEnd.TheVariants.{Ended, ReadFault, NoMemory as LostNoMemory}
 use Rattle.serve_end_parts.specs.declared.done.DeviceDone.{DeviceDone}
 use Rattle.serve_end_settling.specs.Failing.{AnyOf}
-use Rattle.gps_serve.specs.Lost.{IsNotCut, IsNotLost, WasCut, WasLostOutOfMemory, is_cut, is_lost}
+use Rattle.gps_serve.specs.Lost.{IsNotClosedOutOfMemory, IsNotLostOutOfMemory, WasClosedOutOfMemory, WasLostOutOfMemory, closed_out_of_memory, lost_out_of_memory}
 
 -- if neither of two holds, each does not
 pub neither : (a b : Bool) → (a || b) ≡ false → (a ≡ false) × (b ≡ false)
@@ -34,11 +34,11 @@ is_true : (b : Bool) → not b ≡ false → b ≡ true
 is_true true e = refl
 is_true false e = absurd (cc)
 
--- if nothing was lacked, no device was lost and no session was cut
+-- if nothing was out of memory, no device was lost and no session was closed for it
 pub none_of_book : (threads lost cut by_book all : Bool) → by_book ≡ (lost || cut) → all ≡ (threads || by_book) → all ≡ false → (lost ≡ false) × (cut ≡ false)
 none_of_book threads lost cut by_book all book_is all_is e = neither lost cut (sym book_is ∙ (neither threads by_book (sym all_is ∙ e)).1)
 
--- if no thread lacks anything, neither does the door's, nor a reader, and each monitor made all its readings
+-- if no thread was out of memory, neither does the door's, nor a reader, and each monitor made all its readings
 pub none_of_threads : (door devices sessions whole readers threads all : Bool) → readers ≡ (devices || sessions) → threads ≡ (readers || not whole)
     → all ≡ (door || threads) → all ≡ false → (door ≡ false) × (devices ≡ false) × (sessions ≡ false) × (whole ≡ true)
 none_of_threads door devices sessions whole readers threads all readers_is threads_is all_is e =
@@ -47,7 +47,7 @@ none_of_threads door devices sessions whole readers threads all readers_is threa
     let each = neither devices sessions (sym readers_is ∙ inner.0) in
     (outer.0, each.0, each.1, is_true whole inner.1)
 
--- if a thread lacks something, the door's does, or a reader, or a monitor did not make all its readings
+-- if a thread was out of memory, the door's does, or a reader, or a monitor did not make all its readings
 pub some_of_threads : (door devices sessions whole readers threads all : Bool) → readers ≡ (devices || sessions) → threads ≡ (readers || not whole)
     → all ≡ (door || threads) → all ≡ true → (door ≡ true) ⊎ (devices ≡ true) ⊎ (sessions ≡ true) ⊎ (whole ≡ false)
 some_of_threads door devices sessions whole readers threads all readers_is threads_is all_is e = elim (either door threads (sym all_is ∙ e)) [
@@ -58,24 +58,24 @@ some_of_threads door devices sessions whole readers threads all readers_is threa
   ]
 ]
 
--- if the daemon lacks memory, that was seen, or neither a source failed nor has each device ended
-pub some_lacks : (no_memory read_fault ended lacks : Bool) → lacks ≡ (no_memory || (not read_fault && not ended)) → lacks ≡ true
+-- if the daemon was out of memory, that was seen, or neither a source failed nor has each device ended
+pub some_lacks : (no_memory read_fault ended is_out_of_memory : Bool) → is_out_of_memory ≡ (no_memory || (not read_fault && not ended)) → is_out_of_memory ≡ true
     → (no_memory ≡ true) ⊎ ((read_fault ≡ false) × (ended ≡ false))
-some_lacks true read_fault ended lacks is e = inl refl
-some_lacks false true ended lacks is e = absurd (cc (is, e))
-some_lacks false false true lacks is e = absurd (cc (is, e))
-some_lacks false false false lacks is e = inr (refl, refl)
+some_lacks true read_fault ended is_out_of_memory is e = inl refl
+some_lacks false true ended is_out_of_memory is e = absurd (cc (is, e))
+some_lacks false false true is_out_of_memory is e = absurd (cc (is, e))
+some_lacks false false false is_out_of_memory is e = inr (refl, refl)
 
-pub none_lost : (ends : List (Option DeviceEnd)) → list_any is_lost ends ≡ false → All IsNotLost ends
+pub none_lost : (ends : List (Option DeviceEnd)) → list_any lost_out_of_memory ends ≡ false → All IsNotLostOutOfMemory ends
 none_lost [] none k d there lost = absurd (omega arith)
 none_lost (end ∷ ends) none zero d there lost =
-    let so : is_lost end ≡ true = ap is_lost lost in
-    let not : is_lost end ≡ false = (neither (is_lost end) (list_any is_lost ends) none).0 in
+    let so : lost_out_of_memory end ≡ true = ap lost_out_of_memory lost in
+    let not : lost_out_of_memory end ≡ false = (neither (lost_out_of_memory end) (list_any lost_out_of_memory ends) none).0 in
     absurd (cc (so, not))
 none_lost (end ∷ ends) none (suc k) d there lost =
-    none_lost ends (neither (is_lost end) (list_any is_lost ends) none).1 k d (omega arith) lost
+    none_lost ends (neither (lost_out_of_memory end) (list_any lost_out_of_memory ends) none).1 k d (omega arith) lost
 
-lost_by : (end : Option DeviceEnd) → is_lost end ≡ true → end ≡ Some LostNoMemory
+lost_by : (end : Option DeviceEnd) → lost_out_of_memory end ≡ true → end ≡ Some LostNoMemory
 lost_by None lost = absurd (cc)
 lost_by (Some Ended) lost = absurd (cc)
 lost_by (Some ReadFault) lost = absurd (cc)
@@ -88,44 +88,44 @@ closing_at (one ∷ sessions) zero a there = refl
 closing_at (one ∷ sessions) (suc k) a there = closing_at sessions k a (omega arith)
 
 -- no session before this number was closed because it was out of memory
-abbrev pub NoneCut : ℕ → List MemberView → Type 0
-NoneCut n sessions = (k : ℕ) (a : MemberView) → k < n → k < length sessions → IsNotCut (get_or sessions k a).session.closing
+abbrev pub NoneClosedOutOfMemory : ℕ → List MemberView → Type 0
+NoneClosedOutOfMemory n sessions = (k : ℕ) (a : MemberView) → k < n → k < length sessions → IsNotClosedOutOfMemory (get_or sessions k a).session.closing
 
-pub none_before : (sessions : List MemberView) → NoneCut 0 sessions
+pub none_before : (sessions : List MemberView) → NoneClosedOutOfMemory 0 sessions
 none_before sessions k a before there = absurd (omega arith)
 
 not_cut : (sessions : List MemberView) (k : ℕ) (a : MemberView) → k < length sessions
-    → is_cut (option_and_then (λ (one : MemberView). one.session.closing) (slice_get sessions k)) ≡ false → IsNotCut (get_or sessions k a).session.closing
+    → closed_out_of_memory (option_and_then (λ (one : MemberView). one.session.closing) (slice_get sessions k)) ≡ false → IsNotClosedOutOfMemory (get_or sessions k a).session.closing
 not_cut sessions k a there none place cut =
-    let so : is_cut (get_or sessions k a).session.closing ≡ true = ap is_cut cut in
-    let not : is_cut (get_or sessions k a).session.closing ≡ false = ap is_cut (sym (closing_at sessions k a there)) ∙ none in
+    let so : closed_out_of_memory (get_or sessions k a).session.closing ≡ true = ap closed_out_of_memory cut in
+    let not : closed_out_of_memory (get_or sessions k a).session.closing ≡ false = ap closed_out_of_memory (sym (closing_at sessions k a there)) ∙ none in
     absurd (cc (so, not))
 
 -- a session more
-pub none_more : (sessions : List MemberView) (n : ℕ) → NoneCut n sessions
-    → is_cut (option_and_then (λ (one : MemberView). one.session.closing) (slice_get sessions n)) ≡ false → NoneCut (n + 1) sessions
+pub none_more : (sessions : List MemberView) (n : ℕ) → NoneClosedOutOfMemory n sessions
+    → closed_out_of_memory (option_and_then (λ (one : MemberView). one.session.closing) (slice_get sessions n)) ≡ false → NoneClosedOutOfMemory (n + 1) sessions
 none_more sessions n before none k a within there =
     elim (cases_lt k n) [
       | inl less ↦ before k a less there
       | inr more ↦
           let same : k ≡ n = omega (arith, within, more) in
-          not_cut sessions k a there (subst (λ m. is_cut (option_and_then (λ (one : MemberView). one.session.closing) (slice_get sessions m)) ≡ false) (sym same) none)
+          not_cut sessions k a there (subst (λ m. closed_out_of_memory (option_and_then (λ (one : MemberView). one.session.closing) (slice_get sessions m)) ≡ false) (sym same) none)
     ]
 
--- the session of this number was cut
-pub cut_at : (sessions : List MemberView) (n : ℕ) → is_cut (option_and_then (λ (one : MemberView). one.session.closing) (slice_get sessions n)) ≡ true
-    → AnyOf WasCut sessions
+-- the session of this number was closed for it
+pub cut_at : (sessions : List MemberView) (n : ℕ) → closed_out_of_memory (option_and_then (λ (one : MemberView). one.session.closing) (slice_get sessions n)) ≡ true
+    → AnyOf WasClosedOutOfMemory sessions
 cut_at [] n cut = absurd (cc)
 cut_at (one ∷ sessions) zero cut = inl cut
 cut_at (one ∷ sessions) (suc n) cut = inr (cut_at sessions n cut)
 
 -- a device was lost for it
 pub lost_by_memory : {S R : Type 0} (devices : List (DeviceDone S R)) (ends : List (Option DeviceEnd)) → map (λ (d : DeviceDone S R). d.end) devices ≡ ends
-    → list_any is_lost ends ≡ true → AnyOf WasLostOutOfMemory devices
+    → list_any lost_out_of_memory ends ≡ true → AnyOf WasLostOutOfMemory devices
 lost_by_memory [] [] are lost = absurd (cc)
 lost_by_memory [] (end ∷ ends) are lost = absurd (cc)
 lost_by_memory (device ∷ devices) [] are lost = absurd (cc)
-lost_by_memory (device ∷ devices) (end ∷ ends) are lost = elim (either (is_lost end) (list_any is_lost ends) lost) [
+lost_by_memory (device ∷ devices) (end ∷ ends) are lost = elim (either (lost_out_of_memory end) (list_any lost_out_of_memory ends) lost) [
   | inl this ↦ inl (
       let here : device.end ≡ end = cc are in
       here ∙ lost_by end this
@@ -134,5 +134,5 @@ lost_by_memory (device ∷ devices) (end ∷ ends) are lost = elim (either (is_l
 ]
 
 -- all of them
-pub none_cut : (sessions : List MemberView) (n : ℕ) → length sessions ≤ n → NoneCut n sessions → All (λ (a : MemberView). IsNotCut a.session.closing) sessions
+pub none_cut : (sessions : List MemberView) (n : ℕ) → length sessions ≤ n → NoneClosedOutOfMemory n sessions → All (λ (a : MemberView). IsNotClosedOutOfMemory a.session.closing) sessions
 none_cut sessions n all none k a there = none k a (omega (arith, all, there)) there

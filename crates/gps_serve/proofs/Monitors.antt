@@ -20,13 +20,13 @@ use Rattle.shm_segment.specs.declared.view.Numbered.{Numbered}
 use Rattle.shm_segment.specs.Seats.{SegmentId}
 use Rattle.gps_serve.specs.Lost.{MissesSample}
 use Rattle.gps_serve.specs.Served.{MonitorServed, watched_units}
-use Rattle.gps_serve.specs.Readies.{IsLeftOfWatch, IsNextMonitor, MonitorReady, MonitorsSoFar}
+use Rattle.gps_serve.specs.Readies.{IsLeftOfWatch, MonitorReady, MonitorsSoFar}
 use Rattle.gps_serve.specs.Statuses.{EachWhole}
 use Rattle.gps_serve.specs.Works.{WatchedBy, monitored}
 use Rattle.gps_serve.proofs.Devices.{zip_length}
 use Rattle.gps_serve.proofs.Lost.{one_false}
 use Rattle.gps_serve.proofs.Sessions.{range_more}
-use Rattle.gps_serve.proofs.Zips.{zip_more}
+use Rattle.serve_threads.proofs.Zips.{zip_more}
 
 at : {X : Type 0} (gone rest : List X) (x free : X) → get_or (gone ++ x ∷ rest) (length gone) free ≡ x
 at [] rest x free = refl
@@ -46,15 +46,15 @@ front_whole w watched e = first_true w.whole (list_all (λ (d : ReadingsDone). d
 rest_whole : (w : ReadingsDone) (watched : List ReadingsDone) → EachWhole (w ∷ watched) → EachWhole watched
 rest_whole w watched e = second_true w.whole (list_all (λ (d : ReadingsDone). d.whole) watched) e
 
-ready_of : (tries : ℕ) (no_memory : Bool) (units : List UnitView) (watchers : List MonitorStart) (watched : List ReadingsDone)
-    → segments_of watchers ≡ map segment_of units → AllZip (WatchedBy tries) watchers watched → (no_memory ≡ false → EachWhole watched)
+ready_of : (tries : ℕ) (no_memory : Bool) (units : List UnitView) (monitor_starts : List MonitorStart) (watched : List ReadingsDone)
+    → segments_of monitor_starts ≡ map segment_of units → AllZip (WatchedBy tries) monitor_starts watched → (no_memory ≡ false → EachWhole watched)
     → AllZip (MonitorReady tries no_memory) units watched
 ready_of tries no_memory [] [] [] segments by whole = tt
 ready_of tries no_memory [] [] (w ∷ watched) segments by whole = absurd by
-ready_of tries no_memory [] (v ∷ watchers) watched segments by whole = absurd cc
+ready_of tries no_memory [] (v ∷ monitor_starts) watched segments by whole = absurd cc
 ready_of tries no_memory (u ∷ units) [] watched segments by whole = absurd cc
-ready_of tries no_memory (u ∷ units) (v ∷ watchers) [] segments by whole = absurd by
-ready_of tries no_memory (u ∷ units) (v ∷ watchers) (w ∷ watched) segments by whole =
+ready_of tries no_memory (u ∷ units) (v ∷ monitor_starts) [] segments by whole = absurd by
+ready_of tries no_memory (u ∷ units) (v ∷ monitor_starts) (w ∷ watched) segments by whole =
     let here : arc_value v.segment ≡ segment_of u = cc segments in
     let same : arc_value w.segment ≡ segment_of u = ap arc_value by.0.segment ∙ here in (
       record {
@@ -62,7 +62,7 @@ ready_of tries no_memory (u ∷ units) (v ∷ watchers) (w ∷ watched) segments
         watched = subst (λ (s : SegmentId). MonitorRan s tries w.whole w.monitor w.taken.items) same by.0.watched;
         whole = λ (e : no_memory ≡ false). front_whole w watched (whole e);
       },
-      ready_of tries no_memory units watchers watched (cc segments) by.1 (λ (e : no_memory ≡ false). rest_whole w watched (whole e)),
+      ready_of tries no_memory units monitor_starts watched (cc segments) by.1 (λ (e : no_memory ≡ false). rest_whole w watched (whole e)),
     )
 
 segments_if : (none : Bool) (units : List UnitView) → (if none then [] else map segment_of units) ≡ map segment_of (if none then [] else units)
@@ -72,11 +72,11 @@ segments_if false units = refl
 units_if : (tries : ℕ) (units : List UnitView) → monitored tries (map segment_of units) ≡ map segment_of (watched_units tries units)
 units_if tries units = segments_if (tries == 0) units
 
-pub monitors_ready : (tries : ℕ) (no_memory : Bool) (units : List UnitView) (watchers : List MonitorStart) (watched : List ReadingsDone)
-    → segments_of watchers ≡ monitored tries (map segment_of units) → AllZip (WatchedBy tries) watchers watched → (no_memory ≡ false → EachWhole watched)
+pub monitors_ready : (tries : ℕ) (no_memory : Bool) (units : List UnitView) (monitor_starts : List MonitorStart) (watched : List ReadingsDone)
+    → segments_of monitor_starts ≡ monitored tries (map segment_of units) → AllZip (WatchedBy tries) monitor_starts watched → (no_memory ≡ false → EachWhole watched)
     → AllZip (MonitorReady tries no_memory) (watched_units tries units) watched
-monitors_ready tries no_memory units watchers watched segments by whole =
-    ready_of tries no_memory (watched_units tries units) watchers watched (segments ∙ units_if tries units) by whole
+monitors_ready tries no_memory units monitor_starts watched segments by whole =
+    ready_of tries no_memory (watched_units tries units) monitor_starts watched (segments ∙ units_if tries units) by whole
 
 pub monitor_served : (tries : ℕ) (no_memory : Bool) (u : UnitView) (watch : ReadingsDone) (done : MonitorDone) → MonitorReady tries no_memory u watch
     → done.taken ≡ watch.taken → Confirms u watch.monitor done.monitor done.taken.items → MonitorServed tries no_memory u done
@@ -101,6 +101,11 @@ monitors_begin tries no_memory units watched watched' done ready same none = rec
   served = subst (AllZip (MonitorServed tries no_memory) []) (sym none) tt;
   ready = subst (AllZip (MonitorReady tries no_memory) units) (sym same) ready;
 }
+
+-- the next of the monitors that are left
+pub record IsNextMonitor (tries : ℕ) (no_memory : Bool) (units : List UnitView) (unit : ℕ) (watch : ReadingsDone) : Type 0 where
+  pub there : unit < length units
+  pub ready : (free : UnitView) → MonitorReady tries no_memory (get_or units unit free) watch
 
 next_of : (tries : ℕ) (no_memory : Bool) (gone rest : List UnitView) (units : List UnitView) (watch : ReadingsDone) (watched : List ReadingsDone) (unit : ℕ)
     → units ≡ gone ++ rest → length gone ≡ unit → AllZip (MonitorReady tries no_memory) rest (watch ∷ watched) → IsNextMonitor tries no_memory units unit watch
@@ -169,15 +174,15 @@ misses_sample segment tries watch done ran left none =
     (subst (λ (l : List Numbered). length watch.taken.items < length (each_once l)) (sym left.taken) (ran.missing none))
 
 -- if a monitor did not make all its readings, one lacks a sample
-pub some_misses : (tries : ℕ) (watchers : List MonitorStart) (watched : List ReadingsDone) (done : List MonitorDone) → AllZip (WatchedBy tries) watchers watched
+pub some_misses : (tries : ℕ) (monitor_starts : List MonitorStart) (watched : List ReadingsDone) (done : List MonitorDone) → AllZip (WatchedBy tries) monitor_starts watched
     → AllZip IsLeftOfWatch watched done → list_all (λ (watch : ReadingsDone). watch.whole) watched ≡ false → AnyOf MissesSample done
-some_misses tries watchers [] done by left none = absurd (cc)
+some_misses tries monitor_starts [] done by left none = absurd (cc)
 some_misses tries [] (watch ∷ watched) done by left none = absurd by
-some_misses tries (start ∷ watchers) (watch ∷ watched) [] by left none = absurd left
-some_misses tries (start ∷ watchers) (watch ∷ watched) (monitor ∷ done) by left none =
+some_misses tries (start ∷ monitor_starts) (watch ∷ watched) [] by left none = absurd left
+some_misses tries (start ∷ monitor_starts) (watch ∷ watched) (monitor ∷ done) by left none =
     elim (one_false watch.whole (list_all (λ (w : ReadingsDone). w.whole) watched) none) [
       | inl this ↦ inl (misses_sample (arc_value watch.segment) tries watch monitor by.0.watched left.0 this)
-      | inr later ↦ inr (some_misses tries watchers watched done by.1 left.1 later)
+      | inr later ↦ inr (some_misses tries monitor_starts watched done by.1 left.1 later)
     ]
 
 -- the unit's monitor reads its segment

@@ -10,7 +10,7 @@ use Rattle.hub_promise.specs.declared.ends.DeviceEnd.{DeviceEnd}
 use Rattle.hub_promise.proofs.Sessions.{cause_on}
 use Rattle.hub_promise.specs.DaemonHub.{DaemonHub, DaemonHubOver, SessionFits}
 use Rattle.hub_promise.specs.Keeping.{IsClosed}
-use Rattle.hub_promise.specs.Parts.{InletsView}
+use Rattle.hub_promise.specs.Parts.{InletsView, devices_of}
 use Rattle.report_book.specs.BookView.{BookView}
 use Rattle.serve_end_parts.specs.declared.done.SessionDone.{SessionDone}
 use Rattle.serve_pieces.specs.Carried.{input_bytes, input_part}
@@ -56,19 +56,18 @@ module _ {S K R : Type 0} (sources : SourceFacts S) where
 
   pub hub_returned : (b : BookView) (inlets : List InletsView) (ends : List (Option DeviceEnd)) (inputs : List (Taking Piece)) (done : Bool) (wait : ℕ) (sessions : List (SessionDone S K R))
       → All IsClosed b.sessions → AllZip (InputLeft sources) inputs sessions
-      → DaemonHub (record { book = b; inlets = inlets; ends = ends; inputs = inputs; done = done; wait = wait })
-      → DaemonHub (record { book = b; inlets = inlets; ends = ends; inputs = map (λ (s : SessionDone S K R). s.input_rx) sessions; done = done; wait = wait })
+      → DaemonHub (record { book = b; devices = devices_of inlets ends; inputs = inputs; done = done; wait = wait })
+      → DaemonHub (record { book = b; devices = devices_of inlets ends; inputs = map (λ (s : SessionDone S K R). s.input_rx) sessions; done = done; wait = wait })
   hub_returned b inlets ends inputs done wait sessions closed left hub = (
     hub.0,
     record {
-      stands = hub.1.stands;
-      count = hub.1.count;
-      ends_count = hub.1.ends_count;
+      opening = hub.1.opening;
       devices = hub.1.devices;
       sessions = all_fit b.names hub.0 b.log.log b.sessions inputs sessions closed left hub.1.sessions;
       units = hub.1.units;
-      gate = hub.1.gate;
+      waits = hub.1.waits;
     },
+    hub.2,
   )
 
   pub all_read : (inputs : List (Taking Piece)) (done : List (SessionDone S K R)) → AllZip (InputLeft sources) inputs done → All (λ (s : SessionDone S K R). InputServed sources s) done

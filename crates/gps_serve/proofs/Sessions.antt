@@ -5,7 +5,6 @@ use Rattle.std.proofs.lemmas.List.FromFn.{map-range_with_len_more}
 use Rattle.std.specs.List.{AllZip, range_with_len}
 use Rattle.book_sessions.specs.MemberView.{MemberView}
 use Rattle.gps_lane.specs.Ends.{Putting, Taking}
-use Rattle.gps_lane.specs.Lane.{BeginsWith}
 use Rattle.gps_outside.specs.Told.{Goes}
 use Rattle.hub_door.specs.Admissions.{Admissions, SessionLanes}
 use Rattle.hub_promise.specs.Parts.{AreAdmitted}
@@ -23,13 +22,13 @@ use Rattle.serve_threads.specs.declared.session.LinkDone.{LinkDone}
 use Rattle.serve_threads.specs.Sessions.{SessionRuns, Wrote}
 use Rattle.serve_workers.specs.Readings.{HandsOn, IsInputPiece, WasRead}
 use Rattle.serve_workers.specs.Writing.{Writes}
-use Rattle.session_core.specs.Naming.{of_table}
+use Rattle.session_core.specs.Naming.{table_of}
 use Rattle.gps_serve.specs.Facts.{SinkFacts}
-use Rattle.gps_serve.specs.Served.{OutletServed}
-use Rattle.gps_serve.specs.Doors.{DoorNow, EachLink, IsNewLink, IsUnused, Tended, Way, lanes_of}
-use Rattle.gps_serve.specs.Readies.{AllServed, AreReady, InputLeft, IsNext, SessionReady, SessionsSoFar}
+use Rattle.gps_serve.specs.Served.{IsOneLane, OutletServed}
+use Rattle.serve_door.specs.Doors.{DoorNow, EachLink, IsNewLink, IsUnused, Tended, Way, lanes_of}
+use Rattle.gps_serve.specs.Readies.{AllServed, AreReady, InputLeft, SessionReady, SessionsSoFar}
 use Rattle.serve_end_settling.specs.Runs.{SourceFacts}
-use Rattle.gps_serve.proofs.Zips.{zip_more}
+use Rattle.serve_threads.proofs.Zips.{zip_more}
 
 module _ {S K R : Type 0} (sources : SourceFacts S) (sinks : SinkFacts K) where
   abbrev pub New : SessionLink S K R → Type 0
@@ -39,7 +38,7 @@ module _ {S K R : Type 0} (sources : SourceFacts S) (sinks : SinkFacts K) where
   Runs link run = SessionRuns sources.content sources.faults sources.quiets sinks.written sinks.faults link run
 
   all_ready : (queue : ℕ) (links : List (SessionLink S K R)) (sessions : List MemberView) (inputs : List (Taking Piece)) (runs : List (LinkDone S K R))
-      → map (λ (a : MemberView). a.session.name) sessions ≡ map (λ (l : SessionLanes). of_table l.outlet) (map (lanes_of queue) links)
+      → map (λ (a : MemberView). table_of a.session.name) sessions ≡ map (λ (l : SessionLanes). Some l.outlet) (map (lanes_of queue) links)
       → map (λ (x : Taking Piece). x.lane) inputs ≡ map (λ (l : SessionLanes). l.input) (map (lanes_of queue) links)
       → EachLink IsUnused links → EachLink New links → AllZip Runs links runs → AreReady sources sinks sessions inputs runs
   all_ready queue [] [] [] [] names lanes unused new ran = tt
@@ -59,7 +58,7 @@ module _ {S K R : Type 0} (sources : SourceFacts S) (sinks : SinkFacts K) where
   sessions_ready queue told now seat sessions inputs runs tended admitted =
       let same = tended.seated.lanes in
       all_ready queue tended.links sessions inputs runs
-      (admitted.outlets ∙ ap (map (λ (l : SessionLanes). of_table l.outlet)) (sym same))
+      (admitted.outlets ∙ ap (map (λ (l : SessionLanes). Some l.outlet)) (sym same))
       (admitted.inputs_are ∙ ap (map (λ (l : SessionLanes). l.input)) (sym same))
       tended.seated.unused tended.seated.each tended.ran
 
@@ -67,8 +66,8 @@ module _ {S K R : Type 0} (sources : SourceFacts S) (sinks : SinkFacts K) where
   pub input_lane : (a : MemberView) (x : Taking Piece) (run : LinkDone S K R) → SessionReady sources sinks a x run → x.lane ≡ run.reader.pieces.lane
   input_lane a x run ready = ready.input ∙ sym (ap (λ (tx : Putting Piece). tx.lane) ready.ran.reads.lane)
 
-  pub outlet_name : (a : MemberView) (x : Taking Piece) (run : LinkDone S K R) → SessionReady sources sinks a x run → of_table run.writer.items.lane ≡ a.session.name
-  outlet_name a x run ready = ap (λ (rx : Taking (List ℕ)). of_table rx.lane) ready.ran.wrote.lane ∙ ready.outlet
+  pub outlet_name : (a : MemberView) (x : Taking Piece) (run : LinkDone S K R) → SessionReady sources sinks a x run → Some run.writer.items.lane ≡ table_of a.session.name
+  outlet_name a x run ready = ap (λ (rx : Taking (List ℕ)). Some rx.lane) ready.ran.wrote.lane ∙ ready.outlet
 
   pub input_served : (a : MemberView) (x : Taking Piece) (run : LinkDone S K R) (done : SessionDone S K R) → SessionReady sources sinks a x run
       → done.source ≡ run.reader.source → done.input_tx ≡ run.reader.pieces → Settles run.reader.pieces x done.input_rx → InputLeft sources x done
@@ -79,16 +78,17 @@ module _ {S K R : Type 0} (sources : SourceFacts S) (sinks : SinkFacts K) where
       ready.unused.1 ready.ran.reads.hands in
       record {
         served = record {
-          first = link.source;
-          unread = ready.unread;
-          ending = run.reader.ending;
-          hands = subst (λ (s : S). HandsOn input_part IsInputPiece run.reader.ending [] done.input_tx.put (sources.content link.source) (sources.content s)) (sym source)
-              (subst (λ (t : Putting Piece). HandsOn input_part IsInputPiece run.reader.ending [] t.put (sources.content link.source) (sources.content run.reader.source)) (sym tx) hands);
-          failed = subst (λ (s : S). run.reader.ending ≡ Some Failed → 0 < sources.faults s) (sym source)
-              (λ (e : run.reader.ending ≡ Some Failed). let rose = ready.ran.reads.meets.rose (ready.ran.reads.meets.said e) in omega (arith, rose));
+          reader = record {
+            first = link.source;
+            unread = ready.unread;
+            ending = run.reader.ending;
+            hands = subst (λ (s : S). HandsOn input_part IsInputPiece run.reader.ending [] done.input_tx.put (sources.content link.source) (sources.content s)) (sym source)
+                (subst (λ (t : Putting Piece). HandsOn input_part IsInputPiece run.reader.ending [] t.put (sources.content link.source) (sources.content run.reader.source)) (sym tx) hands);
+            failed = subst (λ (s : S). run.reader.ending ≡ Some Failed → 0 < sources.faults s) (sym source)
+                (λ (e : run.reader.ending ≡ Some Failed). let rose = ready.ran.reads.meets.rose (ready.ran.reads.meets.said e) in omega (arith, rose));
+          };
+          lane = subst (λ (t : Putting Piece). IsOneLane t done.input_rx) (sym tx) (record { one = settles.one; begins = settles.begins });
           read = subst (λ (s : S). Goes (WasRead (sources.faults s) (sources.quiets s)) (sources.content link.source) (sources.content s)) (sym source) ready.ran.read;
-          one = subst (λ (t : Putting Piece). done.input_rx.lane ≡ t.lane) (sym tx) settles.one;
-          begins = subst (λ (t : Putting Piece). BeginsWith done.input_rx.got t.put) (sym tx) settles.begins;
         };
         settled = settles.behind (sessions_tell_last run.reader.ending [] run.reader.pieces.put (sources.content link.source) (sources.content run.reader.source) hands refl);
       }
@@ -103,7 +103,7 @@ module _ {S K R : Type 0} (sources : SourceFacts S) (sinks : SinkFacts K) where
       record {
         first = link.sink;
         unwritten = ready.unwritten;
-        outlet = ap of_table empties.lane ∙ outlet_name a x run ready;
+        outlet = ap Some empties.lane ∙ outlet_name a x run ready;
         begins = empties.begins;
         all = λ (e : done.end ≡ Drained). empties.all (ap writer_end e);
         writes = subst (λ got. Writes (writer_end done.end) got done.items_rx.got (sinks.written link.sink) (sinks.written done.sink)) ready.unused.0 w.writes;
@@ -148,6 +148,11 @@ map_same (x ∷ xs) = ap (λ l. x ∷ l) (map_same xs)
 pub range_more : (n : ℕ) → range_with_len 0 (n + 1) ≡ range_with_len 0 n ++ n ∷ []
 range_more n =
     sym (map_same (range_with_len 0 (n + 1))) ∙ map-range_with_len_more (λ (m : ℕ). m) 0 n n (omega arith) ∙ ap (λ l. l ++ n ∷ []) (map_same (range_with_len 0 n))
+
+-- the next of the sessions that are left
+pub record IsNext {S K R : Type 0} (sources : SourceFacts S) (sinks : SinkFacts K) (sessions : List MemberView) (number : ℕ) (x : Taking Piece) (run : LinkDone S K R) : Type 0 where
+  pub there : number < length sessions
+  pub ready : (free : MemberView) → SessionReady sources sinks (get_or sessions number free) x run
 
 module _ {S K R : Type 0} (sources : SourceFacts S) (sinks : SinkFacts K) where
   same_lengths : (sessions : List MemberView) (inputs : List (Taking Piece)) (runs : List (LinkDone S K R)) → AreReady sources sinks sessions inputs runs

@@ -1,5 +1,5 @@
 -- What is so before anything came.
-use Rattle.std.proofs.Common.{◌≡◌, ℕ, ◌<◌, ◌≤◌, ◌*◌, zero, suc, List, [], ◌∷◌, ◌++◌, length, take, get_or, slice_index_or, Option, Some, None, refl, sym, ◌∙◌, ap, subst, append_assoc, arith}
+use Rattle.std.proofs.Common.{◌≡◌, ℕ, ◌<◌, ◌≤◌, ◌*◌, zero, suc, List, [], ◌∷◌, ◌++◌, length, take, get_or, slice_index_or, unwrap_or, Option, Some, None, refl, sym, ◌∙◌, ap, subst, append_assoc, arith}
 use Rattle.std.proofs.lemmas.List.{append-nil, length-take, map-append}
 use Rattle.std.specs.List.{All, AllZip}
 use Rattle.gps_lane.specs.Ends.{Taking}
@@ -13,11 +13,13 @@ use Rattle.hub_promise.specs.Parts.{InletsView}
 use Rattle.hub_promise.proofs.Beginning.{unused as unused_new}
 use Rattle.gps_outside.specs.Told.{Stream}
 use Rattle.std.specs.Option.{option_to_list}
+use Rattle.serve_workers.specs.Sourced.{held_in}
 use Rattle.world_opening.specs.Opening.{AreUnread, sources_in}
 use Rattle.serve_end_settling.specs.Runs.{SourceFacts}
 use Rattle.gps_serve.specs.declared.starts.DeviceStart.{DeviceStart}
 use Rattle.gps_serve.specs.declared.starts.EdgeStart.{EdgeStart}
-use Rattle.gps_serve.specs.Starts.{IsFreshDevice, IsFreshEdge, edge_source_of, edges_at, sources_at}
+use Rattle.gps_serve.specs.Starts.{AreTold, EachTold, EdgesTold, IsFreshDevice, IsFreshEdge, edge_source_of, edges_at, sources_at}
+use Rattle.session_core.specs.declared.subject.Subject.{Subject}
 
 pub unused : {names : List (List ℕ)} {limit : ℕ} {firsts : List ℕ} {b : BookView} → IsNewBook names limit firsts b → IsUnused b
 unused {names} {limit} {firsts} {b} new = unused_new names limit firsts b new
@@ -40,6 +42,24 @@ nothing_at facts (start ∷ starts) (x ∷ inlets) (suc k) d fresh there = nothi
 
 pub nothing_got : {S R : Type 0} (facts : SourceFacts S) (starts : List (DeviceStart S R)) (inlets : List InletsView) → AllZip (IsFreshDevice facts) starts inlets → All NothingGot inlets
 nothing_got {S} {R} facts starts inlets fresh k d there = nothing_at facts starts inlets k d fresh there
+
+-- the lanes of fresh devices are about what their sources hold
+edge_told : {S R : Type 0} (facts : SourceFacts S) (start : Option (EdgeStart S R)) (rx : Option (Taking Piece)) → IsFreshEdge facts start rx → EdgesTold facts.content start
+edge_told facts None rx fresh edge is = absurd (cc is)
+edge_told facts (Some start) None fresh edge is = absurd fresh
+edge_told {S} {R} facts (Some start) (Some rx) fresh edge is =
+    subst (λ (e : EdgeStart S R). e.lines.about.source ≡ held_in (facts.content e.source)) (ap (λ (o : Option (EdgeStart S R)). unwrap_or o start) is)
+    (ap (λ (t : Subject). t.source) fresh.0.about_is)
+
+told_at : {S R : Type 0} (facts : SourceFacts S) (starts : List (DeviceStart S R)) (inlets : List InletsView) (k : ℕ) (d : DeviceStart S R) → AllZip (IsFreshDevice facts) starts inlets
+    → k < length starts → AreTold facts.content (slice_index_or starts k d)
+told_at facts [] inlets k d fresh there = absurd (omega arith)
+told_at facts (start ∷ starts) [] k d fresh there = absurd fresh
+told_at facts (start ∷ starts) (x ∷ inlets) zero d fresh there = (ap (λ (t : Subject). t.source) fresh.0.bytes.about_is, edge_told facts start.edges x.edges fresh.0.edges)
+told_at facts (start ∷ starts) (x ∷ inlets) (suc k) d fresh there = told_at facts starts inlets k d fresh.1 (omega arith)
+
+pub each_told : {S R : Type 0} (facts : SourceFacts S) (starts : List (DeviceStart S R)) (inlets : List InletsView) → AllZip (IsFreshDevice facts) starts inlets → EachTold facts.content starts
+each_told facts starts inlets fresh k d there = told_at facts starts inlets k d fresh there
 
 zip_length : {A B : Type 0} (P : A → B → Type 0) (xs : List A) (ys : List B) → AllZip P xs ys → length ys ≡ length xs
 zip_length P [] [] zip = refl

@@ -35,9 +35,10 @@ use Rattle.serve_workers.specs.Readings.{HandsOn, IsDevicePiece, IsInputPiece, T
 use Rattle.serve_workers.specs.Writing.{Writes}
 use Rattle.gps_serve.specs.declared.starts.DeviceStart.{DeviceStart}
 use Rattle.gps_serve.specs.declared.starts.EdgeStart.{EdgeStart}
+use Rattle.gps_serve.specs.AtEnd.{HandedBack}
 use Rattle.gps_serve.specs.Facts.{SinkFacts}
 use Rattle.gps_serve.specs.Served.{BytesHeld, EdgesHeld, IsFirstOf, ServesLink, SourceHeld, TakesFirst}
-use Rattle.gps_serve.specs.Doors.{EachLink, IsNewLink, IsUnused, way_of}
+use Rattle.serve_door.specs.Doors.{EachLink, IsNewLink, IsUnused, way_of}
 use Rattle.gps_serve.specs.Readies.{IsLeftOfLink}
 use Rattle.gps_serve.specs.Runs.{DeviceReads, EdgesRead, IsLeftOf, RanOn, TakesBy}
 use Rattle.gps_serve.specs.Starts.{IsFreshDevice, IsFreshEdge, edge_source_of, edge_start_of, edges_at, sources_at}
@@ -143,6 +144,11 @@ module _ {S R : Type 0} (facts : SourceFacts S) where
     device_reads may start first run d fresh.0 ran.0 left.0 (whole zero d (omega arith)),
     devices_read may starts firsts runs devices fresh.1 ran.1 left.1 (λ k x there. whole (suc k) x (omega arith)),
   )
+
+  -- of the devices as they are handed back
+  pub reads_handed : {G K : Type 0} (starts : List (DeviceStart S R)) (back back' : HandedBack G S K R) → back' ≡ back → AllZip (DeviceReads facts) starts back.devices
+      → AllZip (DeviceReads facts) starts back'.devices
+  reads_handed {G} {K} starts back back' same reads = subst (λ (b : HandedBack G S K R). AllZip (DeviceReads facts) starts b.devices) (sym same) reads
 
   module _ (behind : Place → Option (List ℕ)) where
     pub bytes_held : (places : List Place) (sources : List S) (starts : List (DeviceStart S R)) (devices : List (DeviceDone S R))

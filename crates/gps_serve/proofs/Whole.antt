@@ -1,6 +1,6 @@
--- Of a device that has ended, or of which a source failed, all that was put into its lanes was got.
-use Rattle.std.proofs.Common.{◌≡◌, ◌<◌, inl, inr, ℕ, Bool, zero, suc, List, [], ◌∷◌, ◌++◌, map, length, get_or, length-append, Option, Some, None, IfSome, IsSome, refl, sym, ◌∙◌, ap, subst, append_assoc, append-nil, arith}
-use Rattle.std.specs.List.{All, AllZip, flat_map}
+-- If a device has ended, or a source of it failed, all that was put into its lanes was received.
+use Rattle.std.proofs.Common.{◌≡◌, ◌<◌, ◌+◌, inl, inr, ℕ, Bool, zero, suc, List, [], ◌∷◌, ◌++◌, map, length, get_or, length-append, Option, Some, None, IfSome, IsSome, refl, sym, ◌∙◌, ap, subst, append_assoc, append-nil, arith}
+use Rattle.std.specs.List.{All, AllZip, flat_map, range_with_len}
 use Rattle.std.specs.Option.{option_or}
 use Rattle.gps_fixed.specs.Moment.{Moment}
 use Rattle.book_log.specs.Entries.{Entry}
@@ -10,9 +10,9 @@ use Rattle.gps_outside.specs.ReadSteps.{TakesAll}
 use Rattle.gps_outside.proofs.Going.{goes_as}
 use Rattle.hub_promise.specs.declared.ends.DeviceEnd.{DeviceEnd}
 use Rattle.hub_promise.specs.declared.ends.DeviceEnd.TheVariants.{Ended, NoMemory as LostNoMemory}
-use Rattle.hub_promise.specs.DaemonHub.{DaemonHub, DeviceFits}
+use Rattle.hub_promise.specs.DaemonHub.{DeviceFits, whole_log}
 use Rattle.hub_promise.specs.Given.{edge_ending, end_by, end_of, ending_of, got_of}
-use Rattle.hub_promise.specs.Parts.{InletsView, Parts}
+use Rattle.hub_promise.specs.Parts.{InletsView, device_of, devices_of}
 use Rattle.report_book.specs.BookView.{BookView}
 use Rattle.serve_end_parts.specs.declared.done.DeviceDone.{DeviceDone}
 use Rattle.serve_pieces.specs.Carried.{device_part, input_part}
@@ -20,15 +20,15 @@ use Rattle.serve_pieces.specs.declared.piece.Ending.{Ending}
 use Rattle.serve_pieces.specs.declared.piece.Ending.TheVariants.{End, Failed, NoMemory}
 use Rattle.serve_pieces.specs.declared.piece.Piece.{Piece}
 use Rattle.serve_pieces.specs.declared.piece.Piece.TheVariants.{Bytes, Line, Input, Last}
-use Rattle.serve_end_settling.specs.Lanes.{TellsLast}
+use Rattle.serve_end_settling.specs.Lanes.{OneMoreAtMost, TellsLast, ZipOption}
 use Rattle.serve_end_settling.specs.Runs.{SourceFacts}
 use Rattle.serve_end_settling.proofs.Endings.{devices_tell_last, edges_tell_last, settled}
 use Rattle.serve_workers.specs.EdgeLines.{HandsLines, TookLines, line_pieces}
 use Rattle.serve_workers.specs.Readings.{Each, HandsOn, IsDevicePiece, IsInputPiece, Took, last_piece}
-use Rattle.gps_serve.specs.AtEnd.{AtEnd, DaemonStart, HandedBack, parts_of}
+use Rattle.gps_serve.specs.AtEnd.{AtEnd, DaemonStart, HandedBack}
 use Rattle.gps_serve.specs.Facts.{WorldFacts}
-use Rattle.gps_serve.specs.Served.{BytesServed, DeviceServed, EdgesServed, LaneServed, LinesServed}
-use Rattle.gps_serve.specs.Whole.{BytesWhole, CameWhole, EdgesWhole, IsOver, IsWhole, LeavesNone, LinesWhole}
+use Rattle.gps_serve.specs.Served.{DeviceServed, IsOneLane, ReaderServed}
+use Rattle.gps_serve.specs.Whole.{CameWhole, GotAll, IsOver, IsWhole, LeavesNone, ReaderWhole}
 
 -- both lanes of a device, as the hub left them, have told how their sources ended
 pub record TellEnds (x : InletsView) (end : Option DeviceEnd) : Type 0 where
@@ -63,18 +63,18 @@ tell_both x [] (Some bytes) None end over is bytes_are edges_are = absurd (is_th
 tell_both x [] (Some bytes) (Some edges) end over is bytes_are edges_are =
     record { bytes_ending = bytes; edges_ending = edges; bytes = bytes_are refl; edges = edges_are refl; end_is = is }
 
-pub tell_ends : (log : List Entry) (d : ℕ) (x : InletsView) (end : Option DeviceEnd) → DeviceFits log d x end → IsOver end → TellEnds x end
+pub tell_ends : (log : List Entry) (d : ℕ) (x : InletsView) (end : Option DeviceEnd) → DeviceFits log d (device_of x end) → IsOver end → TellEnds x end
 tell_ends log d x end fits over =
     tell_both x (fits.refused ++ fits.refused_lines) (ending_of fits.taken) (edge_ending x.edges fits.lines) end over fits.ends
     (λ none. ap ending_of (fits.lane ∙ ap (λ (l : List Piece). fits.taken ++ l) (none_of_both fits.refused fits.refused_lines none).0 ∙ append-nil fits.taken))
     (λ none. ap (edge_ending x.edges) (fits.edge_lane ∙ ap (λ (l : List Piece). fits.lines ++ l) (none_of_both fits.refused fits.refused_lines none).1 ∙ append-nil fits.lines))
 
--- behind the last piece nothing was put that was not got
+-- after the last piece nothing was put that was not got
 all_got : (tx : Putting Piece) (got rest : List Piece) (ending : Ending) → TellsLast tx.put → tx.put ≡ got ++ rest → ending_of got ≡ Some ending → got ≡ tx.put
 all_got tx got [] ending last is told = sym (is ∙ append-nil got)
 all_got tx got (piece ∷ rest) ending last is told =
-    let rx : Taking Piece = record { lane = tx.lane; got = got } in
-    let rx' : Taking Piece = record { lane = tx.lane; got = got ++ piece ∷ [] } in
+    let rx : Taking Piece = record { lane = tx.lane; about = tx.about; got = got } in
+    let rx' : Taking Piece = record { lane = tx.lane; about = tx.about; got = got ++ piece ∷ [] } in
     let more = settled tx tx rx rx' (Some piece) refl refl refl (rest, is ∙ sym (append_assoc got (piece ∷ []) rest)) tt in
     elim (more.behind last) [
       | inl same ↦
@@ -85,11 +85,11 @@ all_got tx got (piece ∷ rest) ending last is told =
     ]
 
 -- a lane that had told how its source ended
-lane_whole : (x : Taking Piece) (tx : Putting Piece) (rx : Taking Piece) (ending : Ending) → LaneServed x tx rx → TellsLast tx.put → ending_of x.got ≡ Some ending
-    → (rx.got ≡ tx.put) × (ending_of tx.put ≡ Some ending)
-lane_whole x tx rx ending served last told = elim served.settled [
+lane_whole : (x : Taking Piece) (tx : Putting Piece) (rx : Taking Piece) (ending : Ending) → IsOneLane tx rx → OneMoreAtMost x rx → TellsLast tx.put
+    → ending_of x.got ≡ Some ending → (rx.got ≡ tx.put) × (ending_of tx.put ≡ Some ending)
+lane_whole x tx rx ending lane settled last told = elim settled [
   | inl same ↦
-      let all : rx.got ≡ tx.put = all_got tx rx.got served.begins.0 ending last served.begins.1 (ap ending_of same ∙ told) in
+      let all : rx.got ≡ tx.put = all_got tx rx.got lane.begins.0 ending last lane.begins.1 (ap ending_of same ∙ told) in
       (all, ap ending_of (sym all ∙ same) ∙ told)
   | inr one ↦ absurd (cc (one.2, told))
 ]
@@ -144,95 +144,103 @@ took_no_line Failed bytes before after took e = absurd (cc)
 took_no_line NoMemory bytes before after took e = absurd (cc)
 
 module _ {S : Type 0} (facts : SourceFacts S) where
-  bytes_whole : (may : Option (List Moment)) (x : Taking Piece) (tx : Putting Piece) (rx : Taking Piece) (source : S) (ending : Ending)
-      → BytesServed may facts x tx rx source → ending_of x.got ≡ Some ending → BytesWhole may facts ending tx rx source
-  bytes_whole may x tx rx source ending served told =
+  -- a reader whose lane tells how its source ended
+  reader_whole : (Hands : Option Ending → List Piece → List Piece → Option Stream → Option Stream → Type 0) (tx : Putting Piece) (source : S) (ending : Ending)
+      → ((e : Option Ending) (before after : Option Stream) → Hands e [] tx.put before after → ending_of tx.put ≡ e)
+      → ((before after : Option Stream) → Hands (Some ending) [] tx.put before after → ending ≡ End → Goes LeavesNone before after)
+      → ReaderServed Hands facts tx source → ending_of tx.put ≡ Some ending → ReaderWhole Hands facts ending tx source
+  reader_whole Hands tx source ending tells leaves served told =
       let before = facts.content served.first in
       let after = facts.content source in
-      let lane = lane_whole x tx rx ending served.lane (devices_tell_last may served.ending [] tx.put before after served.hands refl) told in
-      let is : served.ending ≡ Some ending = sym (bytes_told may served.ending [] tx.put before after served.hands refl) ∙ lane.1 in
-      let so : HandsOn device_part (IsDevicePiece may) (Some ending) [] tx.put before after =
-      subst (λ (e : Option Ending). HandsOn device_part (IsDevicePiece may) e [] tx.put before after) is served.hands in
-      let hands : HandsOn device_part (IsDevicePiece may) (Some ending) [] rx.got before after =
-      subst (λ (put : List Piece). HandsOn device_part (IsDevicePiece may) (Some ending) [] put before after) (sym lane.0) so in
-      record {
-        got = lane.0;
-        first = served.first;
-        unread = served.unread;
-        hands = hands;
-        none_left = took_none ending (flat_map device_part hands.pieces) before after hands.took;
-      }
+      let is : served.ending ≡ Some ending = sym (tells served.ending before after served.hands) ∙ told in
+      let hands : Hands (Some ending) [] tx.put before after = subst (λ (e : Option Ending). Hands e [] tx.put before after) is served.hands in
+      record { first = served.first; unread = served.unread; hands = hands; none_left = leaves before after hands }
+
+  bytes_whole : (may : Option (List Moment)) (x : Taking Piece) (tx : Putting Piece) (rx : Taking Piece) (source : S) (ending : Ending)
+      → ReaderServed (HandsOn device_part (IsDevicePiece may)) facts tx source → IsOneLane tx rx → OneMoreAtMost x rx → ending_of x.got ≡ Some ending
+      → ReaderWhole (HandsOn device_part (IsDevicePiece may)) facts ending tx source × GotAll tx rx
+  bytes_whole may x tx rx source ending served lane settled told =
+      let last = devices_tell_last may served.ending [] tx.put (facts.content served.first) (facts.content source) served.hands refl in
+      let got = lane_whole x tx rx ending lane settled last told in (
+        reader_whole (HandsOn device_part (IsDevicePiece may)) tx source ending
+            (λ e before after hands. bytes_told may e [] tx.put before after hands refl)
+            (λ before after hands. took_none ending (flat_map device_part hands.pieces) before after hands.took)
+            served got.1,
+        got.0,
+      )
 
   lines_whole : (x : Taking Piece) (tx : Putting Piece) (rx : Taking Piece) (source : S) (ending : Ending)
-      → LinesServed facts x tx rx source → ending_of x.got ≡ Some ending → LinesWhole facts ending tx rx source
-  lines_whole x tx rx source ending served told =
-      let before = facts.content served.first in
-      let after = facts.content source in
-      let lane = lane_whole x tx rx ending served.lane (edges_tell_last served.ending [] tx.put before after served.hands refl) told in
-      let is : served.ending ≡ Some ending = sym (lines_told served.ending [] tx.put before after served.hands refl) ∙ lane.1 in
-      let so : HandsLines (Some ending) [] tx.put before after = subst (λ (e : Option Ending). HandsLines e [] tx.put before after) is served.hands in
-      let hands : HandsLines (Some ending) [] rx.got before after = subst (λ (put : List Piece). HandsLines (Some ending) [] put before after) (sym lane.0) so in
-      record {
-        got = lane.0;
-        first = served.first;
-        unread = served.unread;
-        hands = hands;
-        none_left = took_no_line ending hands.bytes before after hands.took;
-      }
+      → ReaderServed HandsLines facts tx source → IsOneLane tx rx → OneMoreAtMost x rx → ending_of x.got ≡ Some ending
+      → ReaderWhole HandsLines facts ending tx source × GotAll tx rx
+  lines_whole x tx rx source ending served lane settled told =
+      let last = edges_tell_last served.ending [] tx.put (facts.content served.first) (facts.content source) served.hands refl in
+      let got = lane_whole x tx rx ending lane settled last told in (
+        reader_whole HandsLines tx source ending
+            (λ e before after hands. lines_told e [] tx.put before after hands refl)
+            (λ before after hands. took_no_line ending hands.bytes before after hands.took)
+            served got.1,
+        got.0,
+      )
 
   edges_whole : (x : Option (Taking Piece)) (tx : Option (Putting Piece)) (rx : Option (Taking Piece)) (source : Option S) (ending : Ending)
-      → EdgesServed facts x tx rx source → edge_ending x (got_of x) ≡ Some ending → EdgesWhole facts ending tx rx source
-  edges_whole None None None None ending served told = let is : ending ≡ End = cc told in is
-  edges_whole (Some x) (Some tx) (Some rx) (Some source) ending served told = lines_whole x tx rx source ending served told
-  edges_whole (Some x) (Some tx) (Some rx) None ending served told = absurd served
-  edges_whole (Some x) (Some tx) None source ending served told = absurd served
-  edges_whole (Some x) None rx source ending served told = absurd served
-  edges_whole None (Some tx) rx source ending served told = absurd served
-  edges_whole None None (Some rx) source ending served told = absurd served
-  edges_whole None None None (Some source) ending served told = absurd served
+      → ZipOption (ReaderServed HandsLines facts) tx source → ZipOption IsOneLane tx rx → ZipOption OneMoreAtMost x rx → edge_ending x (got_of x) ≡ Some ending
+      → ZipOption (ReaderWhole HandsLines facts ending) tx source × ZipOption GotAll tx rx × (source ≡ None → ending ≡ End)
+  edges_whole None None None None ending served lane settled told = let is : ending ≡ End = cc told in (tt, tt, λ none. is)
+  edges_whole (Some x) (Some tx) (Some rx) (Some source) ending served lane settled told =
+      let whole = lines_whole x tx rx source ending served lane settled told in
+      (whole.0, whole.1, λ none. absurd (cc none))
+  edges_whole x None rx (Some source) ending served lane settled told = absurd served
+  edges_whole x (Some tx) rx None ending served lane settled told = absurd served
+  edges_whole x None (Some rx) None ending served lane settled told = absurd lane
+  edges_whole x (Some tx) None (Some source) ending served lane settled told = absurd lane
+  edges_whole (Some x) None None None ending served lane settled told = absurd settled
+  edges_whole None (Some tx) (Some rx) (Some source) ending served lane settled told = absurd settled
 
 module _ {S R : Type 0} (may : Option (List Moment)) (facts : SourceFacts S) where
   pub device_whole : (x : InletsView) (d : DeviceDone S R) → DeviceServed may facts x d → (IsOver d.end → TellEnds x d.end) → IsWhole may facts d
   device_whole x d served tell over =
       let told = tell over in
+      let bytes = bytes_whole facts may x.bytes d.bytes_tx d.bytes_rx served.source told.bytes_ending served.bytes served.bytes_lane served.settled.bytes told.bytes in
+      let edges = edges_whole facts x.edges d.edges_tx d.edges_rx d.edges told.edges_ending served.edges served.edges_lane served.settled.edges told.edges in
       record {
         bytes_ending = told.bytes_ending;
         edges_ending = told.edges_ending;
         end_is = told.end_is;
+        no_edges = edges.2;
         source = served.source;
         source_is = served.source_is;
-        bytes = bytes_whole facts may x.bytes d.bytes_tx d.bytes_rx served.source told.bytes_ending served.bytes told.bytes;
-        edges = edges_whole facts x.edges d.edges_tx d.edges_rx d.edges told.edges_ending served.edges told.edges;
+        bytes = bytes.0;
+        bytes_got = bytes.1;
+        edges = edges.0;
+        edges_got = edges.1;
       }
 
-  -- of each device, by its number
-  all_whole : (inlets : List InletsView) (devices : List (DeviceDone S R)) → AllZip (DeviceServed may facts) inlets devices
-      → ((k : ℕ) (x : InletsView) (end : Option DeviceEnd) → k < length inlets
-      → IsOver (get_or (map (λ (d : DeviceDone S R). d.end) devices) k end)
-      → TellEnds (get_or inlets k x) (get_or (map (λ (d : DeviceDone S R). d.end) devices) k end))
-      → All (IsWhole may facts) devices
-  all_whole inlets [] served tell k d there = absurd (omega arith)
-  all_whole [] (device ∷ devices) served tell k d there = absurd served
-  all_whole (x ∷ inlets) (device ∷ devices) served tell zero d there = device_whole x device served.0 (tell zero x device.end (omega arith))
-  all_whole (x ∷ inlets) (device ∷ devices) served tell (suc k) d there =
-      all_whole inlets devices served.1 (λ j y end within. tell (suc j) y end (omega arith)) k d (omega arith)
+  -- of each device, whose numbers begin with n
+  all_whole : (log : List Entry) (n count : ℕ) (inlets : List InletsView) (devices : List (DeviceDone S R))
+      → AllZip (DeviceFits log) (range_with_len n count) (devices_of inlets (map (λ (d : DeviceDone S R). d.end) devices))
+      → AllZip (DeviceServed may facts) inlets devices → All (IsWhole may facts) devices
+  all_whole log n count inlets [] fits served k d there = absurd (omega arith)
+  all_whole log n count [] (device ∷ devices) fits served k d there = absurd served
+  all_whole log n zero (x ∷ inlets) (device ∷ devices) fits served k d there = absurd fits
+  all_whole log n (suc count) (x ∷ inlets) (device ∷ devices) fits served zero d there =
+      device_whole x device served.0 (tell_ends log n x device.end fits.0)
+  all_whole log n (suc count) (x ∷ inlets) (device ∷ devices) fits served (suc k) d there =
+      all_whole log (n + 1) count inlets devices fits.1 served.1 k d (omega arith)
 
--- of the parts of a hub
-pub whole_by : {S R : Type 0} (may : Option (List Moment)) (facts : SourceFacts S) (p : Parts) (devices : List (DeviceDone S R)) → DaemonHub p
-    → AllZip (DeviceServed may facts) p.inlets devices → map (λ (d : DeviceDone S R). d.end) devices ≡ p.ends → All (IsWhole may facts) devices
-whole_by {S} {R} may facts p devices hub served ends_are =
-    let count : length p.inlets ≡ length p.book.names = hub.1.count in
-    let ends = map (λ (d : DeviceDone S R). d.end) devices in
-    all_whole may facts p.inlets devices served
-    (λ k x end there. tell_ends (hub.0 ++ p.book.log.log) k (get_or p.inlets k x) (get_or ends k end)
-    (subst (λ (l : List (Option DeviceEnd)). DeviceFits (hub.0 ++ p.book.log.log) k (get_or p.inlets k x) (get_or l k end)) (sym ends_are)
-    (hub.1.devices k x end (omega (arith, there, count)))))
+-- of the devices of a hub
+pub whole_by : {S R : Type 0} (may : Option (List Moment)) (facts : SourceFacts S) (log : List Entry) (count : ℕ) (inlets : List InletsView) (devices : List (DeviceDone S R))
+    (ends : List (Option DeviceEnd)) → AllZip (DeviceFits log) (range_with_len 0 count) (devices_of inlets ends)
+    → AllZip (DeviceServed may facts) inlets devices → map (λ (d : DeviceDone S R). d.end) devices ≡ ends → All (IsWhole may facts) devices
+whole_by {S} {R} may facts log count inlets devices ends fits served ends_are =
+    all_whole may facts log 0 count inlets devices
+    (subst (λ (l : List (Option DeviceEnd)). AllZip (DeviceFits log) (range_with_len 0 count) (devices_of inlets l)) (sym ends_are) fits) served
 
 pub whole_at_end : {G S K R : Type 0} (start : DaemonStart S K) (facts : WorldFacts G S K) (back : HandedBack G S K R) (book : Option BookView)
     → IfSome book (AtEnd start facts back) → IsSome book → All (IsWhole start.may facts.sources) back.devices
 whole_at_end start facts back None ends some = absurd (cc)
 whole_at_end {G} {S} {K} {R} start facts back (Some b) ends some =
-    whole_by start.may facts.sources (parts_of b ends.inlets back ends.done start.told.wait) back.devices ends.hub ends.devices_are refl
+    whole_by start.may facts.sources (whole_log ends.hub.0 b) (length b.names) ends.inlets back.devices (map (λ (d : DeviceDone S R). d.end) back.devices) ends.hub.1.devices
+    ends.devices_are refl
 
 -- a device that has ended did so as both of its sources came to their ends
 pub both_end : (bytes edges : Ending) (end : Option DeviceEnd) → end ≡ Some (end_of bytes edges) → end ≡ Some Ended → (bytes ≡ End) × (edges ≡ End)
@@ -249,13 +257,12 @@ abbrev pub TellsEnd : Option (Putting Piece) → Type 0
 TellsEnd None = Unit {0}
 TellsEnd (Some tx) = ending_of tx.put ≡ Some End
 
-edges_tell_end : {S : Type 0} (facts : SourceFacts S) (ending : Ending) (tx : Option (Putting Piece)) (rx : Option (Taking Piece)) (source : Option S)
-    → EdgesWhole facts ending tx rx source → ending ≡ End → TellsEnd tx
-edges_tell_end facts ending None rx source whole is = tt
-edges_tell_end facts ending (Some tx) None source whole is = absurd whole
-edges_tell_end facts ending (Some tx) (Some rx) None whole is = absurd whole
-edges_tell_end facts ending (Some tx) (Some rx) (Some source) whole is =
-    ap ending_of (sym whole.got) ∙ lines_told (Some ending) [] rx.got (facts.content whole.first) (facts.content source) whole.hands refl ∙ ap Some is
+edges_tell_end : {S : Type 0} (facts : SourceFacts S) (ending : Ending) (tx : Option (Putting Piece)) (source : Option S)
+    → ZipOption (ReaderWhole HandsLines facts ending) tx source → ending ≡ End → TellsEnd tx
+edges_tell_end facts ending None source whole is = tt
+edges_tell_end facts ending (Some tx) None whole is = absurd whole
+edges_tell_end facts ending (Some tx) (Some source) whole is =
+    lines_told (Some ending) [] tx.put (facts.content whole.first) (facts.content source) whole.hands refl ∙ ap Some is
 
 -- the lanes of a device that has ended say so
 pub device_tells_end : {S R : Type 0} (may : Option (List Moment)) (facts : SourceFacts S) (d : DeviceDone S R) → IsWhole may facts d → d.end ≡ Some Ended
@@ -263,8 +270,7 @@ pub device_tells_end : {S R : Type 0} (may : Option (List Moment)) (facts : Sour
 device_tells_end may facts d whole ended =
     let came = whole (inl ended) in
     let both = both_end came.bytes_ending came.edges_ending d.end came.end_is ended in (
-      ap ending_of (sym came.bytes.got)
-          ∙ bytes_told may (Some came.bytes_ending) [] d.bytes_rx.got (facts.content came.bytes.first) (facts.content came.source) came.bytes.hands refl
+      bytes_told may (Some came.bytes_ending) [] d.bytes_tx.put (facts.content came.bytes.first) (facts.content came.source) came.bytes.hands refl
           ∙ ap Some both.0,
-      edges_tell_end facts came.edges_ending d.edges_tx d.edges_rx d.edges came.edges both.1,
+      edges_tell_end facts came.edges_ending d.edges_tx d.edges came.edges both.1,
     )

@@ -2,6 +2,7 @@
 use Rattle.std.specs.Prelude.{◌≡◌, ◌⊎◌, ℕ, Bool, true, List, length, map, Option, Some}
 use Rattle.std.specs.List.{All, AllZip, range_with_len}
 use Rattle.gps_fixed.specs.Moment.{Moment}
+use Rattle.gps_outside.specs.Ticks.{Dial}
 use Rattle.book_sessions.specs.MemberView.{MemberView}
 use Rattle.report_book.specs.BookView.{BookView}
 use Rattle.serve_end_parts.specs.declared.done.DeviceDone.{DeviceDone}
@@ -10,11 +11,12 @@ use Rattle.serve_end_parts.specs.declared.done.MonitorDone.{MonitorDone}
 use Rattle.serve_end_parts.specs.declared.plan.Plan.{Plan}
 use Rattle.hub_promise.specs.DaemonHub.{DaemonHub}
 use Rattle.hub_promise.specs.Keeping.{IsClosed}
-use Rattle.hub_promise.specs.Parts.{InletsView, Parts, Terms}
+use Rattle.hub_promise.specs.Parts.{InletsView, Parts, Terms, devices_of}
 use Rattle.serve_end_settling.specs.Failing.{AnyOf}
-use Rattle.gps_serve.specs.Doors.{Way}
-use Rattle.gps_serve.specs.Lost.{DeviceTellsShort, LinkIsUncounted, MissesSample, SessionTellsShort, WasCut, WasLostOutOfMemory}
-use Rattle.gps_serve.specs.Statuses.{HasStopped}
+use Rattle.serve_door.specs.Doors.{Way}
+use Rattle.gps_serve.specs.Lost.{DeviceTellsOutOfMemory, LinkIsUncounted, MissesSample, SessionTellsOutOfMemory, WasClosedOutOfMemory, WasLostOutOfMemory}
+use Rattle.serve_floor.specs.Bursts.{HasStopped}
+use Rattle.gps_serve.specs.Stamps.{StampsAreGiven}
 use Rattle.gps_serve.specs.Units.{UnitServed}
 use Rattle.gps_serve.specs.Facts.{WorldFacts}
 use Rattle.serve_end_parts.specs.declared.served.Served.{Served}
@@ -36,21 +38,23 @@ settings_of terms queue tries = record { names = terms.names; limit = terms.limi
 abbrev pub settings_in : Plan → DaemonSettings
 settings_in plan = record { names = plan.names; limit = plan.limit; wait = plan.wait; queue = plan.queue; tries = plan.tries }
 
--- what a daemon begins with: what it was told, the stamps that its clock may give, and the links of its door; the last two if they are told
+-- what a daemon begins with: what it was told, the stamps that its clock may give, all that its clock tells of its stamps, and the links of its door; the
+-- last three if they are told
 pub record DaemonStart (S K : Type 0) : Type 0 where
   pub told : DaemonSettings
   pub may : Option (List Moment)
+  pub clock : Option Dial
   pub links : Option (List (Way S K))
 
-abbrev pub start_with : {S K : Type 0} → DaemonSettings → Option (List Moment) → Option (List (Way S K)) → DaemonStart S K
-start_with told may links = record { told = told; may = may; links = links }
+abbrev pub start_with : {S K : Type 0} → DaemonSettings → Option (List Moment) → Option Dial → Option (List (Way S K)) → DaemonStart S K
+start_with told may clock links = record { told = told; may = may; clock = clock; links = links }
 
 -- the same in a world
 abbrev pub start_in : {W S K C G : Type 0} → WorldGhosts W S K C G → DaemonSettings → W → DaemonStart S K
-start_in ghosts told world = start_with told (dial_of (ghosts.stamps world)) (ghosts.links world)
+start_in ghosts told world = start_with told (dial_of (ghosts.stamps world)) (ghosts.stamps world) (ghosts.links world)
 
--- what a daemon hands back beside its book: what is left of its devices, sessions, monitors and door, how many links were dropped because too many
--- sessions were there, and whether it was out of memory
+-- what a daemon hands back beside its book: what is left of its devices, sessions, monitors and door, how many links were dropped because there were
+-- too many sessions, and whether it was out of memory
 pub record HandedBack (G S K R : Type 0) : Type 0 where
   pub devices : List (DeviceDone S R)
   pub sessions : List (SessionDone S K R)
@@ -70,47 +74,53 @@ handed_back served =
 -- Why a daemon says that it was out of memory: a device was lost for that, a reader of a device says so, a session was closed for that, a reader of a
 -- session says so, a monitor could not keep a sample, or a link was dropped for it. `told` are the links that the door held before, `left` those that it
 -- still has.
-abbrev pub MemoryWasShort : {G S K R : Type 0} → Option (List (Way S K)) → Option (List (Way S K)) → HandedBack G S K R → BookView → Type 0
-MemoryWasShort told left back book =
-    AnyOf WasLostOutOfMemory back.devices ⊎ AnyOf DeviceTellsShort back.devices ⊎ AnyOf WasCut book.sessions ⊎ AnyOf SessionTellsShort back.sessions
+abbrev pub ShowsOutOfMemory : {G S K R : Type 0} → Option (List (Way S K)) → Option (List (Way S K)) → HandedBack G S K R → BookView → Type 0
+ShowsOutOfMemory told left back book =
+    AnyOf WasLostOutOfMemory back.devices ⊎ AnyOf DeviceTellsOutOfMemory back.devices ⊎ AnyOf WasClosedOutOfMemory book.sessions ⊎ AnyOf SessionTellsOutOfMemory back.sessions
     ⊎ AnyOf MissesSample back.monitors ⊎ LinkIsUncounted told left (length back.sessions) back.full
 
 -- how many items may wait for each session
-abbrev pub AreOfQueue : ℕ → List MemberView → Type 0
-AreOfQueue queue sessions = All (λ (a : MemberView). a.session.cap ≡ queue) sessions
+abbrev pub HaveQueue : ℕ → List MemberView → Type 0
+HaveQueue queue sessions = All (λ (a : MemberView). a.session.cap ≡ queue) sessions
 
 -- what the hub knows of its parts, by the lanes that are handed back
 abbrev pub parts_of : {G S K R : Type 0} → BookView → List InletsView → HandedBack G S K R → Bool → ℕ → Parts
 parts_of {G} {S} {K} {R} book inlets back done wait = record {
   book = book;
-  inlets = inlets;
-  ends = map (λ (d : DeviceDone S R). d.end) back.devices;
+  devices = devices_of inlets (map (λ (d : DeviceDone S R). d.end) back.devices);
   inputs = map (λ (s : SessionDone S K R). s.input_rx) back.sessions;
   done = done;
   wait = wait;
 }
 
--- What the hub knows holds of the book, of the devices' lanes as the hub left them, of how each device ended, of the sessions' lanes, and of the
--- door. By the lanes that are handed back, what came into the hub is what was taken from the sources; what a session wrote begins what the book gave
--- it. Each device has stopped, each session is closed, and each unit's samples are all published, unless its count is spent. The daemon says that it
--- was out of memory only if that shows (`MemoryWasShort`).
+-- What is handed back at the end fits together. `inlets` and `done` are the devices' lanes and the door's state as the hub left them; the lanes of the
+-- devices and sessions that are handed back (`back`) may have one more piece received.
 pub record AtEnd {G S K R : Type 0} (start : DaemonStart S K) (facts : WorldFacts G S K) (back : HandedBack G S K R) (book : BookView) : Type 0 where
+  -- the book is that of the daemon's settings
   pub names : book.names ≡ start.told.names
   pub limit : book.log.limit ≡ start.told.limit
-  pub queue : AreOfQueue start.told.queue book.sessions
+  pub queue : HaveQueue start.told.queue book.sessions
+  -- what holds of the hub holds of the book, the lanes and the devices' ends
   pub inlets : List InletsView
   pub done : Bool
   pub hub : DaemonHub (parts_of book inlets back done start.told.wait)
+  -- what came into each device's lane is what was read from its source, with the stamps that the clock gave for it
   pub devices_are : AllZip (DeviceServed start.may facts.sources) inlets back.devices
+  pub stamps : StampsAreGiven start.clock (map (λ (d : DeviceDone S R). d.bytes_tx.put) back.devices)
+  -- the same for each session's input; what was written to its client is a prefix of what the book gave it; session k has the number k
   pub inputs_are : All (λ (s : SessionDone S K R). InputServed facts.sources s) back.sessions
   pub outlets_are : AllZip (OutletServed facts.sinks) book.sessions back.sessions
   pub numbers : map (λ (s : SessionDone S K R). s.number) back.sessions ≡ range_with_len 0 (length book.sessions)
+  -- each device has ended or was lost, and each session is closed
   pub stopped : All (λ (d : DeviceDone S R). HasStopped d.end) back.devices
   pub closed : All IsClosed book.sessions
+  -- each unit's samples are all published, unless its count is spent; each monitor took published samples
   pub units : All UnitServed book.units
   pub monitor_numbers : map (λ (m : MonitorDone). m.unit) back.monitors ≡ range_with_len 0 (length back.monitors)
   pub monitors_are : AllZip (MonitorServed start.told.tries back.no_memory) (watched_units start.told.tries book.units) back.monitors
+  -- what became of each link of the door
   pub gate : G
   pub gate_is : back.gate ≡ Some gate
   pub door : GateServed facts start.links back.full back.no_memory done back.sessions gate
-  pub short : back.no_memory ≡ true → MemoryWasShort start.links (facts.gates.links gate) back book
+  -- if the daemon says that it was out of memory, that shows
+  pub short : back.no_memory ≡ true → ShowsOutOfMemory start.links (facts.gates.links gate) back book

@@ -4,7 +4,7 @@ use Rattle.gps_outside.specs.declared.door.Door.{Ghosts as DoorGhosts}
 use Rattle.gps_outside.specs.declared.client_sink.ClientSink.{Ghosts as SinkGhosts}
 use Rattle.gps_outside.specs.declared.source.Source.{Ghosts as SourceGhosts}
 use Rattle.serve_end_settling.specs.Runs.{SourceFacts, source_facts}
-use Rattle.gps_serve.specs.Doors.{Way}
+use Rattle.serve_door.specs.Doors.{Way}
 
 -- of a sink
 pub record SinkFacts (K : Type 0) : Type 0 where

@@ -1,7 +1,6 @@
 pub mod Facts
 pub mod Served
 pub mod AtEnd
-pub mod Doors
 pub mod Readies
 pub mod Runs
 pub mod Starts
@@ -11,5 +10,9 @@ pub mod Units
 pub mod Whole
 pub mod Scopes
 pub mod Lost
-pub mod Released
+pub mod Outcome
+pub mod HandingBack
 pub mod Logged
+pub mod Stamps
+pub mod Dealt
+pub mod Told

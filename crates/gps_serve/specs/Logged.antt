@@ -1,6 +1,6 @@
 -- The main sentence of `serve`: what the log has of a device that has ended is what its source held.
-use Rattle.std.specs.Prelude.{◌≡◌, ◌<◌, ℕ, List, ◌++◌, length, get_or, Option, Some, IsSome}
-use Rattle.std.specs.List.{AllZip}
+use Rattle.std.specs.Prelude.{◌≡◌, ℕ, List, ◌++◌, length, Option, Some, IsSome}
+use Rattle.std.specs.List.{AllZip, range_with_len, zip}
 use Rattle.book_log.specs.Entries.{Entry, stream}
 use Rattle.book_log.specs.Standing.{StandsFor}
 use Rattle.device_core.specs.Stream.{bytes_in}
@@ -17,7 +17,7 @@ use Rattle.gps_serve.specs.Facts.{WorldFacts}
 use Rattle.gps_serve.specs.Served.{BytesHeld}
 use Rattle.gps_serve.specs.Starts.{IsUnreadBy}
 
--- the log of a whole run, of which the book keeps the last part
+-- the log of a whole run, whose last part the book keeps
 abbrev pub IsLogOf : BookView → List Entry → Type 0
 IsLogOf book log = (forgotten : List Entry) × (StandsFor book.log.opening forgotten × (log ≡ forgotten ++ book.log.log))
 
@@ -37,14 +37,15 @@ pub record IsLogged {S R : Type 0} (facts : SourceFacts S) (bytes : List ℕ) (d
 abbrev pub AreModelled : {S : Type 0} → SourceFacts S → Type 0
 AreModelled {S} facts = (source : S) → IsSome (facts.content source)
 
--- Device by device, if it has ended: its bytes in the log are all that its source gave; and if contents are modelled, they are those that the
--- world held at its place.
-pub record AreLogged {S R : Type 0} (facts : SourceFacts S) (behind : Place → Option (List ℕ)) (log : List Entry) (places : List Place)
-    (devices : List (DeviceDone S R)) : Type 0 where
-  pub given : (d : ℕ) (done : DeviceDone S R) → d < length devices → (get_or devices d done).end ≡ Some Ended
-      → IsLogged facts (logged_bytes d log) (get_or devices d done)
-  pub held : (d : ℕ) (place : Place) (done : DeviceDone S R) (held : List ℕ) → d < length devices → (get_or devices d done).end ≡ Some Ended
-      → AreModelled facts → behind (get_or places d place) ≡ Some held → logged_bytes d log ≡ held
+-- What the log has of device d, by its place and what is left of it. If it has ended, its bytes in the log are all that its source gave; and if contents
+-- are modelled, they are what is known to be at its place.
+pub record IsLoggedAt {S R : Type 0} (facts : SourceFacts S) (behind : Place → Option (List ℕ)) (log : List Entry) (d : ℕ) (left : Place × DeviceDone S R) : Type 0 where
+  pub given : left.1.end ≡ Some Ended → IsLogged facts (logged_bytes d log) left.1
+  pub held : (held : List ℕ) → left.1.end ≡ Some Ended → AreModelled facts → behind left.0 ≡ Some held → logged_bytes d log ≡ held
+
+-- device by device
+abbrev pub AreLogged : {S R : Type 0} → SourceFacts S → (Place → Option (List ℕ)) → List Entry → List Place → List (DeviceDone S R) → Type 0
+AreLogged facts behind log places devices = AllZip (IsLoggedAt facts behind log) (range_with_len 0 (length devices)) (zip places devices)
 
 -- of all that a daemon hands back
 abbrev pub EndedAreLogged : {G S K : Type 0} → Type 0 → WorldFacts G S K → Type 0

@@ -1,12 +1,12 @@
 -- What the threads of the sessions and the monitors did, before it is put together.
-use Rattle.std.specs.Prelude.{◌≡◌, ◌<◌, ℕ, Bool, true, false, List, [], ◌∷◌, ◌++◌, length, map, get_or}
+use Rattle.std.specs.Prelude.{◌≡◌, ℕ, Bool, true, false, List, [], ◌∷◌, ◌++◌, length, map, Some}
 use Rattle.std.specs.Arc.{arc_value}
 use Rattle.std.specs.List.{AllZip, range_with_len}
 use Rattle.book_sessions.specs.MemberView.{MemberView}
 use Rattle.book_units.specs.Units.{UnitView, segment_of}
 use Rattle.gps_lane.specs.Ends.{Taking}
 use Rattle.gps_outside.specs.Links.{IsUnwritten}
-use Rattle.session_core.specs.Naming.{of_table}
+use Rattle.session_core.specs.Naming.{table_of}
 use Rattle.serve_pieces.specs.declared.piece.Piece.{Piece}
 use Rattle.serve_end_parts.specs.declared.done.MonitorDone.{MonitorDone}
 use Rattle.serve_end_parts.specs.declared.done.SessionDone.{SessionDone}
@@ -17,7 +17,7 @@ use Rattle.serve_threads.specs.Monitors.{MonitorRan}
 use Rattle.serve_threads.specs.Sessions.{SessionRuns, Wrote}
 use Rattle.gps_serve.specs.Facts.{SinkFacts}
 use Rattle.gps_serve.specs.Served.{InputServed, MonitorServed, OutletServed}
-use Rattle.gps_serve.specs.Doors.{IsUnused}
+use Rattle.serve_door.specs.Doors.{IsUnused}
 use Rattle.serve_end_settling.specs.Lanes.{OneMoreAtMost}
 use Rattle.serve_end_settling.specs.Outlets.{writer_end}
 use Rattle.serve_end_settling.specs.Runs.{SourceFacts}
@@ -31,7 +31,7 @@ pub record SessionReady {S K R : Type 0} (sources : SourceFacts S) (sinks : Sink
   pub unused : IsUnused link
   pub ran : SessionRuns sources.content sources.faults sources.quiets sinks.written sinks.faults link run
   pub input : x.lane ≡ link.pieces.lane
-  pub outlet : of_table link.items.lane ≡ a.session.name
+  pub outlet : Some link.items.lane ≡ table_of a.session.name
 
 abbrev pub AreReady : {S K R : Type 0} → SourceFacts S → SinkFacts K → List MemberView → List (Taking Piece) → List (LinkDone S K R) → Type 0
 AreReady sources sinks [] [] [] = Unit {0}
@@ -41,7 +41,7 @@ AreReady sources sinks (a ∷ sessions) [] runs = ⊥
 AreReady sources sinks (a ∷ sessions) (x ∷ inputs) [] = ⊥
 AreReady sources sinks (a ∷ sessions) (x ∷ inputs) (run ∷ runs) = SessionReady sources sinks a x run × AreReady sources sinks sessions inputs runs
 
--- what is left of a session's input, whose lane the hub left so; if it had not told how its source ended, one more piece may be got since
+-- what is left of a session's input. `x` is its lane as the hub left it; if that had not told how its source ended, one more piece may have come since.
 pub record InputLeft {S K R : Type 0} (sources : SourceFacts S) (x : Taking Piece) (done : SessionDone S K R) : Type 0 where
   pub served : InputServed sources done
   pub settled : OneMoreAtMost x done.input_rx
@@ -68,18 +68,13 @@ pub record SessionsSoFar {S K R : Type 0} (sources : SourceFacts S) (sinks : Sin
   pub count : length gone ≡ number
   pub ready : AreReady sources sinks rest left runs
 
--- the next of the sessions that are left
-pub record IsNext {S K R : Type 0} (sources : SourceFacts S) (sinks : SinkFacts K) (sessions : List MemberView) (number : ℕ) (x : Taking Piece) (run : LinkDone S K R) : Type 0 where
-  pub there : number < length sessions
-  pub ready : (free : MemberView) → SessionReady sources sinks (get_or sessions number free) x run
-
 -- all of them
 pub record AllServed {S K R : Type 0} (sources : SourceFacts S) (sinks : SinkFacts K) (sessions : List MemberView) (inputs : List (Taking Piece)) (done : List (SessionDone S K R)) : Type 0 where
   pub inputs_are : AllZip (InputLeft sources) inputs done
   pub outlets_are : AllZip (OutletServed sinks) sessions done
   pub numbers : map (λ (s : SessionDone S K R). s.number) done ≡ range_with_len 0 (length sessions)
 
--- a unit's monitor did its work; unless out of memory, all of it
+-- a unit's monitor did its work: all of it, unless the daemon was out of memory
 pub record MonitorReady (tries : ℕ) (no_memory : Bool) (u : UnitView) (watch : ReadingsDone) : Type 0 where
   pub segment : arc_value watch.segment ≡ segment_of u
   pub watched : MonitorRan (segment_of u) tries watch.whole watch.monitor watch.taken.items
@@ -97,8 +92,3 @@ pub record MonitorsSoFar (tries : ℕ) (no_memory : Bool) (units : List UnitView
   pub count : length gone ≡ unit
   pub served : AllZip (MonitorServed tries no_memory) gone done
   pub ready : AllZip (MonitorReady tries no_memory) rest watched
-
--- the next of the monitors that are left
-pub record IsNextMonitor (tries : ℕ) (no_memory : Bool) (units : List UnitView) (unit : ℕ) (watch : ReadingsDone) : Type 0 where
-  pub there : unit < length units
-  pub ready : (free : UnitView) → MonitorReady tries no_memory (get_or units unit free) watch

@@ -1,5 +1,5 @@
 -- What the readers of the devices did.
-use Rattle.std.specs.Prelude.{◌≡◌, List, ◌++◌, map, Option, Some, None}
+use Rattle.std.specs.Prelude.{◌≡◌, List, ◌++◌, map, Option, Some}
 use Rattle.std.specs.List.{AllZip}
 use Rattle.gps_fixed.specs.Moment.{Moment}
 use Rattle.gps_outside.specs.Told.{Goes, Stream}
@@ -9,7 +9,7 @@ use Rattle.hub_promise.specs.Parts.{LaneNames, InletsView, names_of}
 use Rattle.serve_end_parts.specs.declared.done.DeviceDone.{DeviceDone}
 use Rattle.serve_end_settling.specs.declared.device.DeviceRun.{DeviceRun}
 use Rattle.serve_end_settling.specs.Failing.{source_of}
-use Rattle.serve_end_settling.specs.Lanes.{tx_of}
+use Rattle.serve_end_settling.specs.Lanes.{ZipOption, tx_of}
 use Rattle.serve_end_settling.specs.Runs.{Ran, SourceFacts}
 use Rattle.gps_serve.specs.declared.starts.DeviceStart.{DeviceStart}
 use Rattle.gps_serve.specs.Served.{DeviceServed, TakesFirst}
@@ -26,10 +26,7 @@ pub record TakesBy (end : Option DeviceEnd) (before after : Stream) : Type 0 whe
   pub all : end ≡ Some Ended → TakesWhole before after
 
 abbrev pub EdgesRead : {S : Type 0} → SourceFacts S → Option DeviceEnd → Option S → Option S → Type 0
-EdgesRead facts end None None = Unit {0}
-EdgesRead facts end None (Some source) = ⊥
-EdgesRead facts end (Some first) None = ⊥
-EdgesRead facts end (Some first) (Some source) = Goes (TakesBy end) (facts.content first) (facts.content source)
+EdgesRead {S} facts end = ZipOption (λ (first source : S). Goes (TakesBy end) (facts.content first) (facts.content source))
 
 -- the readers of each device did their work, on lanes of these names through which nothing had gone and on sources from which nothing was taken
 pub record DevicesRan {S R : Type 0} (may : Option (List Moment)) (facts : SourceFacts S) (lanes : List LaneNames) (runs : List (DeviceRun S R)) : Type 0 where

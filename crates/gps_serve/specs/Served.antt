@@ -1,5 +1,5 @@
 -- What is left of a device, a session, a monitor and the door.
-use Rattle.std.specs.Prelude.{◌≡◌, ◌+◌, ◌*◌, ◌^◌, ◌-◌, ◌<◌, ◌≤◌, ◌⊎◌, ℕ, Bool, true, false, List, [], ◌++◌, length, Option, Some, None, ◌==◌, if◌then◌else◌}
+use Rattle.std.specs.Prelude.{◌≡◌, ◌+◌, ◌*◌, ◌^◌, ◌-◌, ◌<◌, ◌≤◌, ◌⊎◌, ℕ, Bool, true, false, List, [], ◌++◌, length, min, Option, Some, None, ◌==◌, if◌then◌else◌}
 use Rattle.std.specs.List.{AllZip}
 use Rattle.gps_fixed.specs.Moment.{Moment}
 use Rattle.gps_lane.specs.Ends.{Putting, Taking}
@@ -9,6 +9,8 @@ use Rattle.gps_outside.specs.Links.{IsUnwritten, PassLinks}
 use Rattle.gps_outside.specs.Told.{Goes, IsPrefix, Stream}
 use Rattle.gps_world.specs.declared.place.Place.{Place}
 use Rattle.book_sessions.specs.MemberView.{MemberView}
+use Rattle.book_sessions.specs.Roster.{most_live}
+use Rattle.hub_door.specs.Admissions.{LinkDrop}
 use Rattle.book_units.specs.Units.{UnitView, segment_of}
 use Rattle.output_lines.specs.declared.closing.SessionEnd.TheVariants.{Drained, WriteFault}
 use Rattle.serve_pieces.specs.Carried.{device_part, input_part}
@@ -22,81 +24,58 @@ use Rattle.serve_workers.specs.Writing.{Writes}
 use Rattle.serve_end_parts.specs.declared.done.DeviceDone.{DeviceDone}
 use Rattle.serve_end_parts.specs.declared.done.SessionDone.{SessionDone}
 use Rattle.serve_end_parts.specs.declared.done.MonitorDone.{MonitorDone}
-use Rattle.serve_end_settling.specs.Lanes.{OneMoreAtMost}
+use Rattle.serve_end_settling.specs.Lanes.{OneMoreOfEach, ZipOption, lanes}
 use Rattle.serve_end_settling.specs.Outlets.{writer_end}
 use Rattle.serve_end_settling.specs.Units.{ArePublished}
-use Rattle.session_core.specs.Naming.{of_table}
+use Rattle.session_core.specs.Naming.{table_of}
 use Rattle.hub_promise.specs.declared.ends.DeviceEnd.{DeviceEnd}
 use Rattle.hub_promise.specs.declared.ends.DeviceEnd.TheVariants.{Ended}
 use Rattle.hub_promise.specs.Parts.{InletsView}
 use Rattle.serve_end_settling.specs.Runs.{SourceFacts}
-use Rattle.gps_serve.specs.Doors.{IsSublist, NoneLeft, Way}
+use Rattle.serve_door.specs.Doors.{Dealt, IsSublist, NoneLeft, Way}
 use Rattle.gps_serve.specs.Starts.{IsUnreadBy}
 use Rattle.gps_serve.specs.Facts.{SinkFacts, WorldFacts}
 
--- Both ends are of one lane, and what was got of it begins what was put. `x` is the lane as the hub left it; if that had not told how its source
--- ended, one more piece may be got since.
-pub record LaneServed (x : Taking Piece) (tx : Putting Piece) (rx : Taking Piece) : Type 0 where
+-- Both ends are of one lane, and what was received from it is a prefix of what was put.
+pub record IsOneLane (tx : Putting Piece) (rx : Taking Piece) : Type 0 where
   pub one : rx.lane ≡ tx.lane
   pub begins : BeginsWith rx.got tx.put
-  pub settled : OneMoreAtMost x rx
 
--- The bytes that a device's reader put, in pieces with stamps that the clock may give, are those that it took from its source, which was
--- unread before. It says that the source failed only if its faults are above 0.
-pub record BytesServed {S : Type 0} (may : Option (List Moment)) (facts : SourceFacts S) (x : Taking Piece) (tx : Putting Piece) (rx : Taking Piece) (source : S) : Type 0 where
+-- What a reader put into its lane is what it took from its source, which was unread before. `Hands` says which pieces are put of what is taken. The reader
+-- says that the source failed only if its faults are above 0.
+pub record ReaderServed {S : Type 0} (Hands : Option Ending → List Piece → List Piece → Option Stream → Option Stream → Type 0) (facts : SourceFacts S)
+    (tx : Putting Piece) (source : S) : Type 0 where
   pub first : S
   pub unread : IsUnreadBy facts first
   pub ending : Option Ending
-  pub hands : HandsOn device_part (IsDevicePiece may) ending [] tx.put (facts.content first) (facts.content source)
+  pub hands : Hands ending [] tx.put (facts.content first) (facts.content source)
   pub failed : ending ≡ Some Failed → 0 < facts.faults source
-  pub lane : LaneServed x tx rx
 
--- the same of the lines of a device's edges
-pub record LinesServed {S : Type 0} (facts : SourceFacts S) (x : Taking Piece) (tx : Putting Piece) (rx : Taking Piece) (source : S) : Type 0 where
-  pub first : S
-  pub unread : IsUnreadBy facts first
-  pub ending : Option Ending
-  pub hands : HandsLines ending [] tx.put (facts.content first) (facts.content source)
-  pub failed : ending ≡ Some Failed → 0 < facts.faults source
-  pub lane : LaneServed x tx rx
-
--- of a device that has a source of edges, and of one that has none
-abbrev pub EdgesServed : {S : Type 0} → SourceFacts S → Option (Taking Piece) → Option (Putting Piece) → Option (Taking Piece) → Option S → Type 0
-EdgesServed facts (Some x) (Some tx) (Some rx) (Some source) = LinesServed facts x tx rx source
-EdgesServed facts None None None None = Unit {0}
-EdgesServed facts (Some x) (Some tx) (Some rx) None = ⊥
-EdgesServed facts (Some x) (Some tx) None source = ⊥
-EdgesServed facts (Some x) None rx source = ⊥
-EdgesServed facts None (Some tx) rx source = ⊥
-EdgesServed facts None None (Some rx) source = ⊥
-EdgesServed facts None None None (Some source) = ⊥
-
--- what is left of a device; `x` are its lanes as the hub left them
+-- What is left of a device. Its pieces of bytes have stamps that the clock may give. `x` are its lanes as the hub left them: if a lane had not told how its
+-- source ended, one more piece may have been received from it since.
 pub record DeviceServed {S R : Type 0} (may : Option (List Moment)) (facts : SourceFacts S) (x : InletsView) (done : DeviceDone S R) : Type 0 where
   pub source : S
   pub source_is : done.source ≡ Some source
-  pub bytes : BytesServed may facts x.bytes done.bytes_tx done.bytes_rx source
-  pub edges : EdgesServed facts x.edges done.edges_tx done.edges_rx done.edges
+  pub bytes : ReaderServed (HandsOn device_part (IsDevicePiece may)) facts done.bytes_tx source
+  pub bytes_lane : IsOneLane done.bytes_tx done.bytes_rx
+  -- the same of the lines of its edges, if it has a source of edges
+  pub edges : ZipOption (ReaderServed HandsLines facts) done.edges_tx done.edges
+  pub edges_lane : ZipOption IsOneLane done.edges_tx done.edges_rx
+  pub settled : OneMoreOfEach x (lanes done.bytes_rx done.edges_rx)
 
--- what is left of a session's input: its source, from which nothing was taken before, was read; both ends are of one lane, and what was got of it
--- begins what was put
+-- What is left of a session's input. Its source was read.
 pub record InputServed {S K R : Type 0} (facts : SourceFacts S) (done : SessionDone S K R) : Type 0 where
-  pub first : S
-  pub unread : IsUnreadBy facts first
-  pub ending : Option Ending
-  pub hands : HandsOn input_part IsInputPiece ending [] done.input_tx.put (facts.content first) (facts.content done.source)
-  pub failed : ending ≡ Some Failed → 0 < facts.faults done.source
-  pub read : Goes (WasRead (facts.faults done.source) (facts.quiets done.source)) (facts.content first) (facts.content done.source)
-  pub one : done.input_rx.lane ≡ done.input_tx.lane
-  pub begins : BeginsWith done.input_rx.got done.input_tx.put
+  pub reader : ReaderServed (HandsOn input_part IsInputPiece) facts done.input_tx done.source
+  pub lane : IsOneLane done.input_tx done.input_rx
+  pub read : Goes (WasRead (facts.faults done.source) (facts.quiets done.source)) (facts.content reader.first) (facts.content done.source)
 
--- What is left of a session's outlet: its receiving end, which has the name that the book knows. The items that were got of it begin those that the
+-- What is left of a session's outlet: its receiving end, which has the name that the book knows. The items received are a prefix of those that the
 -- book gave it, and are all of them if the session was drained. Their bytes were written to its sink, to which nothing was written before; all
 -- of them, unless the sink failed. The sink of a session that was drained has no fault: it wrote and delivered all.
 pub record OutletServed {S K R : Type 0} (facts : SinkFacts K) (a : MemberView) (done : SessionDone S K R) : Type 0 where
   pub first : K
   pub unwritten : IsUnwritten (facts.written first) (facts.faults first)
-  pub outlet : of_table done.items_rx.lane ≡ a.session.name
+  pub outlet : Some done.items_rx.lane ≡ table_of a.session.name
   pub begins : BeginsWith done.items_rx.got a.session.kept
   pub all : done.end ≡ Drained → done.items_rx.got ≡ a.session.kept
   pub writes : Writes (writer_end done.end) [] done.items_rx.got (facts.written first) (facts.written done.sink)
@@ -107,8 +86,8 @@ pub record OutletServed {S K R : Type 0} (facts : SinkFacts K) (a : MemberView) 
 abbrev pub watched_units : ℕ → List UnitView → List UnitView
 watched_units tries units = if tries == 0 then [] else units
 
--- What is left of a unit's monitor: the pairs that it kept, each the unit's published sample of its number, with rising numbers. If memory
--- was not wanting, these are all that it took, each number once, and it made all its readings.
+-- What is left of a unit's monitor: the pairs that it kept, each the unit's published sample of its number, with rising numbers. Unless
+-- the daemon was out of memory, these are all that it took, each number once, and it made all its readings.
 pub record MonitorServed (tries : ℕ) (no_memory : Bool) (u : UnitView) (done : MonitorDone) : Type 0 where
   pub segment : done.monitor.segment ≡ segment_of u
   pub published : ArePublished u done.taken.items
@@ -121,8 +100,8 @@ abbrev pub TakesFirst : Stream → Stream → Type 0
 TakesFirst before after = IsPrefix after.taken (before.taken ++ before.left)
 
 -- A session's source and sink are those of the link. Nothing was taken from the link's source before; it was read, and what was put into the session's
--- input lane is what was taken from it, with the ending that it had. The bytes of the items that were got of the session's outlet were written behind
--- what was written to the link's sink.
+-- input lane is what was taken from it, with the ending that it had. The bytes of the items that were received from the session's outlet were written
+-- after what the link's sink had before.
 pub record ServesLink {S K R : Type 0} (sources : SourceFacts S) (sinks : SinkFacts K) (way : Way S K) (done : SessionDone S K R) : Type 0 where
   pub unread : IsUnreadBy sources way.0
   pub ending : Option Ending
@@ -132,19 +111,23 @@ pub record ServesLink {S K R : Type 0} (sources : SourceFacts S) (sinks : SinkFa
   pub writes : Writes (writer_end done.end) [] done.items_rx.got (sinks.written way.1) (sinks.written done.sink)
   pub failed : done.end ≡ WriteFault → Rose (sinks.faults way.1) (sinks.faults done.sink)
 
--- What is left of the door. The links that were taken are the next of those that it told. They are at least as many as the sessions and `full` together,
--- and exactly as many unless the daemon was out of memory or `full` is at its greatest value; `full` counts the links that were dropped because too many
--- sessions were there, and is 0 before 64 were admitted. Each session has the source and the sink of a link that was taken, in order; if none was dropped,
--- session k has those of the k-th. The door was asked; and it is said to have closed or failed only if no link is left or its faults rose.
+-- What is left of the door. The links that were taken are the next of those that it told. Each became a session, or was dropped for a bound or for lack of
+-- memory (`dealt`). `full` counts those that were dropped for a bound, and is 0 before 64 sessions were admitted. The links are at least as many as
+-- the sessions and `full` together, and exactly as many unless the daemon was out of memory or `full` is at its greatest value. Each session has the source
+-- and the sink of a link that was taken, in order; if none was dropped, session k has those of the k-th. The door was asked; and it is said to have closed
+-- or failed only if no link is left or its faults rose.
 pub record GateServed {G S K R : Type 0} (facts : WorldFacts G S K) (told : Option (List (Way S K))) (full : ℕ) (no_memory done : Bool)
     (sessions : List (SessionDone S K R)) (gate : G) : Type 0 where
   pub taken : List (Way S K)
   pub passed : Goes (PassLinks taken) told (facts.gates.links gate)
   pub few : length sessions + full ≤ length taken
   pub count : no_memory ≡ false → full < 2 ^ 64 - 1 → length taken ≡ length sessions + full
-  pub none_early : length sessions < 64 → full ≡ 0
+  pub none_early : length sessions < most_live → full ≡ 0
+  pub drops : List LinkDrop
+  pub counted : full ≡ min (length drops) (2 ^ 64 - 1)
   pub served : List (Way S K)
   pub order : IsSublist served taken
+  pub dealt : Dealt 0 taken served drops
   pub links_are : AllZip (ServesLink facts.sources facts.sinks) served sessions
   pub each : length taken ≡ length sessions → AllZip (ServesLink facts.sources facts.sinks) taken sessions
   pub asked : (0 < length taken) ⊎ (0 < facts.gates.quiets gate) ⊎ (0 < facts.gates.faults gate) ⊎ NoneLeft told (facts.gates.links gate)

@@ -1,33 +1,42 @@
 -- The devices' sources and lanes before anything went through them.
-use Rattle.std.specs.Prelude.{◌≡◌, List, [], Option, Some, None, map, option_map}
-use Rattle.gps_lane.specs.Ends.{Putting, Taking}
+use Rattle.std.specs.Prelude.{◌≡◌, ℕ, List, [], Option, Some, None, map, option_map}
+use Rattle.std.specs.List.{All}
+use Rattle.gps_lane.specs.Ends.{Putting, Taking, IsFreshLane}
 use Rattle.gps_outside.specs.Links.{IsUnread}
+use Rattle.gps_outside.specs.Told.{Stream}
 use Rattle.serve_pieces.specs.declared.piece.Piece.{Piece}
+use Rattle.serve_workers.specs.Sourced.{held_in}
 use Rattle.hub_promise.specs.Parts.{InletsView}
 use Rattle.serve_end_settling.specs.Runs.{ReaderStart, ReaderStarts, SourceFacts}
 use Rattle.gps_serve.specs.declared.starts.DeviceStart.{DeviceStart}
 use Rattle.gps_serve.specs.declared.starts.EdgeStart.{EdgeStart}
+use Rattle.serve_pieces.specs.Held.{of_source}
 
 -- nothing was taken from the source, if it tells that, and it counted nothing
 abbrev pub IsUnreadBy : {S : Type 0} → SourceFacts S → S → Type 0
 IsUnreadBy facts source = IsUnread (facts.content source) (facts.faults source) (facts.quiets source)
 
--- both ends are of one lane, through which nothing went
-pub record IsFreshLane (tx : Putting Piece) (rx : Taking Piece) : Type 0 where
-  pub one : rx.lane ≡ tx.lane
-  pub put : tx.put ≡ []
-  pub got : rx.got ≡ []
-
 abbrev pub IsFreshEdge : {S R : Type 0} → SourceFacts S → Option (EdgeStart S R) → Option (Taking Piece) → Type 0
 IsFreshEdge facts None None = Unit {0}
 IsFreshEdge facts None (Some rx) = ⊥
 IsFreshEdge facts (Some start) None = ⊥
-IsFreshEdge facts (Some start) (Some rx) = IsFreshLane start.lines rx × IsUnreadBy facts start.source
+IsFreshEdge facts (Some start) (Some rx) = IsFreshLane (of_source (held_in (facts.content start.source))) start.lines rx × IsUnreadBy facts start.source
 
 pub record IsFreshDevice {S R : Type 0} (facts : SourceFacts S) (start : DeviceStart S R) (inlets : InletsView) : Type 0 where
-  pub bytes : IsFreshLane start.bytes inlets.bytes
+  pub bytes : IsFreshLane (of_source (held_in (facts.content start.source))) start.bytes inlets.bytes
   pub unread : IsUnreadBy facts start.source
   pub edges : IsFreshEdge facts start.edges inlets.edges
+
+-- the lanes of a device are about what its sources hold
+abbrev pub EdgesTold : {S R : Type 0} → (S → Option Stream) → Option (EdgeStart S R) → Type 0
+EdgesTold {S} {R} content start = (edge : EdgeStart S R) → start ≡ Some edge → edge.lines.about.source ≡ held_in (content edge.source)
+
+abbrev pub AreTold : {S R : Type 0} → (S → Option Stream) → DeviceStart S R → Type 0
+AreTold content start = (start.bytes.about.source ≡ held_in (content start.source)) × EdgesTold content start.edges
+
+-- the same of each device
+abbrev pub EachTold : {S R : Type 0} → (S → Option Stream) → List (DeviceStart S R) → Type 0
+EachTold content starts = All (AreTold content) starts
 
 -- what the readers of a device begin with
 abbrev pub edge_start_of : {S R : Type 0} → EdgeStart S R → ReaderStart S

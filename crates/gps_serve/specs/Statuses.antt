@@ -1,8 +1,7 @@
 -- When the daemon was out of memory, and when a device was lost by a fault.
-use Rattle.std.specs.Prelude.{◌≡◌, Bool, true, not, ◌&&◌, ◌||◌, is_some, List, Option, Some, None}
+use Rattle.std.specs.Prelude.{◌≡◌, ℕ, Bool, true, not, ◌&&◌, ◌||◌, List, Option, Some, None, if◌then◌else◌}
 use Rattle.std.specs.List.{list_all}
 use Rattle.gps_lane.specs.Ends.{Putting}
-use Rattle.hub_promise.specs.declared.ends.DeviceEnd.{DeviceEnd}
 use Rattle.hub_promise.specs.declared.ends.DeviceEnd.TheVariants.{ReadFault}
 use Rattle.hub_promise.specs.Given.{ending_of, is_end}
 use Rattle.serve_end_parts.specs.declared.done.DeviceDone.{DeviceDone}
@@ -15,13 +14,13 @@ use Rattle.gps_serve.specs.declared.status.DaemonOutcome.{DaemonOutcome}
 abbrev pub lacks_memory : DaemonOutcome → Bool
 lacks_memory o = o.no_memory || (not o.read_fault && not o.ended)
 
+-- the status: of the faults that were met the first of these
+abbrev pub outcome_status : DaemonOutcome → ℕ
+outcome_status o = if o.read_fault then 3 else (if o.door_fault then 8 else (if lacks_memory o then 7 else 0))
+
 -- each monitor made all its readings
 abbrev pub EachWhole : List ReadingsDone → Type 0
 EachWhole watched = list_all (λ (watch : ReadingsDone). watch.whole) watched ≡ true
-
--- a device has ended or was lost
-abbrev pub HasStopped : Option DeviceEnd → Type 0
-HasStopped end = is_some end ≡ true
 
 -- each device has ended
 abbrev pub AllEnded : {S R : Type 0} → List (DeviceDone S R) → Type 0

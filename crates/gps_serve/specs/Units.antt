@@ -1,7 +1,6 @@
 -- The units of a daemon that has ended. This project's own; count and its greatest value are those of the segment's words.
-use Rattle.std.specs.Prelude.{◌≡◌, ◌<◌, ◌*◌, ◌⊎◌, ℕ, List, [], ◌∷◌, slice_index_or}
+use Rattle.std.specs.Prelude.{◌≡◌, ◌*◌, ◌⊎◌, List, [], ◌∷◌}
 use Rattle.book_units.specs.Units.{UnitView, left_of, published_by}
-use Rattle.shm_segment.specs.declared.publisher.Phase.TheVariants.{Idle}
 use Rattle.shm_segment.specs.Publishing.{count_of}
 use Rattle.shm_segment.specs.Seats.{SegmentId}
 
@@ -9,18 +8,6 @@ use Rattle.shm_segment.specs.Seats.{SegmentId}
 pub record UnitServed (u : UnitView) : Type 0 where
   pub count : count_of u.publisher ≡ 2 * published_by u
   pub left : (left_of u ≡ []) ⊎ (count_of u.publisher ≡ 2_147_483_646)
-
--- no sample is being stored, and none waits, unless the count is spent
-pub record IsAtRest (u : UnitView) : Type 0 where
-  pub idle : u.publisher.phase ≡ Idle
-  pub none : (u.waiting ≡ []) ⊎ (count_of u.publisher ≡ 2_147_483_646)
-
-abbrev pub IsAtRestIn : ℕ → List UnitView → Type 0
-IsAtRestIn unit units = (free : UnitView) → IsAtRest (slice_index_or units unit free)
-
--- the first n units
-abbrev pub AreAtRest : ℕ → List UnitView → Type 0
-AreAtRest count units = (unit : ℕ) → unit < count → IsAtRestIn unit units
 
 -- no sample of these segments was counted before
 abbrev pub CountFromZero : List SegmentId → Type 0

@@ -11,6 +11,7 @@ use Rattle.serve_pieces.specs.Carried.{device_part}
 use Rattle.serve_pieces.specs.declared.piece.Ending.{Ending}
 use Rattle.serve_pieces.specs.declared.piece.Ending.TheVariants.{End}
 use Rattle.serve_pieces.specs.declared.piece.Piece.{Piece}
+use Rattle.serve_end_settling.specs.Lanes.{ZipOption}
 use Rattle.serve_end_settling.specs.Runs.{SourceFacts}
 use Rattle.serve_workers.specs.EdgeLines.{HandsLines}
 use Rattle.serve_workers.specs.Readings.{HandsOn, IsDevicePiece}
@@ -28,41 +29,32 @@ LeavesNone before after = after.left ≡ []
 abbrev pub TakesWhole : Stream → Stream → Type 0
 TakesWhole before after = (after.taken ≡ before.taken ++ before.left) × (after.left ≡ [])
 
--- All that was put into a device's lane was got. It is what was taken from its source, which was unread before, and then the piece that tells how this
--- source ended. If it came to its end, nothing is left in it.
-pub record BytesWhole {S : Type 0} (may : Option (List Moment)) (facts : SourceFacts S) (ending : Ending) (tx : Putting Piece) (rx : Taking Piece) (source : S) : Type 0 where
-  pub got : rx.got ≡ tx.put
+-- What a reader put into its lane is what it took from its source, which was unread before, and then the piece that tells how this source ended. `Hands`
+-- says which pieces are put of what is taken. If the source reached its end, nothing is left in it.
+pub record ReaderWhole {S : Type 0} (Hands : Option Ending → List Piece → List Piece → Option Stream → Option Stream → Type 0) (facts : SourceFacts S)
+    (ending : Ending) (tx : Putting Piece) (source : S) : Type 0 where
   pub first : S
   pub unread : IsUnreadBy facts first
-  pub hands : HandsOn device_part (IsDevicePiece may) (Some ending) [] rx.got (facts.content first) (facts.content source)
+  pub hands : Hands (Some ending) [] tx.put (facts.content first) (facts.content source)
   pub none_left : ending ≡ End → Goes LeavesNone (facts.content first) (facts.content source)
 
--- the same of the lines of a device's edges
-pub record LinesWhole {S : Type 0} (facts : SourceFacts S) (ending : Ending) (tx : Putting Piece) (rx : Taking Piece) (source : S) : Type 0 where
-  pub got : rx.got ≡ tx.put
-  pub first : S
-  pub unread : IsUnreadBy facts first
-  pub hands : HandsLines (Some ending) [] rx.got (facts.content first) (facts.content source)
-  pub none_left : ending ≡ End → Goes LeavesNone (facts.content first) (facts.content source)
+-- all that was put into a lane was received
+abbrev pub GotAll : Putting Piece → Taking Piece → Type 0
+GotAll tx rx = rx.got ≡ tx.put
 
--- a device without a source of edges counts as one whose edges came to their end
-abbrev pub EdgesWhole : {S : Type 0} → SourceFacts S → Ending → Option (Putting Piece) → Option (Taking Piece) → Option S → Type 0
-EdgesWhole facts ending None None None = ending ≡ End
-EdgesWhole facts ending (Some tx) (Some rx) (Some source) = LinesWhole facts ending tx rx source
-EdgesWhole facts ending None None (Some source) = ⊥
-EdgesWhole facts ending None (Some rx) source = ⊥
-EdgesWhole facts ending (Some tx) None source = ⊥
-EdgesWhole facts ending (Some tx) (Some rx) None = ⊥
-
--- A device ended as its two sources did, and all that was taken from them was got of its lanes.
+-- A device ended as its two sources did, and all that was taken from them was received from its lanes. A device without a source of edges counts as one
+-- whose edges reached their end.
 pub record CameWhole {S R : Type 0} (may : Option (List Moment)) (facts : SourceFacts S) (done : DeviceDone S R) : Type 0 where
   pub bytes_ending : Ending
   pub edges_ending : Ending
   pub end_is : done.end ≡ Some (end_of bytes_ending edges_ending)
+  pub no_edges : done.edges ≡ None → edges_ending ≡ End
   pub source : S
   pub source_is : done.source ≡ Some source
-  pub bytes : BytesWhole may facts bytes_ending done.bytes_tx done.bytes_rx source
-  pub edges : EdgesWhole facts edges_ending done.edges_tx done.edges_rx done.edges
+  pub bytes : ReaderWhole (HandsOn device_part (IsDevicePiece may)) facts bytes_ending done.bytes_tx source
+  pub bytes_got : GotAll done.bytes_tx done.bytes_rx
+  pub edges : ZipOption (ReaderWhole HandsLines facts edges_ending) done.edges_tx done.edges
+  pub edges_got : ZipOption GotAll done.edges_tx done.edges_rx
 
 abbrev pub IsWhole : {S R : Type 0} → Option (List Moment) → SourceFacts S → DeviceDone S R → Type 0
 IsWhole may facts done = IsOver done.end → CameWhole may facts done

@@ -1,5 +1,5 @@
 -- The readers of the devices at work.
-use Rattle.std.specs.Prelude.{◌≡◌, ℕ, List, [], Option, Some, None, ◌==◌, if◌then◌else◌}
+use Rattle.std.specs.Prelude.{◌≡◌, ℕ, List, [], Option, ◌==◌, if◌then◌else◌}
 use Rattle.std.specs.Arc.{arc_value}
 use Rattle.std.specs.List.{AllZip}
 use Rattle.serve_threads.specs.declared.reading.DeviceReading.{DeviceReading}
@@ -14,6 +14,7 @@ use Rattle.serve_threads.specs.Segments.{segments_of}
 use Rattle.gps_serve.specs.declared.starts.DeviceStart.{DeviceStart}
 use Rattle.gps_serve.specs.declared.starts.EdgeStart.{EdgeStart}
 use Rattle.serve_end_settling.specs.declared.device.DeviceRun.{DeviceRun}
+use Rattle.serve_end_settling.specs.Lanes.{ZipOption}
 use Rattle.serve_end_settling.specs.Runs.{SourceFacts}
 use Rattle.gps_serve.specs.declared.readers.DeviceWork.{DeviceWork}
 use Rattle.gps_serve.specs.Runs.{RanOn}
@@ -24,10 +25,7 @@ pub record BytesAre {S R D : Type 0} (start : DeviceStart S R) (work : DeviceRea
   pub pieces : work.pieces.value ≡ start.bytes
 
 abbrev pub EdgesAre : {S R : Type 0} → Option (EdgeStart S R) → Option (EdgeReading S R) → Type 0
-EdgesAre None None = Unit {0}
-EdgesAre None (Some work) = ⊥
-EdgesAre (Some start) None = ⊥
-EdgesAre (Some start) (Some work) = (work.source.value ≡ start.source) × (work.pieces.value ≡ start.lines)
+EdgesAre {S} {R} = ZipOption (λ (start : EdgeStart S R) (work : EdgeReading S R). (work.source.value ≡ start.source) × (work.pieces.value ≡ start.lines))
 
 -- both readers of a device
 pub record ReadersAre {S R D : Type 0} (start : DeviceStart S R) (work : DeviceWork S D R) : Type 0 where
@@ -35,28 +33,28 @@ pub record ReadersAre {S R D : Type 0} (start : DeviceStart S R) (work : DeviceW
   pub edges : EdgesAre start.edges work.edges
 
 -- a unit's monitor works on its segment, with the given number of readings
-pub record WatchesFor (tries : ℕ) (watcher : MonitorStart) (work : MonitorPromise) : Type 0 where
-  pub segment : work.segment.value ≡ watcher.segment
+pub record WatchesFor (tries : ℕ) (monitor_start : MonitorStart) (work : MonitorPromise) : Type 0 where
+  pub segment : work.segment.value ≡ monitor_start.segment
   pub tries_are : work.tries ≡ tries
 
 -- a unit's monitor did its work
-pub record WatchedBy (tries : ℕ) (watcher : MonitorStart) (done : ReadingsDone) : Type 0 where
-  pub segment : done.segment ≡ watcher.segment
+pub record WatchedBy (tries : ℕ) (monitor_start : MonitorStart) (done : ReadingsDone) : Type 0 where
+  pub segment : done.segment ≡ monitor_start.segment
   pub watched : MonitorRan (arc_value done.segment) tries done.whole done.monitor done.taken.items
 
 -- whatever the readers of a device were started on, they did their work on it
 abbrev pub JoinsDevice : {S R D : Type 0} → Option (List Moment) → SourceFacts S → DeviceWork S D R → DeviceRun S R → Type 0
 JoinsDevice {S} {R} may facts work run = (start : DeviceStart S R) → ReadersAre start work → RanOn may facts start run
 
-abbrev pub JoinsWatcher : MonitorPromise → ReadingsDone → Type 0
-JoinsWatcher work done = (tries : ℕ) (watcher : MonitorStart) → WatchesFor tries watcher work → WatchedBy tries watcher done
+abbrev pub JoinsMonitor : MonitorPromise → ReadingsDone → Type 0
+JoinsMonitor work done = (tries : ℕ) (monitor_start : MonitorStart) → WatchesFor tries monitor_start work → WatchedBy tries monitor_start done
 
 -- the segments that are monitored: all of them, or none if no reading is asked for
 abbrev pub monitored : ℕ → List SegmentId → List SegmentId
 monitored tries segments = if tries == 0 then [] else segments
 
 -- the monitors of these segments did their work
-pub record WatchersRan (tries : ℕ) (segments : List SegmentId) (watched : List ReadingsDone) : Type 0 where
-  pub watchers : List MonitorStart
-  pub segments_are : segments_of watchers ≡ monitored tries segments
-  pub by : AllZip (WatchedBy tries) watchers watched
+pub record MonitorsRan (tries : ℕ) (segments : List SegmentId) (watched : List ReadingsDone) : Type 0 where
+  pub monitor_starts : List MonitorStart
+  pub segments_are : segments_of monitor_starts ≡ monitored tries segments
+  pub by : AllZip (WatchedBy tries) monitor_starts watched

@@ -1,19 +1,23 @@
-ghost use Rattle.std.specs.Prelude.{◌≡◌, ◌≤◌, ◌<◌, ◌∷◌, [], length, IfOk};
+ghost use Rattle.std.specs.Prelude.{◌≡◌, ◌≤◌, ◌<◌, ◌∷◌, [], length, IfOk, true};
 ghost use Rattle.std.specs.List.{AllZip};
 ghost use Rattle.std.specs.Option.{option_to_list};
 ghost use Rattle.std.specs.Vec.Iter.{into_iter_items};
 ghost use Rattle.world_opening.specs.Opening.{AreUnread, sources_in};
+ghost use Rattle.gps_lane.specs.Ends.{IsFreshLane};
+ghost use Rattle.serve_pieces.specs.Held.{of_source};
+ghost use Rattle.serve_workers.specs.Sourced.{held_in};
 ghost use Rattle.serve_end_settling.specs.Runs.{source_facts};
 ghost use Rattle.gps_serve.specs.Starts.{IsFreshDevice, IsFreshEdge, IsUnreadBy, edge_source_of, edges_at, sources_at};
 
-use crate::places::PIECES;
 use crate::starts::{DeviceStart, EdgeStart};
 use gps_fixed::NoMemory;
 use gps_hub::Inlets;
-use gps_lane::{Rx, lane};
+use gps_lane::{About, Rx, Tx, lane_about};
 use gps_outside::Source;
+use serve_door::PIECES;
 use serve_pieces::Piece;
 use std::alloc::Global;
+use std::marker::Brand;
 use std::sync::Wait;
 use std::vec::IntoIter;
 
@@ -38,6 +42,30 @@ pub(crate) struct DeviceLanes<S: Source, R> {
     pub(crate) inlets: Vec<Inlets<R>>,
 }
 
+/// A lane about what the call picks, by this source.
+fn lane_of<S: Source, R: Wait + Copy, E: About>(
+    rt: R,
+    alloc: Global,
+    _source: &S,
+) -> Result<(Tx<Piece, R>, Rx<Piece, R>), NoMemory>
+    ensures fresh { IfOk result (λ ends. IsFreshLane E.about ends.0 ends.1) }
+    ensures open { IfOk result (λ ends. ends.0.is_open ≡ true) }
+{
+    lane_about::<Piece, R, E>(rt, alloc, PIECES)
+}
+
+/// A lane about what this source holds, if its contents are modelled.
+fn lane_for<S: Source, R: Wait + Copy>(
+    rt: R,
+    alloc: Global,
+    source: &S,
+) -> Result<(Tx<Piece, R>, Rx<Piece, R>), NoMemory>
+    ensures fresh { IfOk result (λ ends. IsFreshLane (of_source (held_in (S.content source.now))) ends.0 ends.1) }
+    ensures open { IfOk result (λ ends. ends.0.is_open ≡ true) }
+{
+    lane_of::<S, R, Brand>(rt, alloc, source)
+}
+
 fn lay_edges<S: Source, R: Wait + Copy>(
     rt: R,
     alloc: Global,
@@ -48,7 +76,7 @@ fn lay_edges<S: Source, R: Wait + Copy>(
     ensures source { IfOk result (λ laid. edge_source_of laid.start ≡ source) }
 {
     match source {
-        Some(source) => match lane(rt, alloc, PIECES) {
+        Some(source) => match lane_for(rt, alloc, &source) {
             Ok((lines, inlet)) => Ok(LaidEdges {
                 start: Some(EdgeStart { source, lines }),
                 inlet: Some(inlet),
@@ -74,7 +102,7 @@ fn lay_device<S: Source, R: Wait + Copy>(
     ensures source { IfOk result (λ laid. laid.start.source ≡ source) }
     ensures edges { IfOk result (λ laid. edge_source_of laid.start.edges ≡ edges) }
 {
-    let (bytes, bytes_rx) = lane(rt, alloc, PIECES)?;
+    let (bytes, bytes_rx) = lane_for(rt, alloc, &source)?;
     let LaidEdges { start, inlet } = lay_edges(rt, alloc, edges)?;
     Ok(Laid {
         start: DeviceStart {
@@ -105,16 +133,19 @@ fn next_edge<S: Source>(edges: &mut IntoIter<Option<S>>) -> Option<S>
 }
 
 /// A lane for each device, and one for its edges if it has a source of them.
-#[tactic(auto, using(crate::proofs::Zips::zip_more))]
+#[tactic(auto, using(serve_threads::proofs::Zips::zip_more))]
 pub(crate) fn lay<S: Source, R: Wait + Copy>(
     rt: R,
     alloc: Global,
     inputs: Vec<S>,
     edges: Vec<Option<S>>,
 ) -> Result<DeviceLanes<S, R>, NoMemory>
+    // Nothing was read from the sources.
     requires inputs { AreUnread S.content S.faults S.quiets inputs.items }
     requires edges { AreUnread S.content S.faults S.quiets (sources_in edges.items) }
     requires each { length edges.items ≡ length inputs.items }
+
+    // The readers of each device begin with its sources and new lanes.
     ensures sources { IfOk result (λ lanes. sources_at lanes.starts.items ≡ inputs.items) }
     ensures edge_sources { IfOk result (λ lanes. edges_at lanes.starts.items ≡ edges.items) }
     ensures fresh { IfOk result (λ lanes. AllZip (IsFreshDevice (source_facts S.Source)) lanes.starts.items lanes.inlets.items) }

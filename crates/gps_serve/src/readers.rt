@@ -1,17 +1,19 @@
 ghost use Rattle.std.specs.Prelude.{◌≡◌, option_map};
 ghost use Rattle.serve_end_settling.specs.Runs.{EdgeCause, EdgesRan, RunCause, source_facts};
-ghost use Rattle.gps_serve.specs.Starts.{edge_start_of};
+ghost use Rattle.gps_serve.specs.Dealt.{UsesShare};
+ghost use Rattle.gps_serve.specs.Starts.{AreTold, EdgesTold, edge_start_of};
 ghost use Rattle.gps_serve.specs.Works.{BytesAre, EdgesAre, JoinsDevice, ReadersAre};
 
-use crate::floor::Floor;
 use crate::starts::{DeviceStart, EdgeStart};
 use gps_lane::Bell;
 use gps_outside::{Clock, Source};
 use serve_end_settling::DeviceRun;
 use serve_threads::{
-    DeviceBells, DeviceReading, EdgeReading, ReaderDone, Work, start_device, start_edges,
+    DeviceBells, DeviceReaderDone, DeviceReading, EdgeReading, ReaderDone, Work, start_device,
+    start_edges,
 };
 use serve_workers::{Dials, SharedClock};
+use stamp_shares::StampShare;
 use std::alloc::Global;
 use std::sync::{Mutex, Wait};
 use std::thread::{Scope, Threads};
@@ -19,8 +21,15 @@ use std::thread::{Scope, Threads};
 /// The readers of a device at work.
 #[derive(Drop)]
 pub(crate) struct DeviceWork<S: Source, D: Dials, R: Wait + Copy> {
-    bytes: Work<ReaderDone<S, R>, DeviceReading<S, R, D>>,
+    bytes: Work<DeviceReaderDone<S, R, D>, DeviceReading<S, R, D>>,
     edges: Option<Work<ReaderDone<S, R>, EdgeReading<S, R>>>,
+}
+
+/// What the readers of a device hand back, and its share of the clock's stamps.
+#[derive(Drop)]
+pub(crate) struct JoinedDevice<S: Source, D: Dials, R: Wait + Copy> {
+    pub(crate) run: DeviceRun<S, R>,
+    pub(crate) share: StampShare<D>,
 }
 
 fn start_edge_work<'s, E, S: Source + Send + 's, R: Wait + Copy + Send + Sync + 's>(
@@ -31,6 +40,7 @@ fn start_edge_work<'s, E, S: Source + Send + 's, R: Wait + Copy + Send + Sync + 
     own: &'s DeviceBells,
     pump: &'s Bell,
 ) -> Option<Work<ReaderDone<S, R>, EdgeReading<S, R>>>
+    requires told { EdgesTold S.content start }
     ensures { EdgesAre start result }
 {
     match start {
@@ -58,10 +68,13 @@ pub(crate) fn start_readers<
     scope: &'s Scope<'s, E>,
     start: DeviceStart<S, R>,
     clock: &'s Mutex<SharedClock<C, D>>,
+    share: StampShare<D>,
     own: &'s DeviceBells,
     pump: &'s Bell,
 ) -> DeviceWork<S, D, R>
-    ensures { ReadersAre start result }
+    requires told { AreTold S.content start }
+    ensures started { ReadersAre start result }
+    ensures share { result.bytes.share.value ≡ share }
 {
     let DeviceStart {
         source,
@@ -69,7 +82,7 @@ pub(crate) fn start_readers<
         edges,
     } = start;
     let bytes = start_device(
-        rt, alloc, scope, source, clock, bytes, &own.bytes, &own.alone, pump,
+        rt, alloc, scope, source, clock, share, bytes, &own.bytes, &own.alone, pump,
     );
     let edges = start_edge_work(rt, alloc, scope, edges, own, pump);
     DeviceWork { bytes, edges }
@@ -94,12 +107,17 @@ fn join_edges<S: Source, R: Wait + Copy, T: Threads>(
 pub(crate) fn join_readers<S: Source, D: Dials, R: Wait + Copy, T: Threads>(
     rt: &T,
     work: DeviceWork<S, D, R>,
-) -> DeviceRun<S, R>
-    ensures ran { JoinsDevice D.may (source_facts S.Source) work result }
-    ensures cause { RunCause S.faults result }
+) -> JoinedDevice<S, D, R>
+    ensures ran { JoinsDevice D.may (source_facts S.Source) work result.run }
+    ensures cause { RunCause S.faults result.run }
+    ensures share { UsesShare work result.run result.share }
 {
     let DeviceWork { bytes, edges } = work;
-    let bytes = bytes.join(rt);
+    let DeviceReaderDone {
+        reader: bytes,
+        share,
+    } = bytes.join(rt);
     let edges = join_edges(rt, edges);
-    DeviceRun { bytes, edges }
+    let run = DeviceRun { bytes, edges };
+    JoinedDevice { run, share }
 }

@@ -2,27 +2,27 @@ ghost use Rattle.std.specs.Prelude.{◌≡◌, ◌≤◌, ◌⊎◌, [], true, f
 ghost use Rattle.std.specs.List.{AllZip, list_all, list_any};
 ghost use Rattle.std.specs.Vec.{vec_len, vec_capacity};
 ghost use Rattle.serve_end_settling.specs.Runs.{RunCause, EachRun, source_facts};
+ghost use Rattle.gps_serve.specs.Dealt.{AreNumbered, SharesUsed, StampedIf};
 ghost use Rattle.gps_serve.specs.Facts.{gate_facts, sink_facts};
-ghost use Rattle.gps_serve.specs.Lost.{link_lacks, run_lacks};
+ghost use Rattle.gps_serve.specs.Lost.{link_out_of_memory, run_out_of_memory};
 ghost use Rattle.gps_serve.specs.Runs.{RanOn};
 ghost use Rattle.gps_serve.specs.Scopes.{CausesIf, CountsIf, FailsIf, RanIf, TendedIf, WatchedIf};
+ghost use Rattle.gps_serve.specs.Starts.{EachTold};
 ghost use Rattle.gps_serve.specs.Statuses.{EachWhole};
-ghost use Rattle.gps_serve.specs.Works.{JoinsDevice, JoinsWatcher, ReadersAre, WatchedBy, WatchesFor};
+ghost use Rattle.gps_serve.specs.Works.{JoinsDevice, JoinsMonitor, ReadersAre, WatchedBy, WatchesFor};
 
-use crate::door::{DoorBegin, DoorDone};
-use crate::door_thread::start_door;
-use crate::floor::Floor;
-use crate::pump::{publish, pump};
-use crate::readers::{DeviceWork, join_readers, start_readers};
+use crate::readers::{DeviceWork, JoinedDevice, join_readers, start_readers};
 use crate::starts::DeviceStart;
 use crate::status::{are_whole, device_lacks, either, session_lacks};
-use crate::waker::{Waker, wake_readers};
 use gps_fixed::NoMemory;
 use gps_hub::HubNaming;
 use gps_outside::{ClientSink, Clock, Door, Source};
+use serve_door::{DoorBegin, DoorDone, start_door};
 use serve_end_settling::DeviceRun;
+use serve_floor::{Floor, Waker, publish, pump, wake_readers};
 use serve_threads::{Bells, MonitorPromise, MonitorStart, ReadingsDone, Work, start_monitor};
 use serve_workers::{Dials, SharedClock};
+use stamp_shares::StampRoll;
 use std::alloc::Global;
 use std::sync::{Mutex, Wait};
 use std::thread;
@@ -39,12 +39,15 @@ pub(crate) struct Setup<
     R: Wait + Copy,
 > {
     starts: Vec<DeviceStart<S, R>>,
-    watchers: Vec<MonitorStart>,
+    monitor_starts: Vec<MonitorStart>,
     door: DoorBegin<S, K, G, J, R>,
+    roll: StampRoll<D>,
     works: Vec<DeviceWork<S, D, R>>,
     runs: Vec<DeviceRun<S, R>>,
     watching: Vec<Work<ReadingsDone, MonitorPromise>>,
     watched: Vec<ReadingsDone>,
+    ghost told: { EachTold S.content starts.items },
+    ghost roll_new: { roll ≡ record { begun = 0; ended = [] } },
     ghost works_none: { works.items ≡ [] },
     ghost runs_none: { runs.items ≡ [] },
     ghost watching_none: { watching.items ≡ [] },
@@ -55,8 +58,8 @@ pub(crate) struct Setup<
     ghost watched_len: { vec_len watched ≡ 0 },
     ghost works_room: { vec_len starts ≤ vec_capacity works },
     ghost runs_room: { vec_len starts ≤ vec_capacity runs },
-    ghost watching_room: { vec_len watchers ≤ vec_capacity watching },
-    ghost watched_room: { vec_len watchers ≤ vec_capacity watched },
+    ghost watching_room: { vec_len monitor_starts ≤ vec_capacity watching },
+    ghost watched_room: { vec_len monitor_starts ≤ vec_capacity watched },
 }
 
 /// What the threads handed back.
@@ -84,10 +87,10 @@ impl<S: Source, K: ClientSink, G: Door<In = S, Out = K>, J: HubNaming, R: Wait +
     pub(crate) fn threads_lack(&self) -> bool
         ensures whole { result ≡ false → EachWhole self.now.watched.items }
         ensures door { result ≡ false → self.now.door.no_memory ≡ false }
-        ensures runs { result ≡ false → list_any run_lacks self.now.runs.items ≡ false }
-        ensures links { result ≡ false → list_any link_lacks self.now.door.runs.items ≡ false }
-        ensures cause { result ≡ true → (self.now.door.no_memory ≡ true) ⊎ (list_any run_lacks self.now.runs.items ≡ true)
-            ⊎ (list_any link_lacks self.now.door.runs.items ≡ true) ⊎ (list_all (λ watch. watch.whole) self.now.watched.items ≡ false) }
+        ensures runs { result ≡ false → list_any run_out_of_memory self.now.runs.items ≡ false }
+        ensures links { result ≡ false → list_any link_out_of_memory self.now.door.runs.items ≡ false }
+        ensures cause { result ≡ true → (self.now.door.no_memory ≡ true) ⊎ (list_any run_out_of_memory self.now.runs.items ≡ true)
+            ⊎ (list_any link_out_of_memory self.now.door.runs.items ≡ true) ⊎ (list_all (λ watch. watch.whole) self.now.watched.items ≡ false) }
     {
         let readers = either(
             device_lacks(self.runs.as_slice()),
@@ -110,7 +113,7 @@ pub(crate) fn room<T: Drop>(alloc: Global, count: usize) -> Result<Vec<T>, NoMem
     }
 }
 
-/// Makes the room.
+/// Makes room for what the threads do and hand back.
 pub(crate) fn set_up<
     S: Source,
     K: ClientSink,
@@ -121,22 +124,26 @@ pub(crate) fn set_up<
 >(
     alloc: Global,
     starts: Vec<DeviceStart<S, R>>,
-    watchers: Vec<MonitorStart>,
+    monitor_starts: Vec<MonitorStart>,
     door: DoorBegin<S, K, G, J, R>,
+    roll: StampRoll<D>,
 ) -> Result<Setup<S, K, G, D, J, R>, NoMemory>
+    requires told { EachTold S.content starts.items }
+    requires roll { roll ≡ record { begun = 0; ended = [] } }
     ensures starts { IfOk result (λ setup. setup.starts ≡ starts) }
-    ensures watchers { IfOk result (λ setup. setup.watchers ≡ watchers) }
+    ensures monitor_starts { IfOk result (λ setup. setup.monitor_starts ≡ monitor_starts) }
     ensures door { IfOk result (λ setup. setup.door ≡ door) }
 {
-    let (devices, units) = (starts.len(), watchers.len());
+    let (devices, units) = (starts.len(), monitor_starts.len());
     let works = room(alloc, devices)?;
     let runs = room(alloc, devices)?;
     let watching = room(alloc, units)?;
     let watched = room(alloc, units)?;
     Ok(Setup {
         starts,
-        watchers,
+        monitor_starts,
         door,
+        roll,
         works,
         runs,
         watching,
@@ -145,32 +152,32 @@ pub(crate) fn set_up<
 }
 
 /// Starts the monitors.
-#[tactic(auto, using(crate::proofs::Zips::ran_none, crate::proofs::Zips::ran_more, crate::proofs::Zips::ran_all))]
-fn start_watchers<'s, E, R: Threads + Wait + Copy + Send + Sync + 's>(
+#[tactic(auto, using(serve_threads::proofs::Zips::ran_none, serve_threads::proofs::Zips::ran_more, serve_threads::proofs::Zips::ran_all))]
+fn start_monitors<'s, E, R: Threads + Wait + Copy + Send + Sync + 's>(
     rt: R,
     alloc: Global,
     scope: &'s Scope<'s, E>,
-    watchers: Vec<MonitorStart>,
+    monitor_starts: Vec<MonitorStart>,
     tries: u32,
     bells: &'s Bells,
     room: Vec<Work<ReadingsDone, MonitorPromise>>,
 ) -> Vec<Work<ReadingsDone, MonitorPromise>>
     requires none { room.items ≡ [] }
     requires empty { vec_len room ≡ 0 }
-    requires enough { vec_len watchers ≤ vec_capacity room }
-    ensures started { AllZip (WatchesFor tries) watchers.items result.items }
-    ensures count { vec_len result ≡ vec_len watchers }
+    requires enough { vec_len monitor_starts ≤ vec_capacity room }
+    ensures started { AllZip (WatchesFor tries) monitor_starts.items result.items }
+    ensures count { vec_len result ≡ vec_len monitor_starts }
 {
     let mut works = room;
-    'watchers: for watcher in watchers {
+    'monitor_starts: for monitor_start in monitor_starts {
         let own = bells.monitor(works.len());
-        works.push_reserved(start_monitor(rt, alloc, scope, watcher, tries, own));
+        works.push_reserved(start_monitor(rt, alloc, scope, monitor_start, tries, own));
     }
     works
 }
 
 /// Starts the readers of the devices.
-#[tactic(auto, using(crate::proofs::Zips::ran_none, crate::proofs::Zips::ran_more, crate::proofs::Zips::ran_all))]
+#[tactic(auto, using(serve_threads::proofs::Zips::ran_none, serve_threads::proofs::Zips::ran_more, serve_threads::proofs::Zips::ran_all, crate::proofs::Stamps::none_numbered, crate::proofs::Stamps::none_counted))]
 fn start_devices<
     's,
     E,
@@ -184,47 +191,68 @@ fn start_devices<
     scope: &'s Scope<'s, E>,
     starts: Vec<DeviceStart<S, R>>,
     clock: &'s Mutex<SharedClock<C, D>>,
+    roll: &mut StampRoll<D>,
     bells: &'s Bells,
     room: Vec<DeviceWork<S, D, R>>,
 ) -> Vec<DeviceWork<S, D, R>>
+    // The room is empty, and large enough.
+    requires told { EachTold S.content starts.items }
     requires none { room.items ≡ [] }
     requires empty { vec_len room ≡ 0 }
     requires enough { vec_len starts ≤ vec_capacity room }
+
+    // The readers of each device work on its start.
     ensures started { AllZip ReadersAre starts.items result.items }
     ensures count { vec_len result ≡ vec_len starts }
+
+    // Each device has the next share of the clock's stamps; no share has come back.
+    ensures shares { AreNumbered roll.old.begun result.items }
+    ensures ended { roll.new.ended ≡ roll.old.ended }
 {
     let mut works = room;
     'starts: for start in starts {
         let own = bells.device(works.len());
-        works.push_reserved(start_readers(rt, alloc, scope, start, clock, own, &bells.pump));
+        let share = clock.lock(&rt).begin(roll);
+        works.push_reserved(start_readers(rt, alloc, scope, start, clock, share, own, &bells.pump));
     }
     works
 }
 
-/// Waits for the readers of the devices.
-#[tactic(auto, using(crate::proofs::Zips::ran_none, crate::proofs::Zips::ran_more, crate::proofs::Zips::ran_all, serve_end_settling::proofs::Causes::each_run_more))]
-fn join_devices<S: Source, D: Dials, R: Wait + Copy, T: Threads>(
+/// Waits for the readers of the devices, and takes in their shares of the clock's stamps.
+#[tactic(auto, using(serve_threads::proofs::Zips::ran_none, serve_threads::proofs::Zips::ran_more, serve_threads::proofs::Zips::ran_all, crate::proofs::Stamps::none_used, serve_end_settling::proofs::Causes::each_run_more))]
+fn join_devices<S: Source, C: Clock, D: Dials, R: Wait + Copy, T: Threads + Wait>(
     rt: &T,
+    clock: &Mutex<SharedClock<C, D>>,
+    roll: &mut StampRoll<D>,
     works: Vec<DeviceWork<S, D, R>>,
     room: Vec<DeviceRun<S, R>>,
 ) -> Vec<DeviceRun<S, R>>
+    // No share of the stamps has come back, and the room is empty and large enough.
+    requires no_share { roll.old.ended ≡ [] }
     requires none { room.items ≡ [] }
     requires empty { vec_len room ≡ 0 }
     requires enough { vec_len works ≤ vec_capacity room }
+
+    // The readers of each device did their work, and met only faults of its sources.
     ensures joined { AllZip (JoinsDevice D.may (source_facts S.Source)) works.items result.items }
     ensures causes { EachRun (RunCause S.faults) result.items }
     ensures count { vec_len result ≡ vec_len works }
+
+    // The pieces of each device have the stamps of its share.
+    ensures shares { SharesUsed works.items result.items roll.new.ended }
 {
     let mut runs = room;
     'works: for work in works {
-        runs.push_reserved(join_readers(rt, work));
+        let JoinedDevice { run, share } = join_readers(rt, work);
+        clock.lock(rt).end(roll, share);
+        runs.push_reserved(run);
     }
     runs
 }
 
 /// Waits for the monitors.
-#[tactic(auto, using(crate::proofs::Zips::ran_none, crate::proofs::Zips::ran_more, crate::proofs::Zips::ran_all))]
-fn join_watchers<T: Threads>(
+#[tactic(auto, using(serve_threads::proofs::Zips::ran_none, serve_threads::proofs::Zips::ran_more, serve_threads::proofs::Zips::ran_all))]
+fn join_monitors<T: Threads>(
     rt: &T,
     works: Vec<Work<ReadingsDone, MonitorPromise>>,
     room: Vec<ReadingsDone>,
@@ -232,7 +260,7 @@ fn join_watchers<T: Threads>(
     requires none { room.items ≡ [] }
     requires empty { vec_len room ≡ 0 }
     requires enough { vec_len works ≤ vec_capacity room }
-    ensures joined { AllZip JoinsWatcher works.items result.items }
+    ensures joined { AllZip JoinsMonitor works.items result.items }
     ensures count { vec_len result ≡ vec_len works }
 {
     let mut watched = room;
@@ -242,9 +270,9 @@ fn join_watchers<T: Threads>(
     watched
 }
 
-/// Starts all threads, pumps until all devices have stopped, and joins them. None if there is no thread for the door or the publisher;
-/// then no other was started.
-#[tactic(auto, using(crate::proofs::Zips::devices_ran, crate::proofs::Zips::watchers_ran))]
+/// Starts all threads, pumps until all devices have stopped, and joins them. None if there is no thread for the door or the publisher:
+/// then no reader and no monitor was started.
+#[tactic(auto, using(crate::proofs::Started::devices_ran, crate::proofs::Started::monitors_ran))]
 fn work<
     's,
     E,
@@ -267,18 +295,25 @@ fn work<
     tries: u32,
     setup: Setup<S, K, G, D, J, R>,
 ) -> Option<Ended<S, K, G, J, R>>
+    // What became of the door and its links.
     ensures fails { FailsIf G.faults setup.door.gate result }
     ensures tended { TendedIf (source_facts S.Source) (sink_facts K.ClientSink)
         (gate_facts G.Door) setup.door.queue setup.door.gate result }
+
+    // What the readers of the devices did.
     ensures causes { CausesIf S.faults result }
     ensures ran { RanIf D.may (source_facts S.Source) setup.starts.items result }
-    ensures watched { WatchedIf tries setup.watchers.items result }
-    ensures counts { CountsIf (vec_len setup.starts) (vec_len setup.watchers) result }
+    ensures stamped { StampedIf D.first setup.starts.items result }
+
+    // What the monitors did, and how many results there are.
+    ensures watched { WatchedIf tries setup.monitor_starts.items result }
+    ensures counts { CountsIf (vec_len setup.starts) (vec_len setup.monitor_starts) result }
 {
     let Setup {
         starts,
-        watchers,
+        monitor_starts,
         door,
+        mut roll,
         works,
         runs,
         watching,
@@ -294,17 +329,18 @@ fn work<
         publisher.join(&rt);
         return None;
     };
-    let watching = start_watchers(rt, alloc, scope, watchers, tries, bells, watching);
-    let works = start_devices(rt, alloc, scope, starts, clock, bells, works);
+    let watching = start_monitors(rt, alloc, scope, monitor_starts, tries, bells, watching);
+    let works = start_devices(rt, alloc, scope, starts, clock, &mut roll, bells, works);
     pump(&rt, alloc, floor, bells, queue);
     // The door worker finds its bell closed, once its call returns.
     if let Some(closer) = closer {
         closer.close();
     }
     let held = wake_readers(&rt, floor, waker);
-    let runs = join_devices(&rt, works, runs);
+    let runs = join_devices(&rt, clock, &mut roll, works, runs);
     drop(held);
-    let watched = join_watchers(&rt, watching, watched);
+    clock.lock(&rt).settle(roll);
+    let watched = join_monitors(&rt, watching, watched);
     publisher.join(&rt);
     let door = door.join(&rt);
     Some(Ended {
@@ -335,13 +371,19 @@ pub(crate) fn in_scope<
     tries: u32,
     setup: Setup<S, K, G, D, J, R>,
 ) -> Option<Ended<S, K, G, J, R>>
+    // What became of the door and its links.
     ensures fails { FailsIf G.faults setup.door.gate result }
     ensures tended { TendedIf (source_facts S.Source) (sink_facts K.ClientSink)
         (gate_facts G.Door) setup.door.queue setup.door.gate result }
+
+    // What the readers of the devices did.
     ensures causes { CausesIf S.faults result }
     ensures ran { RanIf D.may (source_facts S.Source) setup.starts.items result }
-    ensures watched { WatchedIf tries setup.watchers.items result }
-    ensures counts { CountsIf (vec_len setup.starts) (vec_len setup.watchers) result }
+    ensures stamped { StampedIf D.first setup.starts.items result }
+
+    // What the monitors did, and how many results there are.
+    ensures watched { WatchedIf tries setup.monitor_starts.items result }
+    ensures counts { CountsIf (vec_len setup.starts) (vec_len setup.monitor_starts) result }
 {
     thread::scope(
         thread::scope_env(),

@@ -51,13 +51,20 @@ fn left_of<S: Source, D: Dials, R: Wait + Copy>(
     inlets: Inlets<R>,
     end: Option<DeviceEnd>,
 ) -> Left<S, R>
+    // The readers worked on these lanes, and met only faults of the device's sources.
     requires ready { DeviceReady D.may (source_facts S.Source) inlets run }
     requires cause { RunCause S.faults run }
+
+    // What is left of the device.
     ensures served { DeviceServed D.may (source_facts S.Source) inlets result.device }
     ensures end { result.device.end ≡ end }
+
+    // It failed exactly if one of its sources did. If not, its lanes tell of no failure.
     ensures failed { result.failed ≡ true → DeviceFailed S.faults result.device }
     ensures missed { result.failed ≡ false → DeviceFailed S.faults result.device → ⊥ }
     ensures untold { result.failed ≡ false → TellsNoFault result.device }
+
+    // Its sources and the sending ends of its lanes are those of its readers.
     ensures source { result.device.source ≡ Some run.bytes.source }
     ensures edges { result.device.edges ≡ source_of run.edges }
     ensures bytes_tx { result.device.bytes_tx ≡ run.bytes.pieces }
@@ -83,17 +90,26 @@ pub(crate) fn devices_done<S: Source, D: Dials, R: Wait + Copy>(
     ends: Vec<Option<DeviceEnd>>,
     room: Vec<DeviceDone<S, R>>,
 ) -> DevicesDone<S, R>
+    // There is a run and an end for each device.
     requires ready { AllZip (DeviceReady D.may (source_facts S.Source)) inlets.items runs.items }
     requires causes { EachRun (RunCause S.faults) runs.items }
     requires ends { length ends.items ≡ length inlets.items }
+
+    // The room is empty, and large enough.
     requires none { room.items ≡ [] }
     requires empty { vec_len room ≡ 0 }
     requires enough { vec_len runs ≤ vec_capacity room }
+
+    // What is left of each device, in order.
     ensures served { AllZip (DeviceServed D.may (source_facts S.Source)) inlets.items result.devices.items }
     ensures ends { map (λ device. device.end) result.devices.items ≡ ends.items }
+
+    // It failed exactly if a source of a device did. If not, no lane tells of a failure.
     ensures failed { result.failed ≡ true → AnyOf (DeviceFailed S.faults) result.devices.items }
     ensures missed { result.failed ≡ false → AnyOf (DeviceFailed S.faults) result.devices.items → ⊥ }
     ensures untold { result.failed ≡ false → EachRun TellsNoFault result.devices.items }
+
+    // Each device has what its readers handed back.
     ensures left { AllZip IsLeftOf runs.items result.devices.items }
 {
     let mut devices = room;
@@ -119,11 +135,16 @@ fn settled<S: Source, K: ClientSink, R: Wait + Copy>(
     run: LinkDone<S, K, R>,
     input: Rx<Piece, R>,
 ) -> SessionDone<S, K, R>
+    // The book has the session, whose threads did their work.
     requires there { number < length book.old.sessions }
     requires ready { (free : MemberView)
         → SessionReady (source_facts S.Source) (sink_facts K.ClientSink) (get_or book.old.sessions number free) input run }
+
+    // The book stays as it is.
     ensures book { book.new ≡ book.old }
     ensures number { result.number ≡ number }
+
+    // What is left of its link and its lanes.
     ensures link { IsLeftOfLink (source_facts S.Source) (sink_facts K.ClientSink) run result }
     ensures input { InputLeft (source_facts S.Source) input result }
     ensures outlet { (free : MemberView) → OutletServed (sink_facts K.ClientSink) (get_or book.old.sessions number free) result }
@@ -132,7 +153,7 @@ fn settled<S: Source, K: ClientSink, R: Wait + Copy>(
 }
 
 /// Puts together what is left of the sessions, in order.
-#[tactic(auto, using(crate::proofs::Sessions::sessions_begin, crate::proofs::Zips::ran_begin))]
+#[tactic(auto, using(crate::proofs::Sessions::sessions_begin, serve_threads::proofs::Zips::ran_begin))]
 pub(crate) fn sessions_done<S: Source, K: ClientSink, R: Wait + Copy>(
     rt: &R,
     book: &mut Book<Tx<Item, R>>,
@@ -141,9 +162,13 @@ pub(crate) fn sessions_done<S: Source, K: ClientSink, R: Wait + Copy>(
     room: Vec<SessionDone<S, K, R>>,
 ) -> Vec<SessionDone<S, K, R>>
     requires ready { AreReady (source_facts S.Source) (sink_facts K.ClientSink) book.old.sessions inputs.items runs.items }
+
+    // The room is empty, and large enough.
     requires none { room.items ≡ [] }
     requires empty { vec_len room ≡ 0 }
     requires enough { vec_len runs ≤ vec_capacity room }
+
+    // The book stays, and each session has what its threads handed back.
     ensures book { book.new ≡ book.old }
     ensures served { AllServed (source_facts S.Source) (sink_facts K.ClientSink) book.old.sessions inputs.items result.items }
     ensures links { AllZip (IsLeftOfLink (source_facts S.Source) (sink_facts K.ClientSink)) runs.items result.items }
@@ -186,11 +211,16 @@ pub(crate) fn monitors_done<R: Wait + Copy>(
     no_memory: bool,
     room: Vec<MonitorDone>,
 ) -> Vec<MonitorDone>
+    // Each monitor did its work.
     requires ready { AllZip (MonitorReady tries no_memory) (watched_units tries book.old.units) watched.items }
+
+    // The room is empty, and large enough. There are at most 16 units.
     requires none { room.items ≡ [] }
     requires empty { vec_len room ≡ 0 }
     requires enough { vec_len watched ≤ vec_capacity room }
     requires few { length book.old.units ≤ 16 }
+
+    // The book stays, and there is one result for each unit that has a monitor.
     ensures book { book.new ≡ book.old }
     ensures numbers { map (λ monitor. monitor.unit) result.items ≡ range_with_len 0 (length result.items) }
     ensures served { AllZip (MonitorServed tries no_memory) (watched_units tries book.old.units) result.items }

@@ -2,8 +2,8 @@ ghost use Rattle.std.specs.Prelude.{◌≡◌, ◌⊎◌, ◌||◌, true, false}
 ghost use Rattle.std.specs.List.{All, list_all, list_any};
 ghost use Rattle.hub_promise.specs.Given.{is_end};
 ghost use Rattle.serve_end_settling.specs.Failing.{AnyOf};
-ghost use Rattle.gps_serve.specs.Lost.{IsNotCut, IsNotLost, WasCut, is_cut, is_lost, is_short, lines_lack, link_lacks, run_lacks};
-ghost use Rattle.gps_serve.specs.Statuses.{lacks_memory};
+ghost use Rattle.gps_serve.specs.Lost.{IsNotClosedOutOfMemory, IsNotLostOutOfMemory, WasClosedOutOfMemory, closed_out_of_memory, lost_out_of_memory, ended_out_of_memory, lines_out_of_memory, link_out_of_memory, run_out_of_memory};
+ghost use Rattle.gps_serve.specs.Statuses.{lacks_memory, outcome_status};
 
 use gps_hub::{DeviceEnd, Ending};
 use gps_lane::Tx;
@@ -34,31 +34,23 @@ pub(crate) struct DaemonOutcome {
 }
 
 impl DaemonOutcome {
-    /// Whether it was out of memory: that was seen, or a device was lost though no source failed. If one failed, a device that was lost
-    /// out of memory is among what was seen.
-    pub(crate) fn lacks(&self) -> bool
+    /// Whether the daemon was out of memory: that was seen, or a device was lost though no source failed. If one failed, only what was
+    /// seen counts: it includes each device that was lost for lack of memory.
+    pub(crate) fn is_out_of_memory(&self) -> bool
         ensures { result ≡ lacks_memory self.now }
     {
         self.no_memory || (!self.read_fault && !self.ended)
     }
 
-    /// The status: of the faults that were met the first of these.
+    /// The status: 3 after a read fault, else 8 after a fault of the door, else 7 if it was out of memory, else 0.
     pub(crate) fn status(&self) -> u8
-        ensures range { (result ≡ 0) ⊎ (result ≡ 3) ⊎ (result ≡ 7) ⊎ (result ≡ 8) }
-        ensures three { result ≡ 3 → self.now.read_fault ≡ true }
-        ensures three_first { self.now.read_fault ≡ true → result ≡ 3 }
-        ensures eight { result ≡ 8 → self.now.door_fault ≡ true }
-        ensures door { self.now.door_fault ≡ true → (result ≡ 3) ⊎ (result ≡ 8) }
-        ensures seven { result ≡ 7 → lacks_memory self.now ≡ true }
-        ensures zero { result ≡ 0 → (lacks_memory self.now ≡ false) × (self.now.ended ≡ true) }
-        ensures eight_first { result ≡ 8 → self.now.read_fault ≡ false }
-        ensures seven_last { result ≡ 7 → (self.now.read_fault ≡ false) × (self.now.door_fault ≡ false) }
+        ensures { result ≡ outcome_status self.now }
     {
         if self.read_fault {
             3
         } else if self.door_fault {
             8
-        } else if self.lacks() {
+        } else if self.is_out_of_memory() {
             7
         } else {
             0
@@ -67,8 +59,8 @@ impl DaemonOutcome {
 }
 
 /// Whether a reader ended because it was out of memory.
-fn is_short(ending: Option<Ending>) -> bool
-    ensures { result ≡ is_short ending }
+fn ended_out_of_memory(ending: Option<Ending>) -> bool
+    ensures { result ≡ ended_out_of_memory ending }
 {
     match ending {
         Some(Ending::NoMemory) => true,
@@ -77,27 +69,30 @@ fn is_short(ending: Option<Ending>) -> bool
 }
 
 /// Whether the reader of a device's edges did so, if there is one.
-fn lines_lack<S: Source, R: Wait + Copy>(reader: &Option<ReaderDone<S, R>>) -> bool
-    ensures { result ≡ lines_lack reader.now }
+fn lines_out_of_memory<S: Source, R: Wait + Copy>(reader: &Option<ReaderDone<S, R>>) -> bool
+    ensures { result ≡ lines_out_of_memory reader.now }
 {
     match reader {
-        Some(reader) => is_short(reader.ending),
+        Some(reader) => ended_out_of_memory(reader.ending),
         None => false,
     }
 }
 
 /// Whether a reader of a device did so.
-fn run_lacks<S: Source, R: Wait + Copy>(run: &DeviceRun<S, R>) -> bool
-    ensures { result ≡ run_lacks run.now }
+fn run_out_of_memory<S: Source, R: Wait + Copy>(run: &DeviceRun<S, R>) -> bool
+    ensures { result ≡ run_out_of_memory run.now }
 {
-    either(is_short(run.bytes.ending), lines_lack(&run.edges))
+    either(
+        ended_out_of_memory(run.bytes.ending),
+        lines_out_of_memory(&run.edges),
+    )
 }
 
 /// Whether a reader of any device did so.
 pub(crate) fn device_lacks<S: Source, R: Wait + Copy>(runs: &[DeviceRun<S, R>]) -> bool
-    ensures { result ≡ list_any run_lacks runs.now }
+    ensures { result ≡ list_any run_out_of_memory runs.now }
 {
-    runs.iter().any(|run| run_lacks(run))
+    runs.iter().any(|run| run_out_of_memory(run))
 }
 
 /// Whether each device has ended.
@@ -108,31 +103,32 @@ pub(crate) fn all_ended(ends: &[Option<DeviceEnd>]) -> bool
 }
 
 /// Whether a device was lost because it was out of memory.
-fn is_lost(end: Option<DeviceEnd>) -> bool
-    ensures { result ≡ is_lost end }
+fn lost_out_of_memory(end: Option<DeviceEnd>) -> bool
+    ensures { result ≡ lost_out_of_memory end }
 {
     end == Some(DeviceEnd::NoMemory)
 }
 
 /// Whether any device was lost because it was out of memory.
 fn ends_lack(ends: &[Option<DeviceEnd>]) -> bool
-    ensures { result ≡ list_any is_lost ends.now }
+    ensures { result ≡ list_any lost_out_of_memory ends.now }
 {
-    ends.iter().any(|end| is_lost(*end))
+    ends.iter().any(|end| lost_out_of_memory(*end))
 }
 
 /// Whether the reader of any session ended because it was out of memory.
 pub(crate) fn session_lacks<S: Source, K: ClientSink, R: Wait + Copy>(
     runs: &[LinkDone<S, K, R>],
 ) -> bool
-    ensures { result ≡ list_any link_lacks runs.now }
+    ensures { result ≡ list_any link_out_of_memory runs.now }
 {
-    runs.iter().any(|run| is_short(run.reader.ending))
+    runs.iter()
+        .any(|run| ended_out_of_memory(run.reader.ending))
 }
 
 /// Whether a session was closed because it was out of memory.
-fn is_cut(closing: Option<(u64, Close)>) -> bool
-    ensures { result ≡ is_cut closing }
+fn closed_out_of_memory(closing: Option<(u64, Close)>) -> bool
+    ensures { result ≡ closed_out_of_memory closing }
 {
     match closing {
         Some((_, why)) => why == Close::NoMemory,
@@ -142,14 +138,17 @@ fn is_cut(closing: Option<(u64, Close)>) -> bool
 
 /// Whether the book closed a session because it was out of memory.
 fn book_lacks<R: Wait + Copy>(book: &Book<Tx<Item, R>>) -> bool
-    ensures kept { result ≡ false → All (λ session. IsNotCut session.session.closing) book.now.sessions }
-    ensures cut { result ≡ true → AnyOf WasCut book.now.sessions }
+    ensures kept { result ≡ false → All (λ session. IsNotClosedOutOfMemory session.session.closing) book.now.sessions }
+    ensures cut { result ≡ true → AnyOf WasClosedOutOfMemory book.now.sessions }
 {
-    let mut lacks = false;
+    let mut is_out_of_memory = false;
     'sessions: for session in 0..book.opened() {
-        lacks = either(lacks, is_cut(book.closing(session)));
+        is_out_of_memory = either(
+            is_out_of_memory,
+            closed_out_of_memory(book.closing(session)),
+        );
     }
-    lacks
+    is_out_of_memory
 }
 
 /// Whether each monitor made all its readings, as it does unless it is out of memory.
@@ -160,15 +159,15 @@ pub(crate) fn are_whole(watched: &[ReadingsDone]) -> bool
 }
 
 /// Whether the daemon was out of memory: a thread, or the book for a device or a session.
-pub(crate) fn lacked<R: Wait + Copy>(
+pub(crate) fn was_out_of_memory<R: Wait + Copy>(
     by_threads: bool,
     book: &Book<Tx<Item, R>>,
     ends: &[Option<DeviceEnd>],
 ) -> bool
     ensures threads { result ≡ false → by_threads ≡ false }
-    ensures devices { result ≡ false → All IsNotLost ends.now }
-    ensures sessions { result ≡ false → All (λ session. IsNotCut session.session.closing) book.now.sessions }
-    ensures cause { result ≡ true → (by_threads ≡ true) ⊎ (list_any is_lost ends.now ≡ true) ⊎ AnyOf WasCut book.now.sessions }
+    ensures devices { result ≡ false → All IsNotLostOutOfMemory ends.now }
+    ensures sessions { result ≡ false → All (λ session. IsNotClosedOutOfMemory session.session.closing) book.now.sessions }
+    ensures cause { result ≡ true → (by_threads ≡ true) ⊎ (list_any lost_out_of_memory ends.now ≡ true) ⊎ AnyOf WasClosedOutOfMemory book.now.sessions }
 {
     let by_book = either(ends_lack(ends), book_lacks(book));
     either(by_threads, by_book)

@@ -15,7 +15,7 @@ use Rattle.output_lines.specs.Readings.{reading_line}
 use Rattle.serve_end_parts.specs.declared.done.MonitorDone.{MonitorDone}
 use Rattle.serve_end_parts.specs.declared.done.SessionDone.{SessionDone}
 
--- the closing line of a session that was closed, and nothing of another
+-- the closing line of a closed session, and nothing for an open one
 abbrev pub closed_text : ℕ → SessionEnd → MemberView → List ℕ
 closed_text number end a = option_map_or (λ (closing : ℕ × Close). closing_line number end closing.1 a.session.items) a.session.closing []
 
@@ -39,6 +39,6 @@ monitor_text done = option_map_or (λ (pair : Numbered). reading_line done.unit 
 abbrev pub book_text : {S K R : Type 0} → BookView → List (SessionDone S K R) → List MonitorDone → List ℕ
 book_text book sessions monitors = flat_map (session_text book.sessions) sessions ++ units_text book.units ++ flat_map monitor_text monitors
 
--- and nothing if there is no book
+-- the same, or nothing if there is no book
 abbrev pub text_of : {S K R : Type 0} → Option BookView → List (SessionDone S K R) → List MonitorDone → List ℕ
 text_of book sessions monitors = option_map_or (λ (b : BookView). book_text b sessions monitors) book []

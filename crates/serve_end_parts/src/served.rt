@@ -20,18 +20,23 @@ const UNITS: u8 = 16;
 /// What a daemon hands back: its status, and all that its threads worked with.
 #[derive(Drop)]
 pub struct Served<W: World, R: Wait + Copy> {
+    /// The exit status: 0, 2, 3, 7 or 8.
     pub status: u8,
-    /// None if nothing was served: something could not be opened, it was out of memory before the threads had begun, or there was no
-    /// thread for the door or the publisher.
+    /// None if nothing was served: something could not be opened, the daemon was out of memory before the threads had begun, or
+    /// there was no thread for the door or the publisher.
     pub book: Option<Book<Tx<Item, R>>>,
+    /// One for each device, in the order of the plan; none if nothing was served.
     pub devices: Vec<DeviceDone<W::In, R>>,
+    /// One for each session, in the order of their numbers.
     pub sessions: Vec<SessionDone<W::In, W::Out, R>>,
+    /// One for each unit that has a monitor, in the order of the units.
     pub monitors: Vec<MonitorDone>,
+    /// The door; none if nothing was served.
     pub gate: Option<W::Gate>,
     pub world: W,
-    /// How many links were dropped because too many sessions were there; at its greatest value it stays there.
+    /// How many links were dropped because there were too many sessions; it saturates.
     pub full: u64,
-    /// Whether it was out of memory.
+    /// Whether the daemon was out of memory.
     pub no_memory: bool,
 }
 

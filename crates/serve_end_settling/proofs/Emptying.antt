@@ -1,4 +1,4 @@
--- What a session's outlet still held is written behind what its writer wrote.
+-- What a session's outlet still held is written after what its writer wrote.
 use Rattle.std.proofs.Common.{◌≡◌, ◌≤◌, ◌<◌, ℕ, true, List, [], ◌∷◌, ◌++◌, length, append_assoc, append-nil, Option, None, refl, sym, ◌∙◌, ap, subst, arith}
 use Rattle.std.specs.Prelude.{option_to_list}
 use Rattle.std.specs.List.{concat}
@@ -36,7 +36,7 @@ pub wrote_on : (end : WriterEnd) (rx mid rx' : Taking (List ℕ)) (before betwee
     → Wrote Drained rx mid before between faults faults' → Wrote end mid rx' between after faults' faults'' → Wrote end rx rx' before after faults faults''
 wrote_on end rx mid rx' before between after faults faults' faults'' one two = record {
   writes = writes_on end rx.got mid.got rx'.got before between after one.writes two.writes;
-  lane = two.lane ∙ ap (λ (x : Taking (List ℕ)). record { lane = x.lane; got = rx'.got }) one.lane;
+  lane = two.lane ∙ ap (λ (x : Taking (List ℕ)). record x { got = rx'.got }) one.lane;
   faults_stay = let p = one.faults_stay in let q = two.faults_stay in omega arith;
   failed = λ e. let p = one.faults_stay in let q = two.failed e in omega (arith, q);
   sound = λ e. two.sound e ∙ one.sound refl;
@@ -65,7 +65,7 @@ wrote_item rx mid rx' item before between after faults faults' faults'' one is w
     wrote_on Drained rx mid rx' before between after faults faults' faults'' one (record {
       writes = subst (λ (l : List (List ℕ)). Writes Drained mid.got l between after) (sym (ap (λ (x : Taking (List ℕ)). x.got) is))
           (one_item mid.got item between after wrote);
-      lane = ap (λ (x : Taking (List ℕ)). record { lane = x.lane; got = rx'.got }) is;
+      lane = ap (λ (x : Taking (List ℕ)). record x { got = rx'.got }) is;
       faults_stay = omega (arith, same);
       failed = λ (e : Drained ≡ WriteFault). absurd (cc);
       sound = λ e. same;
@@ -79,7 +79,7 @@ wrote_part rx mid rx' item before between after faults faults' faults'' one is w
     wrote_on WriteFault rx mid rx' before between after faults faults' faults'' one (record {
       writes = subst (λ (l : List (List ℕ)). Writes WriteFault mid.got l between after) (sym (ap (λ (x : Taking (List ℕ)). x.got) is))
           (part_of_item mid.got item between after wrote);
-      lane = ap (λ (x : Taking (List ℕ)). record { lane = x.lane; got = rx'.got }) is;
+      lane = ap (λ (x : Taking (List ℕ)). record x { got = rx'.got }) is;
       faults_stay = stay;
       failed = λ e. rose;
       sound = λ (e : WriteFault ≡ Drained). absurd (cc);
@@ -101,7 +101,7 @@ wrote_less rx mid rx' item before after faults faults' one is =
         wrote = rw (concat-append fresh more)
             (goes_as (AppendsPart (concat fresh)) (AppendsPart (concat fresh ++ concat more)) before after (first_part (concat fresh) (concat more)) one.writes.wrote);
       };
-      lane = ap (λ (x : Taking (List ℕ)). record { lane = x.lane; got = rx'.got }) (is ∙ ap (λ (x : Taking (List ℕ)). record { lane = x.lane; got = mid.got ++ more }) one.lane);
+      lane = ap (λ (x : Taking (List ℕ)). record x { got = rx'.got }) (is ∙ ap (λ (x : Taking (List ℕ)). record x { got = mid.got ++ more }) one.lane);
       faults_stay = one.faults_stay;
       failed = one.failed;
       sound = one.sound;

@@ -1,4 +1,4 @@
--- Behind the piece that tells how its source ended a reader puts nothing, and so nothing is got there.
+-- After the piece that tells how its source ended, a reader puts nothing, so nothing more is received.
 use Rattle.std.proofs.Common.{◌≡◌, ℕ, List, [], ◌∷◌, ◌++◌, length, length-append, append_assoc, append-nil, Option, Some, None, IfNone, inl, inr, refl, sym, ◌∙◌, ap, subst, drop, arith}
 use Rattle.std.specs.Prelude.{option_to_list}
 use Rattle.std.specs.Option.{option_or}
@@ -13,7 +13,7 @@ use Rattle.serve_workers.specs.Readings.{Each, IsDevicePiece, IsInputPiece, last
 use Rattle.gps_fixed.specs.Moment.{Moment}
 use Rattle.serve_threads.specs.declared.reading.ReaderDone.{ReaderDone}
 use Rattle.serve_end_settling.specs.declared.device.DeviceRun.{DeviceRun}
-use Rattle.serve_end_settling.specs.Lanes.{AreEnds, DevicesTellLast, EdgesTellLast, OneMoreAtMost, OneMoreOfEach, OneMoreOfSome, SessionsTellLast, Settles, SettlesSome, TellsLast, lanes, tx_of}
+use Rattle.serve_end_settling.specs.Lanes.{AreEnds, DevicesTellLast, EdgesTellLast, OneMoreAtMost, OneMoreOfEach, SessionsTellLast, Settles, SettlesSome, TellsLast, ZipOption, lanes, tx_of}
 use Rattle.serve_end_settling.specs.Runs.{EdgeStartsEmpty, EdgesRan, Ran, ReaderStart, ReaderStarts, SourceFacts, StartsEmpty}
 
 untold_both : (later first : Option Ending) → option_or later first ≡ None → (later ≡ None) × (first ≡ None)
@@ -120,7 +120,7 @@ edges_tell_last ending put put' before after hands none =
     tells_last (line_pieces hands.lines) put put' ending hands.puts none (lines_untold hands.lines)
 
 edges_one_more : {S R : Type 0} (facts : SourceFacts S) (start : Option (ReaderStart S)) (run : Option (ReaderDone S R)) (rx rx' : Option (Taking Piece))
-    → AreEnds (tx_of run) rx → SettlesSome (tx_of run) rx rx' → EdgesRan facts start run → EdgeStartsEmpty start → OneMoreOfSome rx rx'
+    → AreEnds (tx_of run) rx → SettlesSome (tx_of run) rx rx' → EdgesRan facts start run → EdgeStartsEmpty start → ZipOption OneMoreAtMost rx rx'
 edges_one_more facts None None None None ends settles ran none = tt
 edges_one_more facts None None None (Some rx') ends settles ran none = absurd (cc)
 edges_one_more facts None None (Some rx) rx' ends settles ran none = absurd ends

@@ -36,11 +36,11 @@ source_of {S} {R} reader = option_map (λ (r : ReaderDone S R). r.source) reader
 abbrev pub RunFailed : {S R : Type 0} → (S → ℕ) → DeviceRun S R → Type 0
 RunFailed faults run = SourceFailed faults (Some run.bytes.source) ⊎ SourceFailed faults (source_of run.edges)
 
--- and as the device is handed back
+-- the same, as the device is handed back
 abbrev pub DeviceFailed : {S R : Type 0} → (S → ℕ) → DeviceDone S R → Type 0
 DeviceFailed faults device = SourceFailed faults device.source ⊎ SourceFailed faults device.edges
 
--- it holds of one of these
+-- P holds of one of these
 abbrev pub AnyOf : {X : Type 0} → (X → Type 0) → List X → Type 0
 AnyOf P [] = ⊥
 AnyOf P (x ∷ xs) = P x ⊎ AnyOf P xs

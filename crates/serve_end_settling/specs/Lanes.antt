@@ -1,4 +1,4 @@
--- A lane that is settled once no thread works on it: one more piece is got, if it holds one.
+-- A lane that is settled once no thread works on it: one more piece is received, if it holds one.
 use Rattle.std.specs.Prelude.{◌≡◌, ◌⊎◌, List, [], ◌∷◌, ◌++◌, Option, Some, None, option_map, option_to_list}
 use Rattle.gps_fixed.specs.Moment.{Moment}
 use Rattle.gps_lane.specs.Ends.{Putting, Taking}
@@ -13,6 +13,13 @@ use Rattle.serve_threads.specs.declared.reading.ReaderDone.{ReaderDone}
 use Rattle.serve_workers.specs.EdgeLines.{HandsLines}
 use Rattle.serve_workers.specs.Readings.{HandsOn, IsDevicePiece, IsInputPiece, last_piece}
 
+-- both are there and P holds of them, or neither is there
+abbrev pub ZipOption : {A B : Type 0} → (A → B → Type 0) → Option A → Option B → Type 0
+ZipOption P None None = Unit {0}
+ZipOption P None (Some b) = ⊥
+ZipOption P (Some a) None = ⊥
+ZipOption P (Some a) (Some b) = P a b
+
 -- how the source ended is told by the last piece alone
 pub record TellsLast (put : List Piece) : Type 0 where
   pub pieces : List Piece
@@ -20,27 +27,20 @@ pub record TellsLast (put : List Piece) : Type 0 where
   pub puts : put ≡ pieces ++ last_piece ending
   pub untold : ending_of pieces ≡ None
 
--- nothing more was got, or one more piece, if the lane had not told how its source ended
+-- nothing more was received; or one more piece, if the lane had not told how its source ended
 abbrev pub OneMoreAtMost : Taking Piece → Taking Piece → Type 0
 OneMoreAtMost x y = (y.got ≡ x.got) ⊎ ((piece : Piece) × (y.got ≡ x.got ++ piece ∷ []) × (ending_of x.got ≡ None))
 
--- the same of a lane that may be absent
-abbrev pub OneMoreOfSome : Option (Taking Piece) → Option (Taking Piece) → Type 0
-OneMoreOfSome None None = Unit {0}
-OneMoreOfSome None (Some y) = ⊥
-OneMoreOfSome (Some x) None = ⊥
-OneMoreOfSome (Some x) (Some y) = OneMoreAtMost x y
-
--- and of each lane of a device
+-- the same of each lane of a device
 pub record OneMoreOfEach (x y : InletsView) : Type 0 where
   pub bytes : OneMoreAtMost x.bytes y.bytes
-  pub edges : OneMoreOfSome x.edges y.edges
+  pub edges : ZipOption OneMoreAtMost x.edges y.edges
 
 abbrev pub lanes : Taking Piece → Option (Taking Piece) → InletsView
 lanes bytes edges = record { bytes = bytes; edges = edges }
 
--- One more piece was got, or none. What was got begins what was put, and is all of it if there was none to get. If the lane tells how
--- its source ended by its last piece alone, none is got behind that.
+-- At most one more piece was received. What was received is a prefix of what was put, and is all of it if no more piece came. If the last
+-- piece alone tells how the source ended, none is received after it.
 pub record Settles (tx : Putting Piece) (rx rx' : Taking Piece) : Type 0 where
   pub lane : rx'.lane ≡ rx.lane
   pub one : rx'.lane ≡ tx.lane
@@ -55,10 +55,7 @@ tx_of {S} {R} reader = option_map (λ (r : ReaderDone S R). r.pieces) reader
 
 -- both ends of one lane are there, or neither
 abbrev pub AreEnds : Option (Putting Piece) → Option (Taking Piece) → Type 0
-AreEnds None None = Unit {0}
-AreEnds None (Some rx) = ⊥
-AreEnds (Some tx) None = ⊥
-AreEnds (Some tx) (Some rx) = rx.lane ≡ tx.lane
+AreEnds = ZipOption (λ (tx : Putting Piece) (rx : Taking Piece). rx.lane ≡ tx.lane)
 
 -- the lane is settled, if there is one
 abbrev pub SettlesSome : Option (Putting Piece) → Option (Taking Piece) → Option (Taking Piece) → Type 0

@@ -11,6 +11,7 @@ use Rattle.serve_workers.specs.Readings.{IsDevicePiece}
 use Rattle.serve_threads.specs.declared.reading.ReaderDone.{ReaderDone}
 use Rattle.serve_threads.specs.Reading.{Reads, ReadsLines, counts}
 use Rattle.serve_end_settling.specs.declared.device.DeviceRun.{DeviceRun}
+use Rattle.serve_end_settling.specs.Lanes.{ZipOption}
 
 -- what a source tells, and what it counts
 pub record SourceFacts (S : Type 0) : Type 0 where
@@ -41,12 +42,9 @@ pub record StartsEmpty {S : Type 0} (start : ReaderStarts S) : Type 0 where
   pub edges : EdgeStartsEmpty start.edges
 
 abbrev pub EdgesRan : {S R : Type 0} → SourceFacts S → Option (ReaderStart S) → Option (ReaderDone S R) → Type 0
-EdgesRan facts None None = Unit {0}
-EdgesRan facts None (Some run) = ⊥
-EdgesRan facts (Some start) None = ⊥
-EdgesRan facts (Some start) (Some run) =
+EdgesRan {S} {R} facts = ZipOption (λ (start : ReaderStart S) (run : ReaderDone S R).
     ReadsLines run.failed run.ending start.pieces run.pieces (facts.content start.source) (facts.content run.source)
-    (counts (facts.faults start.source) (facts.quiets start.source)) (counts (facts.faults run.source) (facts.quiets run.source))
+    (counts (facts.faults start.source) (facts.quiets start.source)) (counts (facts.faults run.source) (facts.quiets run.source)))
 
 -- both readers of a device did their work on what they began with
 pub record Ran {S R : Type 0} (may : Option (List Moment)) (facts : SourceFacts S) (start : ReaderStarts S) (run : DeviceRun S R) : Type 0 where

@@ -25,7 +25,7 @@ abbrev pub ArePublished : UnitView → List Numbered → Type 0
 ArePublished u pairs = All (IsPublished u.publisher.segment.first u.publisher.samples u.publisher.stores) pairs
 
 -- The monitor was told of all that its unit has published, and keeps its pairs and its loads. All of them are of this unit: each pair is the
--- published sample of its number, each load the word as it was after some store, and so are the pairs that were kept of them.
+-- published sample of its number, and each load is the word as it was after some store. So the pairs that were kept of them are published too.
 pub record Confirms (u : UnitView) (old new : MonitorView) (taken : List Numbered) : Type 0 where
   pub told : new ≡ informed old (published_of u)
   pub bears_out : BearsOut u old.taken old.kept

@@ -28,7 +28,7 @@ fn edges_failed<S: Source, R>(edges: &Option<ReaderDone<S, R>>) -> bool
     }
 }
 
-/// Whether a source of a device failed, as its readers met it.
+/// Whether a source of a device failed, as its readers saw it.
 #[tactic(auto, using(crate::proofs::Causes::bytes_failed, crate::proofs::Causes::edges_failed, crate::proofs::Causes::said_met))]
 pub fn device_failed<S: Source, R: Wait + Copy>(run: &DeviceRun<S, R>) -> bool
     requires { RunCause S.faults run.now }
@@ -80,23 +80,30 @@ fn edges_done<S: Source, R: Wait + Copy>(
     }
 }
 
-/// Puts together what is left of a device, and settles its lanes: of each at most one more piece is got.
+/// Puts together what is left of a device, and settles its lanes: at most one more piece is received from each.
 pub fn device_done<S: Source, R: Wait + Copy>(
     run: DeviceRun<S, R>,
     bytes: Rx<Piece, R>,
     edges: Option<Rx<Piece, R>>,
     end: Option<DeviceEnd>,
 ) -> DeviceDone<S, R>
+    // Each receiving end is of the lane of its reader.
     requires bytes { bytes.lane ≡ run.bytes.pieces.lane }
     requires edges { AreEnds (tx_of run.edges) edges }
+
+    // What the readers hand back is kept.
     ensures source { result.source ≡ Some run.bytes.source }
     ensures edges { result.edges ≡ source_of run.edges }
     ensures bytes_tx { result.bytes_tx ≡ run.bytes.pieces }
     ensures edges_tx { result.edges_tx ≡ tx_of run.edges }
+
+    // Each lane is settled: at most one more piece is received, and none after the one that tells how its source ended.
     ensures bytes_rx { Settles run.bytes.pieces bytes result.bytes_rx }
     ensures edges_rx { SettlesSome (tx_of run.edges) edges result.edges_rx }
     ensures one_more { (may : Option (List Moment)) (start : ReaderStarts S) → Ran may (source_facts S.Source) start run → StartsEmpty start
         → OneMoreOfEach (lanes bytes edges) (lanes result.bytes_rx result.edges_rx) }
+
+    // How the device ended is handed on.
     ensures end { result.end ≡ end }
 {
     let DeviceRun {

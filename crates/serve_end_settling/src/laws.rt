@@ -2,7 +2,7 @@
 
 ghost use Rattle.serve_end_settling.specs.Lanes.{DevicesTellLast, EdgesTellLast, SessionsTellLast};
 
-/// A reader that began with an empty lane puts how its source ended, if at all, behind all else.
+/// A reader that began with an empty lane tells how its source ended, if at all, with its last piece.
 pub fn readers_tell_last_how_their_sources_ended()
     ensures devices { DevicesTellLast }
     ensures sessions { SessionsTellLast }

@@ -1,7 +1,7 @@
 //! Part of the end of a daemon's run, with `serve_end_parts`.
 //!
-//! What is left of the daemon's devices, sessions and monitors once all threads have ended. Each device and session has both ends of its lanes
-//! at hand, and by that it is known what was got of what was put; each monitor is compared with what its unit has published. This project's own.
+//! What is left of the daemon's devices, sessions and monitors once all threads have ended. Both ends of each lane
+//! are at hand, so it is known which of the pieces put were received. Each monitor is compared with what its unit has published. This project's own.
 #![tactic(auto)]
 
 mod device;

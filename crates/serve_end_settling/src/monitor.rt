@@ -64,7 +64,7 @@ fn inform<R: Wait + Copy>(
     monitor.meet(segment, notice);
 }
 
-/// The unit bears out all that its monitor took and loaded.
+/// The unit confirms all that its monitor took and loaded.
 fn confirm<R: Wait + Copy>(
     book: &mut Book<Tx<Item, R>>,
     unit: u8,
@@ -88,12 +88,17 @@ pub fn monitor_done<R: Wait + Copy>(
     unit: u8,
     watch: ReadingsDone,
 ) -> MonitorDone
+    // The monitor read the segment of this unit.
     requires unit { unit < length book.old.units }
     requires segment { IsSegmentOf unit (arc_value watch.segment) book.old }
     requires monitor { watch.monitor.segment ≡ arc_value watch.segment }
+
+    // The book stays, and the unit's number and the samples are handed on.
     ensures book { book.new ≡ book.old }
     ensures unit { result.unit ≡ unit }
     ensures taken { result.taken ≡ watch.taken }
+
+    // The unit confirms the samples: each is one that it published.
     ensures confirms { (free : UnitView) → Confirms (get_or book.old.units unit free) watch.monitor result.monitor result.taken.items }
 {
     let ReadingsDone {

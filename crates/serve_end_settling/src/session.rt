@@ -1,10 +1,12 @@
-ghost use Rattle.std.specs.Prelude.{◌≡◌, ◌<◌, ◌≤◌, ◌++◌, ℕ, List, [], length, Option, IfNone, false, true};
+ghost use Rattle.std.specs.Prelude.{◌≡◌, ◌<◌, ◌≤◌, ◌++◌, ℕ, List, [], length, Option, IfNone, None, false, true};
 ghost use Rattle.std.specs.Option.{option_to_list};
 ghost use Rattle.book_sessions.specs.MemberView.{MemberView};
 ghost use Rattle.gps_lane.specs.Ends.{Taking};
 ghost use Rattle.gps_lane.specs.Lane.{BeginsWith};
 ghost use Rattle.gps_outside.specs.Counts.{Rose};
-ghost use Rattle.gps_outside.specs.Writes.{WritesAll};
+ghost use Rattle.gps_outside.specs.Writes.{AllowsAll, WritesAll};
+ghost use Rattle.serve_workers.specs.Writing.{MayGoOn};
+ghost use Rattle.serve_workers.specs.declared.writer.WriterEnd.{WriterEnd};
 ghost use Rattle.serve_threads.specs.declared.session.SessionLink.{SessionLink};
 ghost use Rattle.serve_threads.specs.Sessions.{SessionRuns, Wrote};
 ghost use Rattle.serve_end_settling.specs.Lanes.{OneMoreAtMost, Settles};
@@ -52,7 +54,10 @@ fn next_item<R: Wait + Copy>(
 
 /// Writes an item; false if the sink failed.
 fn write_item<K: ClientSink>(sink: &mut K, item: Item) -> bool
+    requires allowed { AllowsAll K.asks K.written K.allows sink.old item }
+    ensures client { K.asks sink.new ≡ K.asks sink.old }
     ensures bytes { WritesAll result item (K.written sink.old) (K.written sink.new) }
+    ensures unmodelled { K.written sink.old ≡ None → K.written sink.new ≡ None }
     ensures faults_stay { K.faults sink.old ≤ K.faults sink.new }
     ensures failed { result ≡ false → Rose (K.faults sink.old) (K.faults sink.new) }
     ensures fails_only { result ≡ true → K.faults sink.new ≡ K.faults sink.old }
@@ -70,6 +75,8 @@ fn drain<K: ClientSink, R: Wait + Copy>(
 ) -> WriterEnd
     requires there { number < length book.old.sessions }
     requires outlet { IsOutletOf number items.old book.old }
+    requires goes_on { MayGoOn K.asks K.written K.allows sink.old items.old }
+    ensures goes_on { result ≡ WriterEnd.Drained → MayGoOn K.asks K.written K.allows sink.new items.new }
     ensures book { book.new ≡ book.old }
     ensures outlet { (free : MemberView) → Empties result (given_to number book.old free) items.old items.new }
     ensures wrote { Wrote result items.old items.new (K.written sink.old) (K.written sink.new) (K.faults sink.old) (K.faults sink.new) }
@@ -77,6 +84,7 @@ fn drain<K: ClientSink, R: Wait + Copy>(
     'items: for _ in rt.forever() {
         match next_item(book, number, items) {
             Some(item) => {
+                items.show_due();
                 if !write_item(sink, item) {
                     return WriterEnd::WriteFault;
                 }
@@ -87,7 +95,7 @@ fn drain<K: ClientSink, R: Wait + Copy>(
     unreachable!()
 }
 
-/// Writes what a session's outlet still holds, if its writer wrote all that it got; else at most one more item is got, and not written.
+/// Writes what a session's outlet still holds, if its writer wrote all that it received. Otherwise receives at most one more item, unwritten.
 fn settle_outlet<K: ClientSink, R: Wait + Copy>(
     rt: &R,
     book: &mut Book<Tx<Item, R>>,
@@ -117,8 +125,8 @@ fn settle_outlet<K: ClientSink, R: Wait + Copy>(
     }
 }
 
-/// Puts together what is left of a session, and settles its two lanes. Of its input lane at most one more piece is got. What its outlet still
-/// holds is written, if its writer wrote all that it got.
+/// Puts together what is left of a session, and settles its two lanes. At most one more piece is received from its input lane. What its outlet
+/// still holds is written, if its writer wrote all that it received.
 pub fn session_done<S: Source, K: ClientSink, R: Wait + Copy>(
     rt: &R,
     book: &mut Book<Tx<Item, R>>,
@@ -126,16 +134,23 @@ pub fn session_done<S: Source, K: ClientSink, R: Wait + Copy>(
     run: LinkDone<S, K, R>,
     input: Rx<Piece, R>,
 ) -> SessionDone<S, K, R>
+    // The book has the session, and these are the far ends of its two lanes.
     requires there { number < length book.old.sessions }
     requires input { input.lane ≡ run.reader.pieces.lane }
     requires outlet { IsOutletOf number run.writer.items book.old }
+
+    // The book stays as it is.
     ensures book { book.new ≡ book.old }
     ensures number { result.number ≡ number }
+
+    // The input: what its reader hands back, and at most one more piece.
     ensures source { result.source ≡ run.reader.source }
     ensures input_tx { result.input_tx ≡ run.reader.pieces }
     ensures input_rx { Settles run.reader.pieces input result.input_rx }
     ensures one_more { (link : SessionLink S K R) → SessionRuns S.content S.faults S.quiets K.written K.faults link run → link.pieces.put ≡ []
         → OneMoreAtMost input result.input_rx }
+
+    // The outlet: which items were received, and what was written of them.
     ensures items_rx { (free : MemberView) → Empties (writer_end result.end) (given_to number book.old free) run.writer.items result.items_rx }
     ensures wrote { (link : SessionLink S K R) → SessionRuns S.content S.faults S.quiets K.written K.faults link run
         → Wrote (writer_end result.end) link.items result.items_rx (K.written link.sink) (K.written result.sink) (K.faults link.sink) (K.faults result.sink) }

@@ -1,7 +1,8 @@
 use Rattle.std.proofs.Common.{◌≡◌, ◌≤◌, ◌+◌, length}
 use Rattle.std.specs.Vec.{vec_len, vec_capacity}
 use Rattle.std.specs.Vec.Iter.{into_iter_items}
-use Rattle.gps_serve.specs.Doors.{RanSoFar}
+use Rattle.serve_threads.specs.Joining.{RanSoFar}
+use Rattle.gps_serve.specs.Dealt.{UsedSoFar}
 use Rattle.serve_end_settling.specs.Runs.{EachRun, RunCause, source_facts}
 use Rattle.gps_serve.specs.Works.{JoinsDevice}
 use Rattle.gps_serve.proofs.scope.join_devices.Given as goal
@@ -12,4 +13,5 @@ invariant-works g l = record {
   causes : EachRun (RunCause g.S.Source.faults) l.runs.items;
   count : vec_len l.runs + length (into_iter_items l.work-iterator) ≡ vec_len l.fn.works;
   room : vec_len l.fn.works ≤ vec_capacity l.runs;
+  shares : UsedSoFar l.fn.works.items (into_iter_items l.work-iterator) l.runs.items l.roll.ended;
 }

@@ -3,6 +3,8 @@ use Rattle.gps_serve.proofs.scope.set_up.Goals as goal
 
 pub invariant_of-result : goal.invariant_of-result
 invariant_of-result g c = record {
+  told = c.requires.told;
+  roll_new = c.requires.roll;
   works_none = c.in_ok-works.ensures.none;
   runs_none = c.in_ok-runs.ensures.none;
   watching_none = c.in_ok-watching.ensures.none;

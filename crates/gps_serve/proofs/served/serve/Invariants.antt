@@ -11,5 +11,8 @@ ghosts-run-J-DoorNaming g a = record { table = a.ground.doors.table; whole = a.g
 abbrev pub ghosts-run-J-HubNaming : goal.ghosts-run-J-HubNaming
 ghosts-run-J-HubNaming g a = record { terms = terms_of a.ground.book a.ground.lanes.inlets.items a.numbers.wait }
 
+abbrev pub ghosts-run-D-ShareNaming : goal.ghosts-run-D-ShareNaming
+ghosts-run-D-ShareNaming g a = record { table = a.ground.stamps }
+
 abbrev pub ghosts-run-D-Dials : goal.ghosts-run-D-Dials
-ghosts-run-D-Dials g a = record { may = dial_of (g.W.Now.Clock.stamps a.clock) }
+ghosts-run-D-Dials g a = record { may = dial_of (g.W.Now.Clock.stamps a.clock); first = g.W.Now.Clock.stamps a.clock }

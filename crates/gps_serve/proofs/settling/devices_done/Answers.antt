@@ -5,7 +5,7 @@ use Rattle.gps_serve.proofs.Causes.{failed_more}
 use Rattle.gps_serve.proofs.Devices.{devices_all, devices_begin, devices_more, ends_all, ends_begin, ends_more, lanes_left, next_device}
 use Rattle.gps_serve.proofs.First.{missed_begin, missed_more, untold_begin, untold_more}
 use Rattle.gps_serve.specs.Runs.{IsLeftOf}
-use Rattle.gps_serve.proofs.Zips.{ran_begin, ran_end, ran_next}
+use Rattle.serve_threads.proofs.Zips.{ran_begin, ran_end, ran_next}
 use Rattle.gps_serve.proofs.settling.devices_done.Goals as goal
 
 pub devices-init : goal.devices-init

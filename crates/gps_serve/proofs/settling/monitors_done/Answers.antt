@@ -4,7 +4,7 @@ use Rattle.report_book.specs.BookView.{BookView}
 use Rattle.serve_end_parts.specs.declared.done.MonitorDone.{MonitorDone}
 use Rattle.gps_serve.specs.Served.{MonitorServed, watched_units}
 use Rattle.gps_serve.specs.Readies.{IsLeftOfWatch}
-use Rattle.gps_serve.proofs.Zips.{ran_begin, ran_end, ran_next}
+use Rattle.serve_threads.proofs.Zips.{ran_begin, ran_end, ran_next}
 use Rattle.gps_serve.proofs.Monitors.{few_monitors, monitors_all, monitors_begin, monitors_count, next_monitor, next_served, none_left, numbers_all, numbers_more, same_book, some_left}
 use Rattle.gps_serve.proofs.settling.monitors_done.Goals as goal
 

@@ -4,7 +4,7 @@ use Rattle.std.specs.Vec.{vec_len, vec_capacity}
 use Rattle.std.specs.Vec.Iter.{into_iter_items}
 use Rattle.serve_end_parts.specs.declared.done.MonitorDone.{MonitorDone}
 use Rattle.gps_serve.specs.Served.{watched_units}
-use Rattle.gps_serve.specs.Doors.{RanSoFar}
+use Rattle.serve_threads.specs.Joining.{RanSoFar}
 use Rattle.gps_serve.specs.Readies.{IsLeftOfWatch, MonitorsSoFar}
 use Rattle.gps_serve.proofs.settling.monitors_done.Given as goal
 

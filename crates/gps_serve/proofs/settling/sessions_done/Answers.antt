@@ -4,7 +4,7 @@ use Rattle.serve_end_settling.specs.Runs.{source_facts}
 use Rattle.gps_serve.specs.Facts.{sink_facts}
 use Rattle.gps_serve.specs.Readies.{AllServed, IsLeftOfLink}
 use Rattle.gps_serve.proofs.Sessions.{is_next, next_session, none_left, same_book, sessions_all, sessions_begin, sessions_more, some_left}
-use Rattle.gps_serve.proofs.Zips.{ran_begin, ran_end, ran_next}
+use Rattle.serve_threads.proofs.Zips.{ran_begin, ran_end, ran_next}
 use Rattle.gps_serve.proofs.settling.sessions_done.Goals as goal
 
 pub sessions-init : goal.sessions-init

@@ -1,6 +1,7 @@
 use Rattle.std.proofs.Common.{sym, subst}
 use Rattle.serve_workers.specs.declared.writer.WriterEnd.{WriterEnd}
 use Rattle.serve_threads.specs.Sessions.{Wrote}
+use Rattle.serve_threads.specs.Writers.{WriterView}
 use Rattle.serve_end_settling.proofs.Endings.{sessions_tell_last}
 use Rattle.serve_end_settling.proofs.session.session_done.Goals as goal
 
@@ -10,7 +11,10 @@ returns-clause-one_more g c = λ link runs none.
 
 pub returns-clause-wrote : goal.returns-clause-wrote
 returns-clause-wrote g c = λ link runs.
-    let P : WriterEnd → Type 0 = λ e.
-    Wrote e link.items c.settle_outlet-sink.result.items (g.K.ClientSink.written link.sink) (g.K.ClientSink.written c.settle_outlet-sink.result.sink) (g.K.ClientSink.faults link.sink)
-    (g.K.ClientSink.faults c.settle_outlet-sink.result.sink) in
-    subst P (sym c.session_end.ensures) (c.settle_outlet-sink.ensures.wrote link.items (g.K.ClientSink.written link.sink) (g.K.ClientSink.faults link.sink) runs.wrote)
+    let P : WriterEnd → WriterView g.row.K.Denot → Type 0 = λ e w.
+    Wrote e link.items w.items (g.K.ClientSink.written link.sink) (g.K.ClientSink.written w.sink) (g.K.ClientSink.faults link.sink) (g.K.ClientSink.faults w.sink) in
+    let settled : P c.settle_outlet.result.end c.settle_outlet.result =
+    c.settle_outlet.ensures.wrote link.items (g.K.ClientSink.written link.sink) (g.K.ClientSink.faults link.sink) runs.wrote in
+    let shown : WriterView g.row.K.Denot = record { sink = c.sink.inside.sink; items = c.sink.inside.items; end = c.sink.inside.end } in
+    let opened : P shown.end shown = subst (λ (w : WriterView g.row.K.Denot). P w.end w) (sym c.sink.view_is) settled in
+    subst (λ e. P e shown) (sym c.session_end.ensures) opened

@@ -1,0 +1,4 @@
+pub mod Seating
+pub mod Dropping
+pub mod Asking
+pub mod Released

@@ -3,7 +3,7 @@ use Rattle.std.specs.Prelude.{◌≡◌, ◌⊎◌, ℕ, List, Option}
 use Rattle.gps_outside.specs.Counts.{Rose}
 use Rattle.gps_outside.specs.Told.{Appends, AppendsPart, Goes}
 
--- They were all written, and the run's status stays; or the sink failed, a part of them was written, and the status is 4; or there was no memory for
+-- They were all written, and the run's status stays; or the sink failed, a prefix of them was written, and the status is 4; or there was no memory for
 -- them, nothing was written, and the status is 7. The sink's faults rose exactly if the sink failed.
 abbrev pub WritesClosing : ℕ → List ℕ → ℕ → Option (List ℕ) → Option (List ℕ) → ℕ → ℕ → Type 0
 WritesClosing ran lines status before after faults faults' =

@@ -1,6 +1,8 @@
 -- What the words of `serve` ask of the world and of the daemon.
 use Rattle.std.specs.Prelude.{◌≡◌, ℕ, List, ◌++◌, map, is_some, Option, Some, None}
 use Rattle.std.specs.List.{AllZip}
+use Rattle.gps_words.specs.declared.command.WordsFault.{WordsFault}
+use Rattle.gps_words.specs.declared.command.WordsFault.TheVariants.{Refused, NoMemory}
 use Rattle.gps_words.specs.declared.device.Input.{Input}
 use Rattle.gps_words.specs.declared.device.Input.TheVariants as input
 use Rattle.gps_words.specs.Serve.{Serve}
@@ -11,7 +13,14 @@ use Rattle.serve_end_parts.specs.declared.done.DeviceDone.{DeviceDone}
 use Rattle.serve_end_settling.specs.Runs.{SourceFacts}
 use Rattle.gps_serve.specs.AtEnd.{DaemonSettings}
 use Rattle.gps_serve.specs.Served.{BytesHeld, EdgesHeld}
-use Rattle.world_opening.specs.Opening.{AsksAll, AsksSome, GivenOnce, places_in}
+use Rattle.world_opening.specs.Opening.{AsksAll, AsksPrefix, behind_once, places_in}
+use Rattle.gps_serve.specs.Told.{devices_told}
+use Rattle.session_core.specs.declared.subject.DeviceHeld.{DeviceHeld}
+
+-- the status if nothing was served: the words are invalid, or it was out of memory
+abbrev pub fault_status : WordsFault → ℕ
+fault_status Refused = 2
+fault_status NoMemory = 7
 
 abbrev pub place_of : Input → Place
 place_of (input.File path) = place.File path
@@ -34,7 +43,7 @@ told_by s =
 -- The world is asked for the first of the places of the words, in order, and for their address. If the words ask for no daemon, it is asked for nothing.
 abbrev pub AsksFor : Option Serve → Asking → Type 0
 AsksFor None asked = asked ≡ asked_nothing
-AsksFor (Some s) asked = AsksSome asked (places_of s) s.listen
+AsksFor (Some s) asked = AsksPrefix asked (places_of s) s.listen
 
 -- it is asked for all places of the words, and for their address
 abbrev pub AsksWhole : Asking → Serve → Type 0
@@ -44,9 +53,14 @@ AsksWhole asked s = AsksAll asked (places_of s) s.listen
 abbrev pub HaveEdges : {S R : Type 0} → List (DeviceDone S R) → Serve → Type 0
 HaveEdges {S} {R} devices s = map (λ (d : DeviceDone S R). is_some d.edges) devices ≡ map is_some s.devices.edges
 
--- If no place is given twice, the bytes taken from the sources are the first of those that the world held behind the places of the words, and all of
--- them of a device that has ended.
+-- Of each place that the words give once: the bytes taken from its source are the first of those that the world held at it, and all of them if the
+-- device has ended.
 abbrev pub HeldBehind : {S R : Type 0} → (Place → Option (List ℕ)) → SourceFacts S → List (DeviceDone S R) → Serve → Type 0
 HeldBehind behind facts devices s =
-    GivenOnce (places_of s)
-    → AllZip (BytesHeld behind facts) (map place_of s.devices.inputs) devices × AllZip (EdgesHeld behind facts) (map edge_place_of s.devices.edges) devices
+    AllZip (BytesHeld (behind_once (places_of s) behind) facts) (map place_of s.devices.inputs) devices
+    × AllZip (EdgesHeld (behind_once (places_of s) behind) facts) (map edge_place_of s.devices.edges) devices
+
+-- What is told of the devices that the words ask for, if the places hold this. Nothing is told of a place that is given twice.
+abbrev pub devices_asked : (Place → Option (List ℕ)) → Serve → List DeviceHeld
+devices_asked behind s =
+    devices_told (behind_once (places_of s) behind) s.devices.names (map place_of s.devices.inputs) (map edge_place_of s.devices.edges)

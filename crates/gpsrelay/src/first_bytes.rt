@@ -85,7 +85,7 @@ impl FirstBytes {
         }
     }
 
-    /// A piece came.
+    /// Keeps a piece that came, as far as there is room.
     pub fn add(&mut self, piece: &[u8]) {
         if !self.are_all {
             return;

@@ -14,7 +14,7 @@ impl Ticket {
         Ticket { dropped }
     }
 
-    /// The link is read.
+    /// Notes that the link is read.
     pub fn used(self) {
         let Ticket { dropped: _ } = self;
     }
@@ -27,7 +27,7 @@ impl Drop for Ticket {
     }
 }
 
-/// One of the links whose reader has not ended, which are counted.
+/// A link whose reader has not ended. Such links are counted.
 pub struct Seat {
     taken: Arc<AtomicU64>,
 }

@@ -1,5 +1,5 @@
-//! The program `gpsrelay`: a daemon after gpsd that serves satellite receivers to up to 64 clients at a time, and commands that read what a
-//! receiver or a recorded script sends on standard input. Help and the version are answered before any of them is asked.
+//! The program `gpsrelay`: a daemon, modelled on gpsd, that serves satellite receivers to up to 64 clients at a time, and commands that read what a
+//! receiver or a recorded script sends on standard input. Help and the version are answered without running any of them.
 #![tactic(auto)]
 
 ghost use Rattle.std.specs.Prelude.{◌≤◌};
@@ -18,12 +18,12 @@ mod serve;
 mod standard_streams;
 mod stopping;
 mod streams;
-mod subject;
 mod system;
 mod telling;
 mod telling_door;
 mod telling_source;
 mod terminal_check;
+mod told_device;
 
 use command_outcome::CommandOutcome;
 use gps_fixed::{Bytes, NoMemory};
@@ -46,7 +46,7 @@ use stopping::{Machine, start_stop};
 use streams::{CountedInput, CountedOutput};
 use telling::TellingWorld;
 
-/// Why the words of the call could not be read: they are no text, or there was no memory for them.
+/// Why the command line could not be read: it is not UTF-8, or there was no memory for it.
 fn fault_of(error: &io::Error) -> WordsFault {
     match error.kind() {
         ErrorKind::OutOfMemory => WordsFault::NoMemory,
@@ -139,7 +139,7 @@ fn are_for_daemon(words: &[String]) -> bool {
     }
 }
 
-/// Whether two words of the daemon name one FIFO or terminal, which is said.
+/// Whether two words of the daemon name one FIFO or terminal. If so, says it.
 fn has_same_place<R: Eprint + Files<File = File>>(rt: &R, alloc: Global, words: &[String]) -> bool {
     match serve_asked(alloc, words) {
         Ok(options) => tell_same_place(rt, &options),
@@ -156,7 +156,7 @@ fn asked_of_service(alloc: Global, words: &[String]) -> (Option<u32>, Option<Byt
 }
 
 /// Does what the words of a command ask for.
-fn do_command(rt: HostRuntime, words: &[String]) -> u8 {
+fn run_filter(rt: HostRuntime, words: &[String]) -> u8 {
     match run_outside(rt, words) {
         Ok(status) => status,
         Err(NoMemory) => {
@@ -212,7 +212,7 @@ fn main(rt: HostRuntime) -> ExitCode {
         speaker.end(&rt);
         status
     } else {
-        do_command(rt, words)
+        run_filter(rt, words)
     };
     if status == run::REFUSED {
         tell_refused(&rt, rt.alloc(), words);

@@ -1,5 +1,5 @@
-//! The daemon's messages on their way to standard error. Whoever has something to say leaves it here and goes on; a thread of its own writes it.
-//! So a standard error that takes nothing, as a pipe that is full or a terminal that is stopped, holds that thread alone.
+//! The daemon's messages on their way to standard error. A thread that has something to say leaves it here and goes on; another thread writes
+//! it. So a standard error that accepts nothing (a full pipe, a stopped terminal) blocks that thread alone.
 
 use gps_fixed::NoMemory;
 use std::alloc::Global;
@@ -10,10 +10,10 @@ use std::thread::{self, Threads};
 use std::time::{self, Duration};
 use std::{mem, str};
 
-/// How many bytes of messages wait at most.
+/// How many bytes of messages may wait.
 const ROOM: usize = 16_384;
 
-/// For how many milliseconds at most the end of the daemon waits for its messages to be written.
+/// How many milliseconds the daemon waits, at its end, for its messages to be written.
 const LAST_WAIT: u64 = 200;
 
 /// Room for messages. It is taken once, so that a message needs no memory.
@@ -155,7 +155,7 @@ impl Messages {
         }
     }
 
-    /// Waits for what was said to be written, but not long.
+    /// Waits until what was said is written, for at most [`LAST_WAIT`] milliseconds.
     fn settle<R: Wait + time::Clock>(&self, rt: &R) {
         let waiting = self.waiting.lock(rt);
         let most = Duration::from_millis(LAST_WAIT);
@@ -164,7 +164,7 @@ impl Messages {
             .wait_timeout_while(rt, waiting, most, |waiting| waiting.is_due());
     }
 
-    /// Writes what was said, where no thread does.
+    /// Writes what was said, if no thread does.
     fn write_here<R: Wait + Eprint>(&self, rt: &R) {
         let mut waiting = self.waiting.lock(rt);
         write_out(rt, &waiting.room, waiting.left_out);
@@ -174,7 +174,7 @@ impl Messages {
 }
 
 impl Messages {
-    /// What speaks by them.
+    /// A voice whose messages are these.
     pub fn voice<R>(&self, rt: R) -> Voice<'_, R> {
         Voice { rt, messages: self }
     }
@@ -189,7 +189,7 @@ pub struct Speaker {
 }
 
 impl Speaker {
-    /// Starts the thread. It is never waited for to its end, so it may be left where a write holds it.
+    /// Starts the thread. Its end is never waited for, so a write may block it for ever.
     pub fn start<R: Threads + Wait + Eprint + Copy + Send + 'static>(
         rt: R,
         alloc: Global,
@@ -204,12 +204,12 @@ impl Speaker {
         })
     }
 
-    /// What the daemon speaks by.
+    /// The daemon's voice.
     pub fn voice<R>(&self, rt: R) -> Voice<'_, R> {
         self.messages.voice(rt)
     }
 
-    /// Its messages, for a thread of its own.
+    /// Its messages, for another thread.
     pub fn messages(&self) -> Result<Arc<Messages>, NoMemory> {
         Ok(Arc::try_clone(&self.messages)?)
     }
@@ -224,7 +224,7 @@ impl Speaker {
     }
 }
 
-/// A standard error that never holds who speaks.
+/// A standard error that never blocks its caller.
 #[derive(Clone, Copy)]
 pub struct Voice<'a, R> {
     rt: R,

@@ -2,7 +2,7 @@ use gps_fixed::Bytes;
 use gps_world::Place;
 use std::{fmt, str};
 
-/// A text of the words of the call.
+/// A text of the command line.
 pub fn text_of(bytes: &Bytes) -> &str {
     match str::from_utf8(bytes.as_slice()) {
         Ok(text) => text,
@@ -24,7 +24,7 @@ impl fmt::Display for PlaceText<'_> {
     }
 }
 
-/// A place once more, if there is memory for it; else nothing is said of it.
+/// A copy of a place, if there is memory for it. If not, nothing is said of the place.
 pub fn copy_of(place: &Place) -> Option<Place> {
     match place {
         Place::File(path) => match path.copy() {

@@ -3,10 +3,10 @@
 use std::io::Eprint;
 use std::time::{self, Duration};
 
-/// How many seconds nothing is shown.
+/// For how many seconds nothing is shown.
 const FIRST: u64 = 2;
 
-/// What has come of standard input, and since when. From the third second on it is shown once a second, in one line that is written over.
+/// What came from standard input, and since when. From the third second on it is shown once a second, in one line that is overwritten.
 #[derive(Drop)]
 pub struct Progress<R> {
     rt: R,
@@ -34,7 +34,7 @@ impl<R> Progress<R> {
 }
 
 impl<R: Eprint + time::Clock + Copy> Progress<R> {
-    /// A piece came.
+    /// Counts a piece that came, and shows the progress if that is due.
     pub fn add(&mut self, piece: &[u8]) {
         self.bytes = self.bytes.saturating_add(piece.len() as u64);
         self.lines = self.lines.saturating_add(lines_in(piece));
@@ -64,7 +64,7 @@ impl<R: Eprint + time::Clock + Copy> Progress<R> {
         );
     }
 
-    /// Nothing more comes: what was shown is taken away.
+    /// Nothing more comes: clears what was shown.
     pub fn end(&self) {
         if self.due > FIRST {
             let rt = self.rt;

@@ -1,5 +1,5 @@
 //! The answers to `help` and `--version`, and what is said on standard error if a command ends with another status than 0. What is said there
-//! changes no status: a standard error that is closed or full is passed over.
+//! changes no status: a standard error that is closed or full is ignored.
 
 use crate::same_place::same_place;
 use crate::streams::{CountedInput, CountedOutput};
@@ -16,7 +16,7 @@ use std::rt::Files;
 /// How many bytes `replay` and `lines` read at most.
 const MOST: u64 = 1_073_741_824;
 
-/// The greatest number of `--history`.
+/// The greatest value of `--history`.
 const GREATEST: u32 = 33_554_432;
 
 /// The lines of a script.
@@ -74,12 +74,13 @@ pub fn tell_same_place<R: Eprint + Files<File = File>>(rt: &R, options: &ServeOp
     }
 }
 
-/// Says that a word is no text.
+/// Says that a word is not UTF-8.
 pub fn tell_no_text<R: Eprint>(rt: &R) {
     let _ = eprintln!(rt; "{USAGE}");
     say(rt, "a word of the command line is not UTF-8");
 }
 
+/// Says something on standard error, after the program's name.
 pub fn say<R: Eprint>(rt: &R, what: &str) {
     let _ = eprintln!(rt; "gpsrelay: {what}");
 }
@@ -98,7 +99,7 @@ fn tell_read_fault<S: Source, R: Eprint>(rt: &R, input: &CountedInput<S, R>) {
     }
 }
 
-/// Says that as many bytes came as are read.
+/// Says that the command stopped at its limit of bytes.
 fn tell_full<R: Eprint>(rt: &R, command: &CommandLine) {
     let _ = match command {
         CommandLine::Decode { history } | CommandLine::Pseudo { history } => {
@@ -151,7 +152,7 @@ fn tell_nothing_found<S: Source, K: Sink, R: Eprint>(
     }
 }
 
-/// Says that a write failed. Where the reader of a pipe has gone, as that of `decode | head`, nothing is said.
+/// Says that a write failed. If the reader of a pipe has gone, as in `decode | head`, nothing is said.
 fn tell_write_fault<R: Eprint + Files<File = File>>(rt: &R) {
     if !is_pipe(rt) {
         say(
@@ -180,6 +181,7 @@ pub fn tell_end<S: Source, K: Sink, R: Eprint + Files<File = File>>(
     }
 }
 
+/// Says that the program is out of memory.
 pub fn tell_no_memory<R: Eprint>(rt: &R) {
     say(
         rt,

@@ -25,11 +25,16 @@ fn do_command<S: Source, K: Sink, C: Clock>(
     sink: &mut K,
     clock: &mut C,
 ) -> u8
+    // The numbers are in their ranges, and the sink is open. It stays open.
     requires within { IsInRange command }
     requires takes { K.takes sink.old }
     ensures takes { K.takes sink.new }
+
+    // What the command does outside.
     ensures does { Does command result
         (source_call S.Source source.old source.new) (sink_call K.Sink sink.old sink.new) (clock_call C.Clock clock.old clock.new) }
+
+    // Counts of faults and quiets never fall.
     ensures faults_stay { S.faults source.old ≤ S.faults source.new }
     ensures quiets_stay { S.quiets source.old ≤ S.quiets source.new }
     ensures sink_faults_stay { K.faults sink.old ≤ K.faults sink.new }
@@ -54,14 +59,21 @@ fn do_words<S: Source, K: Sink, C: Clock>(
     sink: &mut K,
     clock: &mut C,
 ) -> u8
+    // The sink is open, and stays open.
     requires takes { K.takes sink.old }
     ensures takes { K.takes sink.new }
+
+    // If the words are invalid, nothing is read or written.
     ensures refused { result ≡ 2 → asked_of (map string_bytes words.now) ≡ None }
     ensures only { asked_of (map string_bytes words.now) ≡ None → (result ≡ 2) ⊎ (result ≡ 7) }
     ensures untouched { asked_of (map string_bytes words.now) ≡ None
         → (source.new ≡ source.old) × (sink.new ≡ sink.old) × (clock.new ≡ clock.old) }
+
+    // What the command does outside.
     ensures does { (command : CommandLine) → asked_of (map string_bytes words.now) ≡ Some command
         → Does command result (source_call S.Source source.old source.new) (sink_call K.Sink sink.old sink.new) (clock_call C.Clock clock.old clock.new) }
+
+    // Counts of faults and quiets never fall.
     ensures faults_stay { S.faults source.old ≤ S.faults source.new }
     ensures quiets_stay { S.quiets source.old ≤ S.quiets source.new }
     ensures sink_faults_stay { K.faults sink.old ≤ K.faults sink.new }
@@ -73,7 +85,7 @@ fn do_words<S: Source, K: Sink, C: Clock>(
     }
 }
 
-/// Does what the words ask for, which stand without the program's name, and gives the exit status.
+/// Does what the words ask for, and gives the exit status. The words come without the program's name.
 ///
 /// `decode [--history N]` reads what a receiver sends and writes its fixes and skies as JSON lines, as epochs close.
 /// `pseudo [--history N]` reads the same, and writes two sentences for each fix, for programs that read sentences alone.
@@ -105,22 +117,33 @@ pub fn run<S: Source, K: Sink, C: Clock>(
     sink: &mut K,
     clock: &mut C,
 ) -> u8
+    // The sink is open, and stays open.
     requires takes { K.takes sink.old }
     ensures takes { K.takes sink.new }
+
+    // If the words are invalid, nothing is read or written.
     ensures refused { result ≡ 2 → asked_of (map string_bytes words.now) ≡ None }
     ensures only { asked_of (map string_bytes words.now) ≡ None → (result ≡ 2) ⊎ (result ≡ 7) }
     ensures untouched { asked_of (map string_bytes words.now) ≡ None
         → (source.new ≡ source.old) × (sink.new ≡ sink.old) × (clock.new ≡ clock.old) }
+
+    // What the command does outside.
     ensures does { (command : CommandLine) → asked_of (map string_bytes words.now) ≡ Some command
         → Does command result (source_call S.Source source.old source.new) (sink_call K.Sink sink.old sink.new) (clock_call C.Clock clock.old clock.new) }
+
+    // What must have happened outside for each status.
     ensures read_fault { result ≡ 3 → HasReadCause (source_call S.Source source.old source.new) }
     ensures cause { StatusHasCause result (source_call S.Source source.old source.new) (sink_call K.Sink sink.old sink.new) }
     ensures write_fault { result ≡ 4 → WriteFailed (sink_call K.Sink sink.old sink.new) }
+
+    // Which statuses are left if nothing fails.
     ensures ends { (command : CommandLine) → asked_of (map string_bytes words.now) ≡ Some command
         → NothingFails (source_call S.Source source.old source.new) (sink_call K.Sink sink.old sink.new) → EndsAt command result }
     ensures complete { (command : CommandLine) → asked_of (map string_bytes words.now) ≡ Some command
         → IsWithinLimits command (S.content source.old)
         → NothingFails (source_call S.Source source.old source.new) (sink_call K.Sink sink.old sink.new) → (result ≡ 0) ⊎ (result ≡ 7) }
+
+    // Counts of faults and quiets never fall.
     ensures faults_stay { S.faults source.old ≤ S.faults source.new }
     ensures quiets_stay { S.quiets source.old ≤ S.quiets source.new }
     ensures sink_faults_stay { K.faults sink.old ≤ K.faults sink.new }

@@ -18,7 +18,7 @@ enum Role {
     Stop,
 }
 
-/// A path among the words, and who has it.
+/// A path among the words, and what it is for.
 #[derive(Clone, Copy)]
 struct Given<'a> {
     role: Role,
@@ -90,7 +90,7 @@ fn given_at(options: &ServeOptions, at: usize) -> Option<Given<'_>> {
     })
 }
 
-/// Whether two paths name one file, of which each byte is read once.
+/// Whether two paths name one FIFO or terminal.
 fn is_same<R: Files<File = File>>(rt: &R, first: &Bytes, second: &Bytes) -> bool {
     let (Ok(one), Ok(other)) = (
         fs::metadata(rt, text_of(first)),

@@ -6,14 +6,13 @@ ghost use Rattle.gps_words.specs.Within.{IsWithin};
 ghost use Rattle.gps_world.specs.Asking.{asked_nothing};
 ghost use Rattle.world_opening.specs.Opening.{dial_of, places_in};
 ghost use Rattle.serve_end_parts.specs.Plans.{IsPlan};
-ghost use Rattle.serve_end_settling.specs.Failing.{DeviceFailed, AnyOf, SourceFailed};
+ghost use Rattle.serve_workers.specs.Writing.{AllowsClients};
 ghost use Rattle.serve_end_settling.specs.Runs.{source_facts};
 ghost use Rattle.gps_serve.specs.AtEnd.{AtEnd, handed_back, settings_in, start_in};
 ghost use Rattle.gps_serve.specs.Facts.{world_facts};
-ghost use Rattle.gps_serve.specs.Lost.{NoneLost, ReadersHadMemory};
-ghost use Rattle.gps_serve.specs.Statuses.{AllEnded, TellsNoFault, WasLostByFault};
+ghost use Rattle.gps_serve.specs.Outcome.{OutcomeHasCause};
 ghost use Rattle.gps_serve.specs.Whole.{IsWhole};
-ghost use Rattle.gpsrelay.specs.Served.{AsksFor, AsksWhole, HaveEdges, HeldBehind, edge_place_of, place_of, places_of, told_by};
+ghost use Rattle.gpsrelay.specs.Served.{AsksFor, AsksWhole, HaveEdges, HeldBehind, devices_asked, edge_place_of, fault_status, place_of, places_of, told_by};
 
 use crate::run::REFUSED;
 use command_outcome::CommandOutcome;
@@ -67,8 +66,12 @@ fn edge_places_of(alloc: Global, paths: Vec<Option<Bytes>>) -> Result<Vec<Option
 /// The plan that the options ask for.
 fn plan_of(alloc: Global, options: ServeOptions) -> Result<Plan, NoMemory>
     requires { IsWithin (shown options) }
+
+    // The plan can be served, and says what the options say.
     ensures plan { IfOk result IsPlan }
     ensures told { IfOk result (λ plan. settings_in plan ≡ told_by (shown options)) }
+
+    // Its places and its address, as the world is asked for them.
     ensures places { IfOk result (λ plan. plan.inputs.items ++ places_in plan.edges.items ≡ places_of (shown options)) }
     ensures inputs { IfOk result (λ plan. plan.inputs.items ≡ map place_of options.inputs.items) }
     ensures edges { IfOk result (λ plan. plan.edges.items ≡ map edge_place_of options.edges.items) }
@@ -104,19 +107,16 @@ fn plan_of(alloc: Global, options: ServeOptions) -> Result<Plan, NoMemory>
 }
 
 /// What is handed back if nothing was served.
-#[tactic(auto, using(gps_serve::proofs::First::no_devices, gps_serve::proofs::First::none_tell, gps_serve::proofs::HadMemory::none_read, gps_serve::proofs::Causes::no_gate))]
-fn nothing<W: World, R: Wait + Copy>(alloc: Global, world: W, status: u8) -> Served<W, R>
-    ensures status { result.status ≡ status }
+fn nothing<W: World, R: Wait + Copy>(alloc: Global, world: W, fault: WordsFault) -> Served<W, R>
+    ensures status { result.status ≡ fault_status fault }
     ensures book { result.book ≡ None }
     ensures world { result.world ≡ world }
-    ensures devices { result.devices.items ≡ [] }
-    ensures met { AnyOf (DeviceFailed W.In.faults) result.devices.items → result.status ≡ 3 }
-    ensures first { AnyOf WasLostByFault result.devices.items → result.status ≡ 3 }
-    ensures untold { (result.status ≡ 3) ⊎ All TellsNoFault result.devices.items }
-    ensures readers { ReadersHadMemory result.devices.items result.sessions.items }
-    ensures door { SourceFailed W.Gate.faults result.gate → (result.status ≡ 3) ⊎ (result.status ≡ 8) }
-    ensures lacks { result.status ≡ 7 → result.no_memory ≡ true }
+    ensures cause { OutcomeHasCause W.In.faults W.Gate.faults ⊥ ⊥ result }
 {
+    let (status, no_memory) = match fault {
+        WordsFault::Refused => (REFUSED, false),
+        WordsFault::NoMemory => (CommandOutcome::NoMemory.status(), true),
+    };
     Served {
         status,
         book: None,
@@ -126,11 +126,11 @@ fn nothing<W: World, R: Wait + Copy>(alloc: Global, world: W, status: u8) -> Ser
         gate: None,
         world,
         full: 0,
-        no_memory: status == CommandOutcome::NoMemory.status(),
+        no_memory,
     }
 }
 
-/// Serves what the words ask for, which stand without the program's name, until all devices have ended.
+/// Serves what the words ask for, until all devices have ended. The words come without the program's name.
 ///
 /// The status is
 /// - 0: every device has ended;
@@ -140,7 +140,7 @@ fn nothing<W: World, R: Wait + Copy>(alloc: Global, world: W, status: u8) -> Ser
 /// - 7: out of memory.
 ///
 /// If several hold, the first of 3, 8 and 7 is given.
-#[tactic(auto, using(crate::proofs::Serving::asks_nothing))]
+#[tactic(auto, using(crate::proofs::Serving::asks_nothing, gps_serve::proofs::Outcome::unasked))]
 pub fn serve_main<W: World, R: Threads + Wait + Copy + Send + Sync>(
     rt: R,
     alloc: Global,
@@ -148,39 +148,44 @@ pub fn serve_main<W: World, R: Threads + Wait + Copy + Send + Sync>(
     world: W,
 ) -> Served<W, R>
     requires asked { W.asked world ≡ asked_nothing }
+
+    // Whatever a sink of a client allows follows from this: with what was written before, what is written begins what the client is due. So each
+    // write that ever happens is one that begins what is due, also if this never returns.
+    requires writes { IfSome (serve_asked_of (map string_bytes words.now))
+        (λ s. AllowsClients W.Out.asks W.Out.written W.Out.allows (devices_asked (W.behind world) s)) }
+
+    // The status, and what it is if the words are invalid: then nothing is asked of the world.
     ensures range { (result.status ≡ 0) ⊎ (result.status ≡ 2) ⊎ (result.status ≡ 3) ⊎ (result.status ≡ 7) ⊎ (result.status ≡ 8) }
     ensures refused { serve_asked_of (map string_bytes words.now) ≡ None → (result.status ≡ 2) ⊎ (result.status ≡ 7) }
     ensures only { result.status ≡ 2 → serve_asked_of (map string_bytes words.now) ≡ None }
     ensures untouched { serve_asked_of (map string_bytes words.now) ≡ None → (result.book ≡ None) × (result.world ≡ world) }
-    ensures three { result.status ≡ 3 → AnyOf (DeviceFailed W.In.faults) result.devices.items ⊎ Rose (W.input_faults world) (W.input_faults result.world) }
-    ensures eight { result.status ≡ 8 → SourceFailed W.Gate.faults result.gate ⊎ Rose (W.listen_faults world) (W.listen_faults result.world) }
-    ensures seven { result.status ≡ 7 → result.no_memory ≡ true }
-    ensures met { AnyOf (DeviceFailed W.In.faults) result.devices.items → result.status ≡ 3 }
-    ensures first { AnyOf WasLostByFault result.devices.items → result.status ≡ 3 }
-    ensures untold { (result.status ≡ 3) ⊎ All TellsNoFault result.devices.items }
-    ensures door { SourceFailed W.Gate.faults result.gate → (result.status ≡ 3) ⊎ (result.status ≡ 8) }
-    ensures zero { result.status ≡ 0 → (result.no_memory ≡ false) × IsSome result.book }
-    ensures ended { result.status ≡ 0 → AllEnded result.devices.items }
-    ensures lacks { result.no_memory ≡ false → IfSome result.book (λ book. NoneLost book result.devices.items) }
-    ensures readers { result.no_memory ≡ false → ReadersHadMemory result.devices.items result.sessions.items }
+
+    // Why the status is so.
+    ensures cause { OutcomeHasCause W.In.faults W.Gate.faults (Rose (W.input_faults world) (W.input_faults result.world))
+        (Rose (W.listen_faults world) (W.listen_faults result.world)) result }
     ensures none { result.book ≡ None → (result.status ≡ 2) ⊎ ((result.status ≡ 3) × Rose (W.input_faults world) (W.input_faults result.world))
         ⊎ ((result.status ≡ 8) × Rose (W.listen_faults world) (W.listen_faults result.world)) ⊎ (result.status ≡ 7) }
+
+    // What the world was asked for.
     ensures asked { AsksFor (serve_asked_of (map string_bytes words.now)) (W.asked result.world) }
     ensures all_asked { IsSome result.book → IfSome (serve_asked_of (map string_bytes words.now)) (AsksWhole (W.asked result.world)) }
+
+    // What was taken from the sources of the devices.
     ensures edges { IsSome result.book → IfSome (serve_asked_of (map string_bytes words.now)) (HaveEdges result.devices.items) }
     ensures whole { IsSome result.book → All (IsWhole (dial_of (W.stamps world)) (source_facts W.In.Source)) result.devices.items }
     ensures held { IsSome result.book
         → IfSome (serve_asked_of (map string_bytes words.now)) (HeldBehind (W.behind world) (source_facts W.In.Source)
         result.devices.items) }
+
+    // What is handed back fits together.
     ensures at_end { IfSome result.book (λ book. IfSome (serve_asked_of (map string_bytes words.now))
         (λ s. AtEnd (start_in W.World (told_by s) world) (world_facts W.In.Source W.Out.ClientSink W.Gate.Door) (handed_back result) book)) }
 {
     match serve_asked(alloc, words) {
         Ok(options) => match plan_of(alloc, options) {
             Ok(plan) => serve(rt, alloc, plan, world),
-            Err(NoMemory) => nothing(alloc, world, CommandOutcome::NoMemory.status()),
+            Err(NoMemory) => nothing(alloc, world, WordsFault::NoMemory),
         },
-        Err(WordsFault::Refused) => nothing(alloc, world, REFUSED),
-        Err(WordsFault::NoMemory) => nothing(alloc, world, CommandOutcome::NoMemory.status()),
+        Err(fault) => nothing(alloc, world, fault),
     }
 }

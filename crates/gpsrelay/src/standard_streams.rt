@@ -1,18 +1,18 @@
-//! The numbers 0 to 2, which nothing but a standard stream may have: what is written to standard error would go to a receiver else.
+//! The file descriptors 0 to 2, which only standard streams may have: otherwise what is written to standard error could go to a receiver.
 
 use std::fs::{File, OpenOptions};
 use std::io;
 use std::os::fd::AsRawFd;
 use std::rt::Files;
 
-/// The number of standard input.
+/// The file descriptor of standard input.
 const INPUT: i32 = 0;
 
-/// The number of standard error, the last of the three.
+/// The file descriptor of standard error, the last of the three.
 const ERROR: i32 = 2;
 
-/// What stands in place of a standard stream that was closed before the program began. A read and a write of such a stream fail, as they do
-/// if it is closed.
+/// Files that take the place of standard streams that were closed before the program began. Reads and writes of them fail, as those of a
+/// closed stream do.
 #[derive(Drop)]
 pub struct StandardStreams {
     input: Option<File>,
@@ -24,7 +24,7 @@ fn open_null<R: Files<File = File>>(files: &R, how: &OpenOptions) -> io::Result<
     how.open(files, "/dev/null")
 }
 
-/// A file that cannot be read, if the number of standard input is free.
+/// A file that cannot be read, if the descriptor of standard input is free.
 fn take_input<R: Files<File = File>>(files: &R) -> Option<File> {
     match open_null(files, OpenOptions::new().write(true)) {
         Ok(file) if file.as_raw_fd() == INPUT => Some(file),
@@ -32,7 +32,7 @@ fn take_input<R: Files<File = File>>(files: &R) -> Option<File> {
     }
 }
 
-/// A file that cannot be written, if the number of a standard stream is free.
+/// A file that cannot be written, if the descriptor of a standard stream is free.
 fn take_next<R: Files<File = File>>(files: &R) -> Option<File> {
     match open_null(files, OpenOptions::new().read(true)) {
         Ok(file) if file.as_raw_fd() <= ERROR => Some(file),
@@ -41,7 +41,7 @@ fn take_next<R: Files<File = File>>(files: &R) -> Option<File> {
 }
 
 impl StandardStreams {
-    /// Takes the numbers that are free. The system gives the lowest one first.
+    /// Takes the descriptors that are free. The system gives the lowest one first.
     pub fn take<R: Files<File = File>>(files: &R) -> StandardStreams {
         StandardStreams {
             input: take_input(files),

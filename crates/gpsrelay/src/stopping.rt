@@ -1,4 +1,4 @@
-//! The orderly stop of the daemon, which one byte or the end of a path asks for. From then on the sources of its devices end and its door is
+//! The orderly stop of the daemon, which the first byte or the end of a file asks for. From then on the sources of its devices end and its door is
 //! closed, so that it ends as if each device had ended.
 
 use crate::messages::Speaker;
@@ -15,10 +15,10 @@ use std::sync::atomic::{AtomicBool, Ordering};
 use std::sync::{Arc, Mutex, Wait};
 use std::thread::{self, Threads};
 
-/// How often a read of the path is tried that signals interrupt.
+/// How many times a read of the path is tried while signals interrupt it.
 const TRIES: u32 = 10_000;
 
-/// What a stop ends from its own thread, as it waits in a call of the system.
+/// What a stop wakes from its own thread, as it waits in a system call.
 #[derive(Drop)]
 struct Waiters {
     closer: Option<Closer>,
@@ -27,16 +27,16 @@ struct Waiters {
     held: Option<HeldPipes>,
 }
 
-/// What a stop asks of the machine. It is a trait of its own, as a thread of its own can be given no type whose bound names an associated type.
+/// What a stop asks of the machine. It is a trait of its own, because a spawned thread can be given no type whose bound names an associated type.
 pub trait StopMachine {
-    /// Waits for one byte or the end of a path.
+    /// Waits for the first byte or the end of the file at a path.
     fn wait_for(&self, path: &str) -> io::Result<()>;
 
     /// Wakes the readers that wait at a pipe for a writer.
     fn rouse(&self, alloc: Global, pipes: &WaitingPipes) -> HeldPipes;
 }
 
-/// The machine by whose files a stop is done.
+/// The machine whose files a stop uses.
 #[derive(Clone, Copy)]
 pub struct Machine<R>(pub R);
 
@@ -79,7 +79,7 @@ impl StopRequest {
         })
     }
 
-    /// The same once more.
+    /// A second handle to the same request, if there is one.
     pub fn share(&self) -> Option<StopRequest> {
         match Arc::try_clone(&self.shared) {
             Ok(shared) => Some(StopRequest { shared }),
@@ -87,18 +87,19 @@ impl StopRequest {
         }
     }
 
+    /// Whether the daemon was told to stop.
     pub fn is_told(&self) -> bool {
         self.shared.is_told.load(Ordering::SeqCst)
     }
 
-    /// The daemon listens, and these are what waits in a call of the system.
+    /// Notes what waits in a system call, once the daemon listens.
     pub fn set_waiters<R: Wait>(&self, rt: &R, closer: Option<Closer>, pipes: WaitingPipes) {
         let mut waiters = self.shared.waiters.lock(rt);
         waiters.closer = closer;
         waiters.pipes = Some(pipes);
     }
 
-    /// Tells the daemon to stop. Once more changes nothing.
+    /// Tells the daemon to stop. A second call changes nothing.
     pub fn tell<R: Wait, M: StopMachine>(&self, rt: &R, machine: &M) {
         if self.shared.is_told.swap(true, Ordering::SeqCst) {
             return;
@@ -114,7 +115,7 @@ impl StopRequest {
     }
 }
 
-/// The same once more, if there is one.
+/// A second handle to a request, if there is one.
 pub fn share(stop: &Option<StopRequest>) -> Option<StopRequest> {
     match stop {
         Some(stop) => stop.share(),
@@ -122,7 +123,7 @@ pub fn share(stop: &Option<StopRequest>) -> Option<StopRequest> {
     }
 }
 
-/// Waits for one byte or the end of a path.
+/// Waits for the first byte or the end of the file at a path.
 fn wait_for<R: Files<File = File>>(rt: &R, path: &str) -> io::Result<()> {
     let mut file = fs::open(rt, path)?;
     let mut byte = [0u8; 1];

@@ -40,7 +40,7 @@ impl<S: Source, R: Copy> CountedInput<S, R> {
 }
 
 impl<S: Source, R: Eprint + time::Clock + Copy> CountedInput<S, R> {
-    /// Nothing more is read.
+    /// Clears the progress that is shown: nothing more is read.
     pub fn end_progress(&self) {
         if let Some(progress) = &self.progress {
             progress.end();

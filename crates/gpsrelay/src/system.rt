@@ -10,7 +10,7 @@ use std::io::{self, ErrorKind, IsTerminal};
 use std::os::unix::fs::{FileTypeExt, MetadataExt};
 use std::rt::Files;
 
-/// A reason of the system behind a message, or nothing if none is known.
+/// The system's reason at the end of a message, or nothing if none is known.
 #[derive(Clone, Copy)]
 pub struct Reason(pub Option<io::Error>);
 
@@ -30,7 +30,7 @@ impl fmt::Display for Reason {
             ErrorKind::AddrNotAvailable => {
                 f.write_str(": address not available; this machine has no such address")
             }
-            // A connection is the only thing here that has a time to come about.
+            // Only a connection has a time limit here.
             ErrorKind::TimedOut => f.write_str(": no answer within 5 seconds"),
             // The kind says nothing; the error has the system's text.
             ErrorKind::Uncategorized => write!(f, ": {}", error),
@@ -95,7 +95,7 @@ const GROUP_READS: u32 = 0o040;
 /// The bit of a file's mode by which everybody may read it.
 const OTHERS_READ: u32 = 0o004;
 
-/// The number of the group in a line of /etc/group, as `dialout:x:20:me`, if the line is of this group.
+/// The name in a line of /etc/group, as `dialout:x:20:me`, if the line is that of the group with this number.
 fn name_in_line(line: &str, group: u32) -> Option<&str> {
     let (name, rest) = line.split_once(':')?;
     let (_, rest) = rest.split_once(':')?;
@@ -137,7 +137,7 @@ pub fn who_may_read<R: Files<File = File>>(rt: &R, alloc: Global, path: &Bytes) 
     format!(in alloc; "its group is {group}: is this user in it?").ok()
 }
 
-/// Whether standard output is a pipe or a socket. A write there fails only where its reader has gone.
+/// Whether standard output is a pipe or a socket. A write there fails only if its reader has gone.
 pub fn is_pipe<R: Files<File = File>>(rt: &R) -> bool {
     match fs::metadata(rt, "/proc/self/fd/1") {
         Ok(metadata) => metadata.file_type().is_fifo() || metadata.file_type().is_socket(),

@@ -1,5 +1,5 @@
 //! The real world, which says on standard error where it listens, what it waits for, what could not be opened and why, and what becomes of
-//! its devices and its door. What is said there changes nothing else: a standard error that is closed or full is passed over.
+//! its devices and its door. What is said there changes nothing else: a standard error that is closed or full is ignored.
 
 ghost use Rattle.std.specs.Prelude.{◌≡◌};
 ghost use Rattle.gps_world.specs.Asking.{asked_nothing};
@@ -20,7 +20,7 @@ use std::rt::Files;
 use std::sync::Wait;
 use std::time;
 
-/// The real world, which tells by a voice.
+/// The real world, with a voice that tells of it.
 #[derive(Drop)]
 pub struct TellingWorld<R, V> {
     rt: R,

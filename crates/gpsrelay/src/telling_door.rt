@@ -21,7 +21,7 @@ const SESSIONS: u64 = 100_000;
 /// or no thread for it.
 const MOST: u64 = 64;
 
-/// At how many sessions it is said that the last comes near.
+/// After how many sessions it is said that few are left.
 const MANY: u64 = 90_000;
 
 /// How many seconds lie between two messages of clients that were turned away.
@@ -38,7 +38,7 @@ const SYSTEM_FULL: i32 = 23;
 
 const PROCESS_FULL: i32 = 24;
 
-/// How fast links are taken. Each moves by one step the moment up to which all of them are accounted for.
+/// How fast links are taken. Each link moves `until`, the moment up to which all of them are accounted for, by one step.
 #[derive(Clone, Copy)]
 struct Pace {
     until: Duration,
@@ -50,14 +50,14 @@ impl Pace {
         self.until.saturating_sub(now) >= Duration::from_millis(STEP * BURST)
     }
 
-    /// A link was taken.
+    /// Counts a link that was taken.
     fn take(&mut self, now: Duration) {
         let from = self.until.max(now);
         self.until = from.saturating_add(Duration::from_millis(STEP));
     }
 }
 
-/// Whether something may be said again that was last said then.
+/// Whether a message that was last said then may be said again.
 fn is_due(said: Option<Duration>, now: Duration) -> bool {
     match said {
         Some(said) => now.saturating_sub(said) >= Duration::from_secs(PAUSE),
@@ -85,10 +85,10 @@ pub struct TellingDoor<R, V> {
     sessions: u64,
     /// When it was last said that a client was turned away.
     said: Option<Duration>,
-    /// When it was last said that there was no file or room for one.
+    /// When it was last said that there was no file descriptor or memory for a client.
     said_lack: Option<Duration>,
     pace: Pace,
-    /// What the last session of a run tells, and what closes the door.
+    /// What the last session of a run tells to stop the daemon, and what closes the door.
     stop: Option<StopRequest>,
 }
 
@@ -187,7 +187,7 @@ impl<R, V: Eprint + time::Clock + Copy> TellingDoor<R, V> {
         };
     }
 
-    /// Says that the sessions of this run come to their end.
+    /// Says that the sessions of this run are nearly used up, or all used.
     fn tell_used(&self) {
         let rt = self.rt;
         let _ = match self.sessions {
@@ -217,7 +217,7 @@ impl<R, V: Eprint + time::Clock + Copy> TellingDoor<R, V> {
         }
     }
 
-    /// A link came.
+    /// Counts a link that came.
     fn count_link(&mut self)
         ensures { self.new.door ≡ self.old.door }
     {
@@ -234,7 +234,7 @@ impl<R, V: Eprint + time::Clock + Copy> TellingDoor<R, V> {
         }
     }
 
-    /// The door gave nothing more, for this reason.
+    /// Says that the door has failed.
     fn tell_failed(&self) {
         let rt = self.rt;
         let _ = eprintln!(rt;
@@ -287,7 +287,7 @@ where
         }
     }
 
-    /// Looks what became of the last link.
+    /// Finds out what became of the last link.
     fn look_back(&mut self)
         ensures { self.new.door ≡ self.old.door }
     {

@@ -5,7 +5,7 @@ ghost use Rattle.gps_outside.specs.declared.source.ReadStep.{ReadStep};
 
 use crate::link_count::{Seat, Ticket};
 use crate::stopping::StopRequest;
-use crate::subject::Subject;
+use crate::told_device::ToldDevice;
 use gps_outside::{Awaited, ReadStep, Source};
 use gps_world::{DaemonFault, Loss, Place, RealInput};
 use std::fs::File;
@@ -57,19 +57,19 @@ where
     }
 }
 
-/// A source that says, of a device, when it ends, fails or was lost, once, and when it is silent for a minute and speaks again. That of a link says
-/// nothing. It reports the faults of the source within and hands on its answers, but once the daemon was told to stop: then a device has ended,
-/// and what it gave in that moment is dropped. A few reads of a device that gave nothing are one to its reader. It tells no content.
+/// The source of a device, which says once when it ends, fails or is lost, and each time that it is silent for a minute or speaks again. The source
+/// of a link says nothing. It reports the faults of the source within and hands on its answers. Once the daemon was told to stop, a device has
+/// ended, and what it gives in that moment is dropped. Up to four reads of a device that give nothing count as one. It has no modelled contents.
 #[derive(Drop)]
 pub struct TellingSource<S: KnowsWhy, R> {
     rt: R,
     source: S,
     quiets: u64,
-    subject: Option<Subject>,
+    device: Option<ToldDevice>,
     ticket: Option<Ticket>,
     /// Given back by a link whose reader has ended.
     seat: Option<Seat>,
-    /// What ends a device that has neither ended nor failed.
+    /// Ends a device that has neither ended nor failed, once the daemon is told to stop.
     stop: Option<StopRequest>,
 }
 
@@ -86,15 +86,15 @@ impl<S: KnowsWhy, R> TellingSource<S, R> {
         ensures source { result.source ≡ source }
         ensures quiets { result.quiets ≡ 0 }
     {
-        let subject = match place {
-            Some(place) => Some(Subject::new(place, is_terminal, reopen)),
+        let device = match place {
+            Some(place) => Some(ToldDevice::new(place, is_terminal, reopen)),
             None => None,
         };
         TellingSource {
             rt,
             source,
             quiets: 0,
-            subject,
+            device,
             ticket: None,
             seat: None,
             stop,
@@ -115,7 +115,7 @@ impl<S: KnowsWhy, R> TellingSource<S, R> {
             rt,
             source,
             quiets: 0,
-            subject: None,
+            device: None,
             ticket,
             seat,
             stop: None,
@@ -132,13 +132,13 @@ impl<S: KnowsWhy, R> TellingSource<S, R> {
         }
     }
 
-    /// The device has ended, of which nothing is said.
+    /// The device has ended, and nothing is said of it.
     fn stopped(&mut self) -> ReadStep
         ensures step { result ≡ ReadStep.End }
         ensures source { self.new.source ≡ self.old.source }
         ensures quiets { self.new.quiets ≡ self.old.quiets }
     {
-        self.subject = None;
+        self.device = None;
         ReadStep::End
     }
 }
@@ -146,7 +146,7 @@ impl<S: KnowsWhy, R> TellingSource<S, R> {
 impl<S: KnowsWhy, R> TellingSource<S, R> {
     /// Whether a read that gave nothing is made again: it is if a device is there, and was not told to stop.
     fn is_waiting(&self) -> bool {
-        self.subject.is_some()
+        self.device.is_some()
             && !self.is_stopped()
             && !self.source.is_away()
             && self.source.loss().is_none()
@@ -168,7 +168,7 @@ impl<S: KnowsWhy, R> TellingSource<S, R> {
         }
     }
 
-    /// Reads at most four times, so that a device that is silent for seconds is one quiet read to its reader, which need not be woken for each.
+    /// Reads at most four times, so that a few silent seconds of a device are one quiet read, for which its reader need not be woken each time.
     fn read_on(&mut self, buf: &mut [u8]) -> ReadStep
         requires { 0 < length buf.old }
         ensures fits { FitsBuffer result (length buf.old) }
@@ -191,14 +191,14 @@ impl<S: KnowsWhy, R: Eprint + time::Clock> TellingSource<S, R> {
         ensures quiets { self.new.quiets ≡ self.old.quiets }
     {
         let awaited = self.source.awaited();
-        let Some(subject) = &mut self.subject else {
+        let Some(device) = &mut self.device else {
             return;
         };
         match awaited {
-            Some(awaited) => subject.tell_awaited(&self.rt, awaited),
+            Some(awaited) => device.tell_awaited(&self.rt, awaited),
             None => {
                 if let Ok(now) = self.rt.monotonic() {
-                    subject.begin(now);
+                    device.begin(now);
                 }
             }
         }
@@ -209,8 +209,8 @@ impl<S: KnowsWhy, R: Eprint + time::Clock> TellingSource<S, R> {
         ensures source { self.new.source ≡ self.old.source }
         ensures quiets { self.new.quiets ≡ self.old.quiets }
     {
-        if let Some(subject) = &mut self.subject {
-            subject.heard(&self.rt, piece);
+        if let Some(device) = &mut self.device {
+            device.heard(&self.rt, piece);
         }
     }
 
@@ -224,16 +224,16 @@ impl<S: KnowsWhy, R: Eprint + time::Clock> TellingSource<S, R> {
         };
         let loss = self.source.loss();
         let is_there = !self.source.is_away() && self.source.awaited().is_none();
-        let Some(subject) = &mut self.subject else {
+        let Some(device) = &mut self.device else {
             return;
         };
         if let Some(loss) = loss {
-            subject.lost_place(&self.rt, loss, now);
+            device.lost_place(&self.rt, loss, now);
         }
         if is_there {
-            subject.quiet(&self.rt, now);
+            device.quiet(&self.rt, now);
         } else {
-            subject.not_there();
+            device.not_there();
         }
     }
 
@@ -241,8 +241,8 @@ impl<S: KnowsWhy, R: Eprint + time::Clock> TellingSource<S, R> {
         ensures source { self.new.source ≡ self.old.source }
         ensures quiets { self.new.quiets ≡ self.old.quiets }
     {
-        if let Some(subject) = self.subject.take() {
-            subject.tell_ended(&self.rt);
+        if let Some(device) = self.device.take() {
+            device.tell_ended(&self.rt);
         }
     }
 
@@ -250,10 +250,10 @@ impl<S: KnowsWhy, R: Eprint + time::Clock> TellingSource<S, R> {
         ensures source { self.new.source ≡ self.old.source }
         ensures quiets { self.new.quiets ≡ self.old.quiets }
     {
-        if let Some(subject) = self.subject.take() {
+        if let Some(device) = self.device.take() {
             match self.source.daemon_fault() {
-                Some(fault) => subject.tell_daemon_failed(&self.rt, fault),
-                None => subject.tell_failed(&self.rt, self.source.fault()),
+                Some(fault) => device.tell_daemon_failed(&self.rt, fault),
+                None => device.tell_failed(&self.rt, self.source.fault()),
             }
         }
     }
@@ -263,8 +263,8 @@ impl<S: KnowsWhy, R: Eprint + time::Clock> TellingSource<S, R> {
         ensures source { self.new.source ≡ self.old.source }
         ensures quiets { self.new.quiets ≡ self.old.quiets }
     {
-        if let Some(subject) = self.subject.take() {
-            subject.tell_lost(&self.rt);
+        if let Some(device) = self.device.take() {
+            device.tell_lost(&self.rt);
         }
     }
 }

@@ -1,12 +1,19 @@
-use Rattle.std.proofs.Common.{inr}
+use Rattle.std.proofs.Common.{inr, ap}
+use Rattle.std.specs.Prelude.{Err}
 use Rattle.gps_words.specs.Serve.{shown}
 use Rattle.report_book.specs.BookView.{BookView}
 use Rattle.serve_end_settling.specs.Runs.{source_facts}
 use Rattle.gps_serve.specs.AtEnd.{AtEnd, DaemonSettings, handed_back, settings_in, start_in}
 use Rattle.gps_serve.specs.Facts.{world_facts}
 use Rattle.gpsrelay.specs.Served.{AsksWhole, HaveEdges, HeldBehind}
-use Rattle.gpsrelay.proofs.Serving.{asks_for, asks_whole, for_words, have_edges, held_behind, not_two, one_of_command, told_for}
+use Rattle.gpsrelay.proofs.Serving.{asks_for, asks_whole, for_words, have_edges, held_behind, not_two, one_of_command, refused_or, refused_range, told_for, two_or_seven, two_refused, allowed_for}
+use Rattle.gps_serve.proofs.Outcome.{unasked}
 use Rattle.gpsrelay.proofs.serve.serve_main.Goals as goal
+
+pub serve-requires-clause-writes : goal.serve-requires-clause-writes
+serve-requires-clause-writes g c κs within =
+    allowed_for g.W.Out.ClientSink.asks g.W.Out.ClientSink.written g.W.Out.ClientSink.allows (g.W.World.behind c.args.world) (shown c.in-Ok.options) _ c.in-Ok-plan_of.plan
+    c.in-Ok.ensures.ok c.in-Ok-plan_of.ensures.told c.in-Ok-plan_of.ensures.inputs c.in-Ok-plan_of.ensures.edges c.requires.writes
 
 pub returns-in-Ok-plan_of-clause-at_end : goal.returns-in-Ok-plan_of-clause-at_end
 returns-in-Ok-plan_of-clause-at_end g c =
@@ -42,4 +49,23 @@ returns-in-Ok-plan_of-clause-held g c some =
     let facts = source_facts g.W.In.Source in
     for_words (HeldBehind (g.W.World.behind c.args.world) facts c.serve.result.devices.items) _ (shown c.in-Ok.options) c.in-Ok.ensures.ok
     (held_behind (g.W.World.behind c.args.world) facts c.serve.result.devices.items (shown c.in-Ok.options) _ _ c.in-Ok-plan_of.ensures.inputs c.in-Ok-plan_of.ensures.edges
-    (λ once. c.serve.ensures.held once some))
+    (c.serve.ensures.held some) (c.serve.ensures.held_edges some))
+
+pub returns-in-Err-plan_of-clause-cause : goal.returns-in-Err-plan_of-clause-cause
+returns-in-Err-plan_of-clause-cause g c = unasked g.W.In.Source.faults g.W.Gate.Door.faults _ _ c.nothing.result c.nothing.ensures.cause
+
+pub returns-in-Err-clause-range : goal.returns-in-Err-clause-range
+returns-in-Err-clause-range g c = refused_range c.in-Err.fault c.nothing-in-Err.result.status c.nothing-in-Err.ensures.status
+
+pub returns-in-Err-clause-refused : goal.returns-in-Err-clause-refused
+returns-in-Err-clause-refused g c none = two_or_seven c.in-Err.fault c.nothing-in-Err.result.status c.nothing-in-Err.ensures.status
+
+pub returns-in-Err-clause-only : goal.returns-in-Err-clause-only
+returns-in-Err-clause-only g c two =
+    two_refused c.in-Err.fault c.nothing-in-Err.result.status c.nothing-in-Err.ensures.status (λ is. c.in-Err.ensures.refused (ap Err is)) two
+
+pub returns-in-Err-clause-cause : goal.returns-in-Err-clause-cause
+returns-in-Err-clause-cause g c = unasked g.W.In.Source.faults g.W.Gate.Door.faults _ _ c.nothing-in-Err.result c.nothing-in-Err.ensures.cause
+
+pub returns-in-Err-clause-none : goal.returns-in-Err-clause-none
+returns-in-Err-clause-none g c none = refused_or c.in-Err.fault c.nothing-in-Err.result.status c.nothing-in-Err.ensures.status

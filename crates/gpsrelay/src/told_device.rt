@@ -12,13 +12,13 @@ use std::time::Duration;
 /// How many seconds a device is silent before that is said.
 const SILENCE: u64 = 60;
 
-/// Two reads that gave nothing are no further apart than this number of seconds, unless this process was stopped in between.
+/// Two successive reads that give nothing end at most this many seconds apart, unless this process was stopped in between.
 const STEADY: u64 = 10;
 
 /// How many seconds lie between two messages of a place that stays away.
 const HOUR: u64 = 3_600;
 
-/// That a place is opened again, at the end of a message.
+/// The end of a message that says that a place is opened again.
 #[derive(Clone, Copy)]
 struct Again(Option<u32>);
 
@@ -40,9 +40,9 @@ struct Outage {
     said: Duration,
 }
 
-/// A device that is told of.
+/// A device that messages tell of.
 #[derive(Drop)]
-pub struct Subject {
+pub struct ToldDevice {
     place: Place,
     /// Whether a byte came.
     has_come: bool,
@@ -61,9 +61,9 @@ pub struct Subject {
     outage: Option<Outage>,
 }
 
-impl Subject {
-    pub fn new(place: Place, is_terminal: bool, reopen: Option<u32>) -> Subject {
-        Subject {
+impl ToldDevice {
+    pub fn new(place: Place, is_terminal: bool, reopen: Option<u32>) -> ToldDevice {
+        ToldDevice {
             place,
             has_come: false,
             since: None,
@@ -76,7 +76,7 @@ impl Subject {
         }
     }
 
-    /// A read begins that waits for bytes alone.
+    /// Notes that a read begins that waits for bytes alone.
     pub fn begin(&mut self, now: Duration) {
         if self.since.is_none() {
             self.since = Some(now);
@@ -93,7 +93,7 @@ impl Subject {
         }
     }
 
-    /// Bytes came.
+    /// Notes that bytes came, and says so after a silence or an outage.
     pub fn heard<R: Eprint>(&mut self, rt: &R, piece: &[u8]) {
         self.has_come = true;
         self.since = None;
@@ -115,13 +115,13 @@ impl Subject {
         }
     }
 
-    /// Nothing came, as its place is away or is not open yet. That is no silence.
+    /// Notes that nothing came because its place is away or is not open yet. That is no silence.
     pub fn not_there(&mut self) {
         self.since = None;
         self.looked = None;
     }
 
-    /// Nothing came this time.
+    /// Notes that nothing came this time, and says so after a minute.
     pub fn quiet<R: Eprint>(&mut self, rt: &R, now: Duration) {
         let since = self.since.unwrap_or(now);
         self.since = Some(since);
@@ -169,7 +169,7 @@ impl Subject {
         is_new || is_old
     }
 
-    /// Its place was lost, and is opened again.
+    /// Says that its place was lost and is opened again, if that is news.
     pub fn lost_place<R: Eprint>(&mut self, rt: &R, loss: Loss, now: Duration) {
         self.is_silent = false;
         if !self.is_news(loss, now) {
@@ -207,18 +207,19 @@ impl Subject {
         };
     }
 
+    /// Says that it has ended.
     pub fn tell_ended<R: Eprint>(&self, rt: &R) {
         let _ = eprintln!(rt; "gpsrelay: {} has ended", PlaceText(&self.place));
     }
 
-    /// Another daemon failed.
+    /// Says that it failed, and why, if it is another daemon.
     pub fn tell_daemon_failed<R: Eprint>(&self, rt: &R, fault: DaemonFault) {
         let place = PlaceText(&self.place);
         let reason = DaemonReason(fault);
         let _ = eprintln!(rt; "gpsrelay: {place} failed: {reason}");
     }
 
-    /// It failed, for this reason of the system.
+    /// Says that it failed, with the system's reason.
     pub fn tell_failed<R: Eprint>(&self, rt: &R, fault: Option<io::Error>) {
         let place = PlaceText(&self.place);
         let reason = Reason(fault);
@@ -231,7 +232,7 @@ impl Subject {
         };
     }
 
-    /// Its reader ends, though it has neither ended nor failed.
+    /// Says that it was lost: its reader ends, though it has neither ended nor failed.
     pub fn tell_lost<R: Eprint>(&self, rt: &R) {
         let _ = eprintln!(rt;
             "gpsrelay: {} was lost: out of memory, or no thread",

@@ -19,7 +19,7 @@ HERE = os.path.dirname(os.path.abspath(__file__))
 PROGRAM = os.path.abspath(sys.argv[1])
 SECONDS = sys.argv[2] if len(sys.argv) > 2 else "10"
 CLIENTS = sys.argv[3] if len(sys.argv) > 3 else "63"
-BURST = "gps_serve::floor::Floor::burst::"
+BURST = "serve_floor::floor::Floor::burst::"
 EVENTS = "/sys/kernel/tracing/uprobe_events"
 GROUP = f"gpsrelay{os.getpid()}"
 ROOM = tempfile.mkdtemp(prefix=GROUP)

@@ -6,11 +6,12 @@ Use: answers.py PROGRAM [NAME..]. Prints a line for each check, and ends with 1 
 """
 import json
 import os
+import select
+import socket
 import sys
-import threading
 import time
 
-from harness import Daemon, TcpDevice, check, many_files, run_parts, second, sentence, until, within
+from harness import WAIT, Daemon, TcpDevice, check, many_files, run_parts, second, sentence, until, within
 
 PROGRAM = os.path.abspath(sys.argv[1])
 MEGABYTE = 1024  # in KB
@@ -70,32 +71,39 @@ def asking(receivers, requests):
     return clients
 
 
-def wait_unread(receivers, clients, seconds=20):
-    """Takes a little of what each client is sent, so that its link stays, until the daemon has answered all and rests. Returns that little."""
-    had, end, rests = [bytearray() for _ in clients], time.monotonic() + seconds, 0
-    while rests < 3 and time.monotonic() < end:
-        before = receivers.daemon.cpu()
-        time.sleep(0.2)
-        rests = rests + 1 if receivers.daemon.cpu() - before < 0.02 else 0
+def unread(port):
+    """How many bytes of requests a daemon has not read yet."""
+    with open("/proc/net/tcp") as it:
+        rows = [row.split() for row in it.read().splitlines()[1:]]
+    return sum(int(row[4].partition(":")[2], 16) for row in rows if row[1].endswith(f":{port:04X}") and row[3] == "01")
+
+
+def wait_unread(receivers, clients):
+    """Takes a little of what each client is sent, so that its link stays, until the daemon has read all requests. Returns that little."""
+    had = [bytearray() for _ in clients]
+
+    def all_are_read():
         for client, taken in zip(clients, had):
-            taken += client.receive(4000, 0.1) or b""
+            taken += client.receive(4000, 0) or b""
+        return unread(receivers.daemon.port) == 0
+
+    until(all_are_read, pause=0.1)
     return had
 
 
 def take_all(clients, had, lines):
-    """Reads this number of lines of each client, side by side. Each client's bytes."""
-
-    def take(client, taken):
-        count = taken.count(b"\n")
-        while count < lines and (data := client.receive()):
+    """Reads this number of lines of each client, by turns and through a greater buffer, so that none of them takes little for long. Each client's
+    bytes."""
+    for client in clients:
+        client.socket.setsockopt(socket.SOL_SOCKET, socket.SO_RCVBUF, 1_000_000)
+    left = {client.socket: (client, taken, lines - taken.count(b"\n")) for client, taken in zip(clients, had)}
+    while left and (ready := select.select(left, [], [], WAIT)[0]):
+        for link in ready:
+            client, taken, count = left.pop(link)
+            data = client.receive(1_000_000)
             taken += data
-            count += data.count(b"\n")
-
-    threads = [threading.Thread(target=take, args=pair) for pair in zip(clients, had)]
-    for thread in threads:
-        thread.start()
-    for thread in threads:
-        thread.join()
+            if data and count > data.count(b"\n"):
+                left[link] = client, taken, count - data.count(b"\n")
     return had
 
 
@@ -103,9 +111,8 @@ def unread_polls():
     """20 clients ask for 60,000 POLLs at once, and take next to nothing for as long as the daemon answers."""
     receivers = Receivers(1)
     clients = asking(receivers, [b"?POLL;" * REQUESTS] * CLIENTS)
-    had = wait_unread(receivers, clients)
+    told = take_all(clients, wait_unread(receivers, clients), REQUESTS)
     grown = receivers.growth()
-    told = take_all(clients, had, REQUESTS)
     of = len(receivers.poll) * REQUESTS * CLIENTS // 1_000_000
     print(f"        {of} MB of POLLs that nobody takes yet: the daemon's memory grew by {grown // MEGABYTE} MB", flush=True)
     check("unread POLLs: each client has its answers in the end", [True] * CLIENTS, [text == receivers.poll * REQUESTS for text in told])

@@ -10,6 +10,8 @@ import tempfile
 import time
 import urllib.request
 
+from checks import WAIT
+
 NAMES = ("chromium", "chromium-browser", "google-chrome", "google-chrome-stable")
 
 
@@ -22,7 +24,7 @@ class WebSocket:
     """The client's end of a web socket (RFC 6455) for texts."""
 
     def __init__(self, host, port, path):
-        self.link = socket.create_connection((host, port), timeout=20)
+        self.link = socket.create_connection((host, port), timeout=WAIT)
         key = base64.b64encode(os.urandom(16)).decode()
         self.link.sendall((f"GET {path} HTTP/1.1\r\nHost: {host}:{port}\r\nUpgrade: websocket\r\nConnection: Upgrade\r\n"
                            f"Sec-WebSocket-Key: {key}\r\nSec-WebSocket-Version: 13\r\n\r\n").encode())
@@ -85,12 +87,12 @@ class Browser:
 
     def page(self):
         """(port, path) of the page's web socket."""
-        end = time.monotonic() + 20
+        end = time.monotonic() + WAIT
         while time.monotonic() < end:
             try:
                 with open(os.path.join(self.folder, "DevToolsActivePort")) as told:
                     port = int(told.readline())
-                with urllib.request.urlopen(f"http://127.0.0.1:{port}/json/list", timeout=5) as answer:
+                with urllib.request.urlopen(f"http://127.0.0.1:{port}/json/list", timeout=WAIT) as answer:
                     pages = [target for target in json.load(answer) if target["type"] == "page"]
                 return port, pages[0]["webSocketDebuggerUrl"].split(str(port), 1)[1]
             except (OSError, ValueError, IndexError):
@@ -113,7 +115,7 @@ class Browser:
         result = self.call("Runtime.evaluate", expression=expression, returnByValue=True)
         return result["result"].get("value", result.get("exceptionDetails"))
 
-    def wait(self, expression, wanted, seconds=8):
+    def wait(self, expression, wanted, seconds=WAIT):
         """The value of an expression once it is the wanted one, or the last one when the time is over."""
         end = time.monotonic() + seconds
         while (found := self.value(expression)) != wanted and time.monotonic() < end:
@@ -152,7 +154,7 @@ class Browser:
     def close(self):
         self.process.terminate()
         try:
-            self.process.wait(10)
+            self.process.wait(WAIT)
         except subprocess.TimeoutExpired:
             self.process.kill()
             self.process.wait()

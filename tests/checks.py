@@ -2,7 +2,11 @@
 import random
 import socket
 import threading
+import time
 
+WAIT = 60  # seconds, for whatever must come, on a slow and busy machine too
+USUAL = {time.monotonic: 0.1, time.process_time: 0.04}  # seconds that the piece of work of `slowness` takes on an idle machine, by each clock
+worst = dict.fromkeys(USUAL, 1.0)
 failures = []
 starting = threading.Lock()  # a child holds what is open until it runs its program: no port is tried in that time
 
@@ -18,6 +22,19 @@ def check(name, wanted, found):
 def within(name, good, found):
     """A check of a figure, or of what else has a bound: `found` is shown if it is not good."""
     check(name, "within its bound", "within its bound" if good else found)
+
+
+def slowness(clock=time.monotonic):
+    """How many times longer than on an idle machine a piece of work takes here, by this clock, with fifty short sleeps in it: the worst that was found
+    so far, and at least 1. A limit of time is multiplied by it, so that it says the same on a slow or a busy machine. By `time.process_time` it is
+    that of the processor alone."""
+    begun = clock()
+    for _ in range(50):
+        time.sleep(0.001)
+        for _ in range(20_000):
+            pass
+    worst[clock] = max(worst[clock], (clock() - begun) / USUAL[clock])
+    return worst[clock]
 
 
 def free_port():

@@ -24,7 +24,7 @@ status 0. The comment before the block is not needed; it says, separated by blan
     needs=jq,xmllint        the block is passed over, with a word, if one of these programs is not installed
     skip="no receiver"      the block is passed over, with this reason
     status=2                the last command of the block ends with this status
-    seconds=20              how long the block may take (10 if it does not say)
+    seconds=20              how long the block may take (60 if it does not say)
     serve="WORDS"           a daemon with these options and devices runs beside the block; a 2947 in a command is its port. The device word
                             NAME=feed:PATH is a FIFO that is given the bytes of PATH and stays open to the end of the block
 
@@ -43,7 +43,7 @@ import tempfile
 import threading
 import time
 
-from harness import Daemon, FifoDevice, check, exit_status
+from harness import Daemon, FifoDevice, check, exit_status, slowness, within
 
 PROGRAM = os.path.abspath(sys.argv[1])
 TOP = os.path.dirname(os.path.dirname(os.path.abspath(__file__)))
@@ -204,7 +204,7 @@ def outcome(block, port, text):
     parts = re.split(rf"\n{TOKEN} (\d+)\n", text)
     for number, (command, shown) in enumerate(block.commands):
         if len(parts) < 2 * number + 2:
-            return f"`{command}` does not end within {block.words.get('seconds', 10)} s, and wrote {parts[-1][-300:]!r}"
+            return f"`{command}` does not end within {block.words.get('seconds', MINUTE)} s, and wrote {parts[-1][-300:]!r}"
         found, status = parts[2 * number].split("\n"), int(parts[2 * number + 1])
         found = found[:-1] if found[-1] == "" else found
         if port:
@@ -237,7 +237,7 @@ def run_block(block):
             served = Served(block.words["serve"], place)
         port = served.daemon.port if served else None
         script = "".join((command.replace("2947", str(port)) if port else command) + f"\nprintf '\\n{TOKEN} %d\\n' $?\n" for command, _ in block.commands)
-        return outcome(block, port, run_shell(script, place, float(block.words.get("seconds", 10))))
+        return outcome(block, port, run_shell(script, place, float(block.words.get("seconds", MINUTE))))
     finally:
         if served:
             served.stop()
@@ -270,7 +270,7 @@ def main():
             else:
                 check(f"{block.place}: {block.commands[0][0].splitlines()[0][:70] if block.commands else ''}", None, run_block(block))
     taken = time.monotonic() - begun
-    check(f"all within a minute: {taken:.1f} s", True, taken < MINUTE)
+    within(f"all within a minute: {taken:.1f} s", taken < MINUTE * slowness(), taken)
     return exit_status()
 
 

@@ -15,11 +15,10 @@ import sys
 import threading
 import time
 
-from harness import Daemon, FifoDevice, TcpDevice, check, free_port, run, run_parts, sample_path, second, until, within
+from harness import WAIT, Daemon, FifoDevice, TcpDevice, check, free_port, run, run_parts, sample_path, second, until, within
 
 PROGRAM = os.path.abspath(sys.argv[1])
 DRIVE, SCRIPT = sample_path("drive.nmea"), sample_path("two_devices.script")
-WAIT = 60
 COMMANDS = [(("decode",), DRIVE), (("pseudo",), DRIVE), (("replay",), SCRIPT), (("generate", "--seed", "1", "--size", "3"), os.devnull),
             (("lines",), os.devnull), (("serve", "--listen", f"127.0.0.1:{free_port()}", f"g=file:{DRIVE}"), os.devnull)]
 
@@ -115,7 +114,7 @@ class Served:
         return self.daemon.open_files(), self.daemon.threads()
 
     def settled(self, wanted):
-        until(lambda: self.counts() == wanted, 20)
+        until(lambda: self.counts() == wanted)
         return self.counts()
 
     def end(self):
@@ -133,6 +132,7 @@ def fixes_of(lines):
 def resets():
     """A client says its part up to each point in turn, and resets the link there, once at once and once with all answers read."""
     served = Served()
+    until(served.daemon.at_rest)
     base = served.counts()
     said = b'?VERSION;?WATCH={"json":true,"nmea":true};?POLL;?WATCH={"raw":2};x;'
     points = sorted({0, 1, 3, 9, len(said)} | {at + 1 for at, byte in enumerate(said) if byte == 59} | set(range(12, len(said), 7)))
@@ -224,7 +224,8 @@ def lose(daemon, device, readers):
     daemon.starve()
     for t in range(100):
         device.send(rmc(t))
-        if until(lambda: not daemon.running() or daemon.threads() <= 2 + readers, 0.2):
+        until(lambda: not daemon.running() or daemon.at_rest())
+        if not daemon.running() or daemon.threads() <= 2 + readers:
             break
 
 
@@ -236,7 +237,7 @@ def waiting_readers():
     until(lambda: daemon.said().count("waiting for a writer") == 2)
     lose(daemon, device, 2)
     # The reader of the edges opens its FIFO only then. If there is no memory for that, it is a fault of its source, which comes first.
-    status = daemon.wait(10)[0]
+    status = daemon.wait()[0]
     check("no memory, while readers wait at FIFOs: status", True, status in (3, 7) or status)
     device.close()
     edges.close()
@@ -254,7 +255,7 @@ def waiting_writer():
     writer = threading.Thread(target=lambda: os.close(os.open(device.path, os.O_WRONLY)), daemon=True)
     writer.start()
     other.end()
-    check("a writer waits at a FIFO for the next daemon: status", 0, daemon.wait(10)[0])
+    check("a writer waits at a FIFO for the next daemon: status", 0, daemon.wait()[0])
     check("a writer waits at a FIFO for the next daemon: it waits on", False, until(lambda: not writer.is_alive(), 1))
     os.close(os.open(device.path, os.O_RDONLY | os.O_NONBLOCK))
     writer.join(WAIT)
@@ -273,7 +274,7 @@ def replaced():
     check("no memory, and a file in the place of the FIFO: it stays empty", (True, b""),
           (not until(lambda: not daemon.running(), 1), content(device.path)))
     device.send(b"\n")
-    check("no memory, and a file in the place of the FIFO: status, after one more byte", 7, daemon.wait(10)[0])
+    check("no memory, and a file in the place of the FIFO: status, after one more byte", 7, daemon.wait()[0])
     device.close()
 
 

@@ -25,14 +25,13 @@ import tempfile
 import threading
 import time
 
-from checks import check, exit_status, free_port, run_parts, starting, within
+from checks import WAIT, check, exit_status, free_port, run_parts, slowness, starting, within
 from packets import BEGIN, PLACE, clock_of, frame, gga, nav_eoe, nav_pvt, rmc, second, sentence
 
-__all__ = ["check", "exit_status", "run_parts", "within", "BEGIN", "PLACE", "clock_of", "frame", "gga", "nav_eoe", "nav_pvt", "rmc", "second",
-           "sentence", "WAIT", "SAMPLES", "VERSION", "Client", "Daemon", "FifoDevice", "Gpsd", "TcpDevice", "end_process", "free_port",
+__all__ = ["check", "exit_status", "run_parts", "slowness", "within", "BEGIN", "PLACE", "clock_of", "frame", "gga", "nav_eoe", "nav_pvt", "rmc",
+           "second", "sentence", "WAIT", "SAMPLES", "VERSION", "Client", "Daemon", "FifoDevice", "Gpsd", "TcpDevice", "cpu_of", "end_process", "free_port",
            "limited", "many_files", "run", "sample", "sample_path", "side_by_side", "until"]
 
-WAIT = 30  # seconds, for whatever must come
 SAMPLES = os.path.join(os.path.dirname(os.path.dirname(os.path.abspath(__file__))), "samples")
 VERSION = b'{"class":"VERSION","release":"gpsrelay-1","rev":"1","proto_major":3,"proto_minor":1}\r\n'
 
@@ -57,6 +56,13 @@ def until(done, seconds=WAIT, pause=0.02):
     while not (found := done()) and time.monotonic() < end:
         time.sleep(pause)
     return bool(found)
+
+
+def cpu_of(process):
+    """The processor time of a process so far, in seconds."""
+    with open(f"/proc/{process}/stat") as it:
+        fields = it.read().rpartition(")")[2].split()
+    return (int(fields[11]) + int(fields[12])) / os.sysconf("SC_CLK_TCK")
 
 
 def limited(kilobytes, files=0):
@@ -325,9 +331,7 @@ class Daemon:
 
     def cpu(self):
         """Its processor time in seconds."""
-        with open(f"{self.place}/stat") as it:
-            fields = it.read().rpartition(")")[2].split()
-        return (int(fields[11]) + int(fields[12])) / os.sysconf("SC_CLK_TCK")
+        return cpu_of(self.process.pid)
 
     def figure(self, name, folder=""):
         """A number of the process's status."""
@@ -350,6 +354,18 @@ class Daemon:
 
     def threads(self):
         return len(self.tasks())
+
+    def at_rest(self):
+        """Whether all its threads sleep, and none of them was awake in between: what came to it so far, it has handled."""
+        try:
+            before = self.wakeups()
+            return all(self.state(task) == "S" for task in self.tasks()) and self.wakeups() == before
+        except (FileNotFoundError, ProcessLookupError):
+            return False  # a thread has just ended
+
+    def state(self, task):
+        with open(f"{self.place}/task/{task}/stat") as it:
+            return it.read().rpartition(")")[2].split()[0]
 
     def wakeups(self):
         """How often its threads that live went to sleep of themselves, and were woken again."""

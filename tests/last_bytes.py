@@ -10,7 +10,7 @@ import sys
 import threading
 import time
 
-from harness import Daemon, TcpDevice, check, run_parts, second, until, within
+from harness import WAIT, Daemon, TcpDevice, check, run_parts, second, slowness, until, within
 
 PROGRAM = os.path.abspath(sys.argv[1])
 WATCH = b'?WATCH={"json":true};'
@@ -55,10 +55,10 @@ def watching(daemon):
 
 def read_on(client, pause=0.002, found=b""):
     """How many lines come to the end of the link, with those that came before, read slowly enough that the daemon has done its part long before."""
-    found, end = bytearray(client.buffer) + found, time.monotonic() + 60
+    found, end = bytearray(client.buffer) + found, time.monotonic() + 2 * WAIT
     while time.monotonic() < end:
         try:
-            data = client.receive(8192, 15)
+            data = client.receive(8192)
         except OSError:
             break
         if not data:
@@ -83,7 +83,7 @@ def ask_at_the_end():
     device.end()
     lines = read_on(client)
     client.close()
-    status, out = daemon.wait(30)
+    status, out = daemon.wait()
     how, why, items = closing(out)
     # Each item is one line, but for the answer to WATCH, which has two.
     check("asking at the daemon's end: how it ended", (0, b"drained", b"daemonend"), (status, how, why))
@@ -98,17 +98,17 @@ def ask_after_an_overrun():
     Asker(client)
     feeder = threading.Thread(target=device.send, args=(fixes(60_000),))
     feeder.start()
-    # It takes little while the device sends, so that its queue is full long before the device has sent all.
+    # It takes little until the daemon has read all that the device sends, so that its queue is full long before.
     slow = bytearray()
-    while feeder.is_alive() or len(slow) < 20_000:
+    while feeder.is_alive() or len(slow) < 20_000 or not daemon.at_rest():
         slow += client.receive(1_000) or b""
         time.sleep(0.02)
     feeder.join()
     lines = read_on(client, 0, slow)
     client.close()
-    gone = until(lambda: daemon.threads() < before, 15)
+    gone = until(lambda: daemon.threads() < before)
     device.end()
-    status, out = daemon.wait(30)
+    status, out = daemon.wait()
     how, why, items = closing(out)
     within("asking after an overrun: its threads are gone", gone, gone)
     check("asking after an overrun: how it ended", (0, b"drained", b"overrun"), (status, how, why))
@@ -123,10 +123,10 @@ def stay_at_the_end():
     client.line()
     start = time.monotonic()
     device.end()
-    status, out = daemon.wait(30)
+    status, out = daemon.wait()
     took = time.monotonic() - start
     client.close()
-    within("a client that stays: the daemon ends within 13 s", took < 13, took)
+    within("a client that stays: the daemon ends within 13 s", took < 13 * slowness(), took)
     check("a client that stays: how it ended", (0, b"writefault", b"daemonend"), (status, *closing(out)[:2]))
 
 
@@ -136,11 +136,11 @@ def resets_in_the_drain():
     clients = [watching(daemon) for _ in range(24)]
     device.send(fixes(100))  # more than a client's small buffer takes, and less than the system takes of the daemon
     device.end()
-    until(lambda: "has ended" in daemon.said(), 10)
-    time.sleep(1)
+    until(lambda: "has ended" in daemon.said())
+    until(daemon.at_rest)
     for client in clients:
         client.reset()
-    status, out = daemon.wait(30)
+    status, out = daemon.wait()
     ends = [line.split()[1:3] for line in out.splitlines() if line.startswith(b"s")]
     check("resets in the drain: how they ended", (0, [[b"writefault", b"daemonend"]] * 24), (status, ends))
 
@@ -150,16 +150,16 @@ def half_closed():
     daemon, device = started("--queue", "65536")
     client = watching(daemon)
     device.send(fixes(50))
-    until(lambda: client.line() is not None, 5)
+    client.line()
     client.finish()
     start = time.monotonic()
     lines = read_on(client)
     took = time.monotonic() - start
     client.close()
     device.end()
-    status, out = daemon.wait(30)
+    status, out = daemon.wait()
     how, why, items = closing(out)
-    within("a client that closed its side: it ends at once", took < 5, took)
+    within("a client that closed its side: it ends at once", took < 5 * slowness(), took)
     check("a client that closed its side: how it ended", (0, b"drained", b"hungup"), (status, how, why))
     check("a client that closed its side: the lines that came", items + 1 - 3 - 1, lines)
 

@@ -17,7 +17,7 @@ import tempfile
 import termios
 import time
 
-from harness import VERSION, Client, check, free_port, run, run_parts, within
+from harness import VERSION, WAIT, Client, check, free_port, run, run_parts, slowness, within
 
 PROGRAM = os.path.abspath(sys.argv[1])
 TOP = os.path.dirname(os.path.dirname(os.path.abspath(__file__)))
@@ -25,7 +25,6 @@ LAUNCHER = os.path.join(TOP, "examples", "launcher.sh")
 RULES = os.path.join(TOP, "examples", "60-gpsrelay.rules")
 UNIT = os.path.join(TOP, "examples", "gpsrelay.service")
 SHELLS = [it for it in (["dash"], ["bash", "--posix"], ["busybox", "sh"]) if shutil.which(it[0])]
-WAIT = 20
 
 # A program that says which words it got and which descriptors it has. It reads a byte of the FIFO (or its end) after `open` seconds, and
 # then ends with its status after `end` seconds.
@@ -37,6 +36,7 @@ if sys.argv[4] == "reads":
     print("read", sys.stdin.read(), flush=True)
 if sys.argv[4] != "ends":
     with open(sys.argv[-1], "rb") as it:
+        print("opened", flush=True)
         print("told", it.read(1), flush=True)
 time.sleep(end_after)
 if sys.argv[4] == "killed":
@@ -123,8 +123,7 @@ def other_ends():
         it.process.send_signal(signal.SIGTERM)
         check(f"{name}: standard input is the program's", ((0, True, []), True), (it.end(), b"read what comes" in it.said))
         it = stand_in(shell, 0, 0, 0.2, "alone")
-        it.says(b"words")
-        time.sleep(0.3)  # until it has opened the FIFO
+        it.says(b"opened")
         it.process.kill()
         check(f"{name}: the launcher is killed, and the program still stops in order", True, it.says(b"told b''") and it.says(b"done"))
         it.end()
@@ -163,7 +162,8 @@ def daemon():
         check("the daemon stops in order: its closing line", True, it.says(b"s0 drained "))
         status, _, left = it.end()
         check("its status, and nothing is left", (0, []), (status, left))
-        within("within two seconds, and what a busy machine adds", time.monotonic() - begun < 8, time.monotonic() - begun)
+        took = time.monotonic() - begun
+        within("within two seconds, and what a busy machine adds", took < 8 * slowness(), took)
 
 
 def unit():

@@ -11,7 +11,7 @@ import time
 import xml.etree.ElementTree as xml
 
 import browser
-from harness import Daemon, check, free_port
+from harness import WAIT, Daemon, check, cpu_of, free_port, slowness, within
 
 VIEW = os.path.join(os.path.dirname(os.path.dirname(os.path.abspath(__file__))), "tools", "view.py")
 
@@ -19,9 +19,9 @@ VIEW = os.path.join(os.path.dirname(os.path.dirname(os.path.abspath(__file__))),
 class View:
     """A running view.py and its address."""
 
-    def __init__(self, daemon_port):
+    def __init__(self, daemon_port, program=(VIEW,)):
         self.port = free_port()
-        self.process = subprocess.Popen([sys.executable, VIEW, f"127.0.0.1:{daemon_port}", "--listen", f"127.0.0.1:{self.port}"],
+        self.process = subprocess.Popen([sys.executable, *program, f"127.0.0.1:{daemon_port}", "--listen", f"127.0.0.1:{self.port}"],
                                         stderr=subprocess.PIPE)
         self.said = self.process.stderr.readline().decode()
 
@@ -29,7 +29,8 @@ class View:
         link = socket.socket()
         if buffer:
             link.setsockopt(socket.SOL_SOCKET, socket.SO_RCVBUF, buffer)
-        link.settimeout(10)
+            link.setsockopt(socket.IPPROTO_TCP, socket.TCP_MAXSEG, 536)  # or the other side's buffer grows to megabytes
+        link.settimeout(WAIT)
         link.connect(("127.0.0.1", self.port))
         link.sendall(f"{method} {path} HTTP/1.1\r\nHost: {host or f'127.0.0.1:{self.port}'}\r\nConnection: close\r\n\r\n".encode())
         return link
@@ -46,14 +47,18 @@ class View:
         began = time.monotonic()
         self.process.send_signal(how)
         try:
-            return self.process.wait(10), time.monotonic() - began
+            return self.process.wait(WAIT), time.monotonic() - began
         except subprocess.TimeoutExpired:
             self.process.kill()
-            return "still running", 10
+            return "still running", WAIT
+
+    def cpu(self):
+        """Its processor time in seconds."""
+        return cpu_of(self.process.pid)
 
 
 class Events:
-    """A browser's end of the events, without a browser."""
+    """A browser's end of the events, without a browser. `silence` is the longest time that `until` waited for one state."""
 
     def __init__(self, view, device=None):
         self.link = view.ask("/events" + (f"?device={device}" if device else ""))
@@ -65,11 +70,13 @@ class Events:
                 return json.loads(line[6:])
         return None
 
-    def until(self, test, seconds=8):
+    def until(self, test, seconds=WAIT):
         """The first state that passes the test, or the last one in this time."""
-        end, state = time.monotonic() + seconds, None
-        while time.monotonic() < end and (state := self.state()) is not None and not test(state):
-            pass
+        end, state, self.silence = time.monotonic() + seconds, None, 0.0
+        while (asked := time.monotonic()) < end and (state := self.state()) is not None:
+            self.silence = max(self.silence, time.monotonic() - asked)
+            if test(state):
+                break
         return state
 
     def close(self):
@@ -82,12 +89,12 @@ class PlayedDaemon:
 
     def __init__(self):
         self.listener = socket.create_server(("127.0.0.1", 0))
-        self.listener.settimeout(10)
+        self.listener.settimeout(WAIT)
         self.port = self.listener.getsockname()[1]
 
     def take(self):
         self.link, _ = self.listener.accept()
-        self.link.settimeout(10)
+        self.link.settimeout(WAIT)
         return self.link.recv(1024)
 
     def send(self, *lines):
@@ -135,7 +142,7 @@ def conversation(daemon, view):
     check("view: and then what is new", (False, [[48.0001, 11.5]]), (state["whole"], state["points"]))
     many(daemon, view, first)
     several(daemon, view)
-    taken = subprocess.run([sys.executable, VIEW, "--listen", f"127.0.0.1:{view.port}"], capture_output=True, timeout=10)
+    taken = subprocess.run([sys.executable, VIEW, "--listen", f"127.0.0.1:{view.port}"], capture_output=True, timeout=WAIT)
     check("view: a port that is taken: status and one line", (1, b"view.py: cannot serve at 127.0.0.1:%d: Address already in use\n" % view.port),
           (taken.returncode, taken.stderr))
     daemon.link.close()
@@ -145,7 +152,7 @@ def conversation(daemon, view):
     check("view: and is found again", (True, "10:00:20"), (lambda told: (told["connected"], told["fix"]["time"][11:19]))(
         late.until(lambda told: told["connected"] and told["fix"]["time"][11:19] == "10:00:20")))
     status, seconds = view.end(signal.SIGINT)
-    check("view: SIGINT ends it, with browsers open", (0, True), (status, seconds < 3))
+    check("view: SIGINT ends it, with browsers open", (0, True), (status, seconds < 3 * slowness()))
     first.close(), late.close()
 
 
@@ -159,16 +166,26 @@ def page(view):
           (view.answer("/etc/passwd")[0], view.answer(host="evil.example")[0], view.answer(method="POST")[0]))
 
 
+def waiting_links(port):
+    """How many links of a server have bytes that the other side does not take."""
+    with open("/proc/net/tcp") as it:
+        rows = [row.split() for row in it.read().splitlines()[1:]]
+    return sum(row[1].endswith(f":{port:04X}") and int(row[4].partition(":")[0], 16) > 0 for row in rows)
+
+
 def many(daemon, view, quick):
     """A browser that takes nothing holds up no other, and the memory stays bounded."""
+    before = view.cpu()
     stuck = [view.ask("/events", buffer=4096) for _ in range(5)]
     for first in range(100, 20_100, 1_000):
         daemon.send(*[tpv(second) for second in range(first, first + 1_000)])
-    began = time.monotonic()
     last = json.loads(tpv(20_099))["lat"]
     state = quick.until(lambda told: told["fix"]["lat"] == last)
     check("view: 20,000 lines, and five browsers that take nothing: another has the last one", last, state["fix"]["lat"])
-    check("view: soon", True, time.monotonic() - began < 5)
+    within("view: the five are stuck", waiting_links(view.port) >= len(stuck), waiting_links(view.port))
+    within("view: and is sent states all the while, so that nobody waited for the five", quick.silence < 10, quick.silence)  # they are dropped after 20
+    spent = view.cpu() - before
+    within("view: within 5 seconds of the processor", spent < 5 * slowness(time.process_time), spent)
     fresh = Events(view)
     check("view: an hour of the track is kept", 3_600, len(fresh.state()["points"]))
     with open(f"/proc/{view.process.pid}/status") as told:
@@ -180,8 +197,11 @@ def many(daemon, view, quick):
 
 def several(daemon, view):
     daemon.send(tpv(30, "gps1"), *[b'{"class":"TPV","device":"made%d","mode":1}' % k for k in range(100)])
+    events = Events(view)
+    events.until(lambda told: told["badLines"] >= len(BAD) + 86)
+    events.close()
     events = Events(view, "gps1")
-    state = events.until(lambda told: told["badLines"] >= len(BAD) + 86)
+    state = events.state()
     check("view: a device is chosen; sixteen are kept and no more", ("gps1", 1, 16), (state["device"], len(state["points"]), len(state["devices"])))
     events.close()
 
@@ -194,7 +214,7 @@ PAPER = {"light": "rgb(255, 255, 255)", "dark": "rgb(13, 17, 23)"}
 
 def writer(fifo):
     """The writer's end of a FIFO, once somebody reads it."""
-    end = time.monotonic() + 10
+    end = time.monotonic() + WAIT
     while True:
         try:
             end_of_it = os.open(fifo, os.O_WRONLY | os.O_NONBLOCK)
@@ -227,7 +247,7 @@ class Drive:
     def start(self):
         self.daemon = Daemon(self.program, *[f"{name}=file:{fifo}" for name, fifo in self.fifos.items()], port=self.port)
         self.feeds = {name: writer(fifo) for name, fifo in self.fifos.items()}
-        self.client = self.daemon.client(seconds=10)
+        self.client = self.daemon.client()
         self.client.watching()
 
     def drive(self, first, last, device="gps0"):
@@ -292,7 +312,7 @@ def in_browser(program, path, shots):
             faults = [event["entry"]["text"] for event in chromium.told("Log.entryAdded")] + chromium.told("Runtime.exceptionThrown")
             check("page: no fault and nothing against its policy", [], faults)
             status, seconds = view.end(signal.SIGTERM)
-            check("view: SIGTERM ends it", (0, True), (status, seconds < 3))
+            check("view: SIGTERM ends it", (0, True), (status, seconds < 3 * slowness()))
             gone = "The server of this page is gone. Trying again."
             check("page: its own server is gone", gone, chromium.wait(words("status"), gone))
         finally:
@@ -379,7 +399,7 @@ def links(chromium, view, drive, folder):
     check("page: links to a map", [f"geo:{place}", osm, "noopener noreferrer"], found)
     chromium.downloads(folder)
     chromium.value("document.getElementById('gpx').click()")
-    path, end = os.path.join(folder, "gps0-2024-06-01.gpx"), time.monotonic() + 8
+    path, end = os.path.join(folder, "gps0-2024-06-01.gpx"), time.monotonic() + WAIT
     while not os.path.exists(path) and time.monotonic() < end:
         time.sleep(0.05)
     points = []

@@ -12,7 +12,7 @@ import sys
 import threading
 import time
 
-from harness import Client, Daemon, FifoDevice, exit_status, run, sample, within
+from harness import WAIT, Client, Daemon, FifoDevice, exit_status, run, sample, within
 from packets import sentence
 
 PROGRAM = os.path.abspath(sys.argv[1])
@@ -47,7 +47,7 @@ def asked(daemon):
     have had no memory to say that it listens, so its port is tried."""
     while daemon.running():
         try:
-            client = Client(daemon.port, seconds=10)
+            client = Client(daemon.port)
             break
         except OSError:
             time.sleep(0.01)
@@ -72,19 +72,21 @@ def serve(given, kilobytes):
     device.alone()
 
     def give():
-        try:
-            device.send(given)
-            device.end()
-        except BrokenPipeError:
-            pass
+        while daemon.running():
+            try:
+                device.send(given)
+                device.end()
+                return
+            except BrokenPipeError:  # the daemon has not opened the FIFO yet, or has closed it
+                time.sleep(0.01)
 
     giver = threading.Thread(target=give, daemon=True)
     giver.start()
     if client:
         had += client.rest()
         client.close()
-    status, out = daemon.wait(10)
-    giver.join(10)
+    status, out = daemon.wait()
+    giver.join(WAIT)
     device.close()
     return status, out, daemon.said(), had
 
@@ -148,7 +150,7 @@ def flat(times):
     with open(f"/proc/{decode.pid}/status", encoding="ascii") as it:
         peak = int(re.search(r"VmHWM:\s+(\d+)", it.read())[1])
     decode.stdin.close()
-    status = decode.wait(60)
+    status = decode.wait(WAIT)
     within(f"decode --history all of {times * len(drive):,} bytes: status 0, and at most 4,000 KB", status == 0 and peak <= 4_000, (status, peak))
 
 

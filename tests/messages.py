@@ -16,11 +16,10 @@ import tempfile
 import time
 import tty
 
-from harness import Client, Daemon, TcpDevice, check, end_process, exit_status, free_port, run_parts, sentence, until
+from harness import WAIT, Client, Daemon, TcpDevice, check, end_process, exit_status, free_port, run_parts, sentence, slowness, until, within
 
 PROGRAM = os.path.abspath(sys.argv[1])
 USAGE = "usage: gpsrelay decode|replay|generate|pseudo|lines|serve"
-WAIT = 20
 NOBODY = 65534
 
 RMC = sentence("GPRMC,123519,A,4807.038,N,01131.000,E,022.4,084.4,230394,003.1,W")
@@ -286,7 +285,7 @@ def blocked_errors():
             status, out = end_process(daemon, WAIT)
             taken = time.monotonic() - begun
             check(f"{name}: status, and a closing line for each of 2 clients and 8 segments", (0, 10), (status, out.count(b"\n")))
-            check(f"{name}: it ends within 5 s: {taken:.1f} s", True, taken < 5)
+            within(f"{name}: it ends within 5 s: {taken:.1f} s", taken < 5 * slowness(), taken)
             if not is_read:
                 os.close(errors.reader)
                 continue

@@ -5,6 +5,7 @@ daemon; late subscribers; the daemon's processor time; restarts of the daemon an
 Use: mqtt.py PROGRAM. Prints a line for each check, and ends with 1 if one fails. Needs mosquitto, without which it skips all but the
 messages and the unit. Takes some 10 seconds.
 """
+import contextlib
 import importlib.util
 import json
 import os
@@ -191,7 +192,8 @@ def messages():
             link, _ = played.accept()
             asked = link.recv(1024)
             link.sendall(answer)
-            link.shutdown(socket.SHUT_WR)
+            with contextlib.suppress(OSError):  # the tool may have ended already
+                link.shutdown(socket.SHUT_WR)
             check(f"a broker that answers {answer!r}", (1, f"mqtt.py: {said}"), tool.end())
             link.close()
         # protocol name, level 4, a clean session without a user, 60 s to keep alive, an identifier of at most 23 letters and digits

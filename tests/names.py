@@ -3,11 +3,14 @@
 
 Use: names.py [--comments | --rows], anywhere in a checkout. Prints one line for each finding, with its place and what to do, and ends
 with 1 if there is one. With --comments the phrases are looked for in the comments of crates/ too, which the gate does not ask for. With
---rows it prints only what ROWS would be today.
+--rows it prints only what ROWS, DEFAULTS and ARGUMENTS would be today.
 
  types     Two crates declare a public type of one name, and docs/GLOSSARY.md has no line that names it in backticks and says why.
  rows      A row of a contract (of an `ensures` or a `requires`) passes 160 columns. ROWS allows a crate the rows that it still has;
            a number that is larger than what is there is a finding too, so that it only shrinks.
+ defaults  A definition looks an element up with a value in case there is none (`get_or`). DEFAULTS allows a crate those that it still has.
+ arguments A function has more than six arguments. ARGUMENTS allows a crate those that it still has.
+ words     A source uses a word of RETIRED, which means something else in another crate.
  files     A source file passes 450 lines.
  names     A document names a crate, a file, a type, a call or a clause that is not there.
  phrases   A document or a message has a phrase of FOREIGN.
@@ -22,7 +25,16 @@ COLUMNS, LINES = 160, 450
 PROOF_LINES = 500  # a file of lemmas, which nobody reads from its beginning to its end
 # Rows of contracts that are still too long, by crate. There is none, so add none.
 ROWS = {}
-DOCUMENTS = ["README.md", "docs/ARCHITECTURE.md", "docs/GLOSSARY.md", "docs/PROOF.md", "docs/ASSUMPTIONS.md"]
+# Definitions with `get_or`, and functions of more than six arguments, by crate. These numbers only shrink.
+DEFAULTS = {"book_log": 3, "replay_monitors": 4, "replay_player": 1, "report_book": 4, "serve_door": 2, "serve_end_settling": 3, "session_runs": 1}
+ARGUMENTS = {"book_log": 3, "book_sessions": 2, "gps_decode": 1, "gps_serve": 7, "serve_door": 5, "serve_threads": 7, "serve_workers": 11}
+MOST_ARGUMENTS = 6
+# Words that these crates do not use in names, and what they say in their place: each word has another meaning somewhere else.
+RETIRED = [
+    (r"class_counts|gps_decode|gps_outside|gps_replay|gps_upstream|line_player|ubx_frame|library_tests", r"[Tt]urns?", "round; a turn is the book's"),
+    (r"shm_\w+", r"[Tt]urns?", "position; a turn is the book's"),
+]
+DOCUMENTS = ["README.md", "docs/LIMITS.md", "docs/ARCHITECTURE.md", "docs/GLOSSARY.md", "docs/PROOF.md", "docs/ASSUMPTIONS.md"]
 # Words in backticks that no source of this project has: programs and words of others.
 ELSEWHERE = {"cgps", "chrony", "chronyd", "chrt", "gpsbabel", "gpsctl", "gpsd", "gpsdecode", "gpsmon", "gpspipe", "gpxlogger", "jq", "mandoc",
              "ntpd", "rt", "rustc", "socat", "stty", "systemctl", "systemd", "ubxtool", "xgps"}
@@ -97,16 +109,81 @@ def long_rows(files):
     return found
 
 
-def rows(files):
-    """Rows of contracts that are too long, and allowances that are too large."""
-    found = long_rows(files)
-    for crate in sorted({*found, *ROWS}):
-        allowed, there = ROWS.get(crate, 0), found[crate]
+def against(found, allowances, table, what):
+    """What a crate has beyond its allowance, and allowances that are too large."""
+    for crate in sorted({*found, *allowances}):
+        allowed, there = allowances.get(crate, 0), found.get(crate, [])
         if len(there) > allowed:
-            for row in there:
-                yield f"{row} in a row of a contract, {COLUMNS} at the most; name its parts" + (f" ({len(there)} in {crate}, {allowed} allowed)" if allowed else "")
+            for place in there:
+                yield f"{place} {what}" + (f" ({len(there)} in {crate}, {allowed} allowed)" if allowed else "")
         elif len(there) < allowed:
-            yield f"tests/names.py: ROWS allows {crate} {allowed} long rows, and it has {len(there)}; make the number {len(there)}"
+            yield f"tests/names.py: {table} allows {crate} {allowed}, and it has {len(there)}; make the number {len(there)}"
+
+
+def rows(files):
+    """Rows of contracts that are too long."""
+    yield from against(long_rows(files), ROWS, "ROWS", f"in a row of a contract, {COLUMNS} at the most; name its parts")
+
+
+def lookups(files):
+    """Of each crate its definitions' rows with `get_or`."""
+    found = defaultdict(list)
+    for name in files:
+        if re.fullmatch(r"crates/\w+/specs/.*\.antt", name):
+            found[crate_of(name)] += [f"{name}:{number}:" for number, row in rows_of(name) if re.search(r"\(get_or\b|\bget_or \w", row) and not row.startswith("use ")]
+    return found
+
+
+def defaults(files):
+    """Definitions that look up with a default."""
+    yield from against(lookups(files), DEFAULTS, "DEFAULTS", "`get_or` in a definition; say it of a list of pairs (AllZip), or of an option")
+
+
+def count_arguments(text, at):
+    """How many arguments the list that begins at this place of the text has."""
+    depth, count, named = 0, 0, False
+    for k in range(at, len(text)):
+        sign = text[k]
+        if sign in ")]>" and not (sign == ">" and text[k - 1] == "-"):
+            if depth == 0:
+                return count + named
+            depth -= 1
+        elif sign in "([<":
+            depth += 1
+        elif sign == "," and depth == 0:
+            count, named = count + 1, False
+            continue
+        named = named or not sign.isspace()
+    return count
+
+
+def long_lists(files):
+    """Of each crate its functions with too many arguments."""
+    found = defaultdict(list)
+    for name in files:
+        if re.fullmatch(r"crates/\w+/src/.*\.rt", name):
+            text = read(name)
+            for it in re.finditer(r"\bfn (\w+)\s*(?:<[^(]*>)?\(", text):
+                if (count := count_arguments(text, it.end())) > MOST_ARGUMENTS:
+                    found[crate_of(name)].append(f"{name}:{text.count(chr(10), 0, it.start()) + 1}: `{it[1]}` has {count} arguments,")
+    return found
+
+
+def arguments(files):
+    """Functions with too many arguments."""
+    yield from against(long_lists(files), ARGUMENTS, "ARGUMENTS", f"{MOST_ARGUMENTS} at the most; put those that travel together into one value")
+
+
+def words(files):
+    """Words that have another meaning somewhere else."""
+    for name in files:
+        if not re.fullmatch(r"crates/.*\.(?:rt|antt|edit)", name):
+            continue
+        for crates, word, plain in RETIRED:
+            if re.fullmatch(crates, crate_of(name)):
+                for number, row in rows_of(name):
+                    if found := re.search(rf"(?<![a-z])(?:{word})(?![a-z])", row):
+                        yield f"{name}:{number}: `{found[0]}`; this crate says {plain}"
 
 
 def long_files(files):
@@ -200,10 +277,11 @@ def main():
     listed = subprocess.run(["git", "ls-files", "--cached", "--others", "--exclude-standard"], capture_output=True, text=True, check=True).stdout.split("\n")
     files = sorted(name for name in listed if os.path.isfile(name))
     if "--rows" in sys.argv:
-        print({crate: len(found) for crate, found in sorted(long_rows(files).items()) if found})
+        for table in long_rows, lookups, long_lists:
+            print(table.__name__, {crate: len(found) for crate, found in sorted(table(files).items()) if found})
         return 0
     count = 0
-    for look in types, rows, long_files, names, phrases:
+    for look in types, rows, defaults, arguments, words, long_files, names, phrases:
         for finding in look(files):
             count += 1
             print(f"FAILED  {finding}")

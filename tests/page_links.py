@@ -11,13 +11,14 @@ import threading
 import time
 import xml.etree.ElementTree as xml
 
-from harness import Daemon, FifoDevice, check, free_port, run_parts, second, until, within
+from harness import WAIT, Daemon, FifoDevice, check, free_port, run_parts, second, slowness, until, within
 from live_page import Events, PlayedDaemon, View, tpv
 
 TRACK = os.path.join(os.path.dirname(os.path.dirname(os.path.abspath(__file__))), "tools", "track.py")
 POINT = "{http://www.topografix.com/GPX/1/1}trkpt"
 SEGMENT, TIME = POINT.replace("trkpt", "trkseg"), POINT.replace("trkpt", "time")
 LINKS = 64  # that view.py has room for
+PATIENT = ["-c", "import sys; sys.path[0] = sys.argv.pop(1); import view; view.HEADER = 1_000.0; sys.exit(view.main())", os.path.dirname(TRACK)]
 
 
 def points_of(document):
@@ -109,38 +110,47 @@ class Slow:
 
 
 def slow_headers():
-    """As many slow connections as there are places keep nobody out; a header has 5 seconds; a browser that is served stays."""
+    """As many slow connections as there are places keep nobody out, though a header may take longer than anyone here waits; a browser with events
+    stays."""
     daemon = PlayedDaemon()
-    view = View(daemon.port)
+    view = View(daemon.port, PATIENT)
     try:
         daemon.take()
         daemon.send(tpv(1))
         events = Events(view, "gps0")
         events.until(lambda told: told.get("fix"))
-        begun = time.monotonic()
         slow = Slow(view.port, LINKS)
-        took = []
-        for _ in range(10):
-            asked = time.monotonic()
-            took.append((status_of(view), time.monotonic() - asked < 2))
-        check("view: 64 slow connections keep nobody out", [(200, True)] * 10, took)
+        check("view: 64 slow connections keep nobody out", [200] * 10, [status_of(view) for _ in range(10)])
         dropped = slow.ended()
         check("view: the oldest make room, and no more than are needed", list(range(min(max(len(dropped), 1), 12))), dropped)
-        kept = socket.create_connection(("127.0.0.1", view.port), timeout=15)
+        daemon.send(tpv(2))
+        state = events.until(lambda told: told["fix"]["time"][17:19] == "02")
+        check("view: a browser with events stays", "02", state["fix"]["time"][17:19])
+        slow.close(), events.close()
+    finally:
+        view.process.kill()
+        view.process.wait()
+
+
+def late_headers():
+    """A header has 5 seconds, and so has the next request of a link that is kept after its answer."""
+    daemon = PlayedDaemon()
+    view = View(daemon.port)
+    try:
+        begun = time.monotonic()
+        slow = Slow(view.port, 3)
+        kept = socket.create_connection(("127.0.0.1", view.port), timeout=WAIT)
         kept.sendall(b"GET /icon.svg HTTP/1.1\r\nHost: 127.0.0.1\r\n\r\n")
         answer = b""
         while b"</svg>" not in answer and (data := kept.recv(65_536)):
             answer += data
         check("view: a link is kept after its answer", True, answer.endswith(b"</svg>"))
-        daemon.send(tpv(2))
-        state = events.until(lambda told: told["fix"]["time"][17:19] == "02")
-        check("view: a browser with events stays", "02", state["fix"]["time"][17:19])
-        all_gone = until(lambda: len(slow.ended()) == LINKS, 15)
+        all_gone = until(lambda: len(slow.ended()) == len(slow.links))
         seconds = time.monotonic() - begun
         check("view: each slow header is ended", True, all_gone or slow.ended())
-        within(f"view: after 5 seconds ({seconds:.1f} s)", 4.5 < seconds < 12, seconds)
-        check("view: a link that is kept after its answer has 5 seconds for the next request", True, until(lambda: kept.recv(65_536) == b"", 15))
-        slow.close(), kept.close(), events.close()
+        within(f"view: after 5 seconds ({seconds:.1f} s)", 4.5 < seconds < 12 * slowness(), seconds)
+        check("view: a link that is kept after its answer has 5 seconds for the next request", b"", kept.recv(65_536))
+        slow.close(), kept.close()
     finally:
         view.process.kill()
         view.process.wait()
@@ -166,26 +176,25 @@ def restarts(program):
             wanted = []
             for turn, begin in enumerate((0, 5)):
                 daemon = Daemon(program, fifo.word, port=port).listening()
-                there = f"the daemon at 127.0.0.1:{port} is there\n".encode()
+                there, gone = (f"track.py: the daemon at 127.0.0.1:{port} is {how}\n".encode() for how in ("there", "gone; trying again"))
                 check(f"view: the daemon is there ({turn})", True, events.until(lambda told: told["connected"])["connected"])
                 check(f"track: the daemon is there ({turn})", True, until(lambda: read(said).count(there) == turn + 1) or read(said))
                 fifo.send(b"".join(second(at) for at in range(begin, begin + 4)))
                 wanted.append([f"2024-06-01T12:00:{at:02d}.000Z" for at in range(begin, begin + 3)])
                 check(f"view: its fixes come ({turn})", True, until(lambda: gpx_is_there(view, 3 * turn + 3)))
-                time.sleep(0.5)  # track.py has no state to look at: it has read what view.py has read half a second ago
+                check(f"the daemon has sent all ({turn})", True, until(daemon.at_rest))
                 daemon.stop()
                 check(f"view: the daemon is gone ({turn})", False, events.until(lambda told: not told["connected"])["connected"])
+                check(f"track: it says that the daemon is gone ({turn})", True, until(lambda: read(said).count(gone) == turn + 1) or read(said))
             times = [[time_of for _, _, time_of in run] for run in points_of(view.answer("/track.gpx?device=gps0")[2])]
             check("view: both parts of the track, with a gap between", wanted, times)
             track.send_signal(signal.SIGINT)
-            check("track: Ctrl-C ends it", 0, track.wait(10))
+            check("track: Ctrl-C ends it", 0, track.wait(WAIT))
             with open(gpx, encoding="utf-8") as it:
                 times = [[time_of for _, _, time_of in run] for run in points_of(it.read())]
             check("track: both parts of the track, with a gap between", wanted, times)
             with open(picture, encoding="utf-8") as it:
                 check("track: the picture has both", True, "6 fixes" in it.read())
-            gone = f"track.py: the daemon at 127.0.0.1:{port} is gone; trying again\n".encode()
-            check("track: it says that the daemon was gone", 2, read(said).count(gone))
         finally:
             events.close()
             for process in view.process, track:
@@ -202,7 +211,7 @@ def default_address():
         track = subprocess.Popen([sys.executable, TRACK, "--daemon", "-o", picture], stderr=subprocess.PIPE)
         check("track: the address of a daemon by default", b"track.py: following the daemon at 127.0.0.1:2947; Ctrl-C ends it\n", track.stderr.readline())
         track.send_signal(signal.SIGTERM)
-        check("track: SIGTERM ends it with a picture", (0, True), (track.wait(10), os.path.exists(picture)))
+        check("track: SIGTERM ends it with a picture", (0, True), (track.wait(WAIT), os.path.exists(picture)))
         track.stderr.close()
 
 
@@ -215,7 +224,7 @@ def run(program):
     def restart():
         restarts(program)
 
-    threads = [threading.Thread(target=run_parts, args=(part,)) for part in (track_as_gpx, slow_headers, restart, default_address)]
+    threads = [threading.Thread(target=run_parts, args=(part,)) for part in (track_as_gpx, slow_headers, late_headers, restart, default_address)]
     for thread in threads:
         thread.start()
     for thread in threads:

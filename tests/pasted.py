@@ -11,7 +11,7 @@ status 0. A comment just above a block says what else there is to know, as in co
     shows=TEXT       the last command goes on; it must show this, and is then ended by Ctrl-C
     page=URL         before that, this page must be there
     skip="REASON"    the block is not pasted
-    seconds=N        how long the block may take (20 if it does not say)
+    seconds=N        how long the block may take (60 if it does not say)
 
 The shell has its own network, if the system lets it, so that the ports of the document are free; if not, and one is taken, nothing is
 tried. `sudo` installs below a folder of the test and does nothing else, `rt` and `systemctl` do nothing, and /dev/ttyACM0 is a terminal that
@@ -33,7 +33,7 @@ import threading
 import time
 import urllib.request
 
-from checks import check, exit_status
+from checks import WAIT, check, exit_status
 from commands import words_of
 
 PROGRAM = os.path.abspath(sys.argv[1])
@@ -194,7 +194,7 @@ class Shell:
             os.chdir(place.home)
             os.execvpe("bash", ["bash", "--norc", "--noprofile", "--noediting", "-i"], environment)
         self.type("stty -echo; PS1= PS2= PROMPT_COMMAND='echo \"==status $?==\"'; echo rea''dy")
-        if not self.shows(b"ready\r\n==status 0==", 0, 20):
+        if not self.shows(b"ready\r\n==status 0==", 0, WAIT):
             raise RuntimeError(f"the shell does not begin, and wrote {self.said!r}")
 
     def type(self, text):
@@ -220,7 +220,7 @@ class Shell:
         """What is wrong with a block, or None."""
         if unknown := set(block.words) - KNOWN:
             return f"its comment says {sorted(unknown)}, which means nothing"
-        start, seconds, wanted = len(self.said), float(block.words.get("seconds", 20)), block.words.get("shows", "").encode()
+        start, seconds, wanted = len(self.said), float(block.words.get("seconds", WAIT)), block.words.get("shows", "").encode()
         self.type("\n".join(block.rows).replace(DEVICE, self.place.device))
         fault, end = None, None
         if wanted:
@@ -232,7 +232,7 @@ class Shell:
             self.interrupt()
         mark = f"==block {number} has ended=="
         self.type(f"echo '{mark}'")
-        if not self.shows(mark.encode(), start, 10 if wanted else seconds) and not fault:
+        if not self.shows(mark.encode(), start, WAIT if wanted else seconds) and not fault:
             fault = "does not end"
         status = re.search(rb"==status ([1-9]\d*)==", self.said[start:end])
         if status and not fault:
@@ -245,12 +245,12 @@ class Shell:
         """Ctrl-C, and a wait for the prompt: what is typed before it would be lost."""
         start = len(self.said)
         os.write(self.terminal, b"\x03")
-        self.shows(b"==status ", start, 5)
-        self.shows(b"==\r\n", start, 5)
+        self.shows(b"==status ", start, WAIT)
+        self.shows(b"==\r\n", start, WAIT)
 
     def missing(self, page):
         try:
-            with urllib.request.urlopen(page, timeout=10) as it:
+            with urllib.request.urlopen(page, timeout=WAIT) as it:
                 return None if it.status == 200 and b"<html" in it.read() else f"{page} is no page"
         except OSError as error:
             return f"{page} is not there: {error}"

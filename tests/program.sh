@@ -23,7 +23,7 @@ mkfifo "$place/pipe"
 "$program" decode <"$place/pipe" >"$place/out" 2>"$place/err" &
 exec 3>"$place/pipe"
 printf '%s\r\n%s\r\n' "$sentence" "$later" >&3
-for _ in $(seq 100); do [ -s "$place/out" ] && break; sleep 0.1; done
+for _ in $(seq 600); do [ -s "$place/out" ] && break; sleep 0.1; done
 check 'an epoch closes while the pipe is open' "$line" "$(tr -d '\r' <"$place/out")"
 exec 3>&-
 wait $!

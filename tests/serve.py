@@ -13,7 +13,7 @@ import sys
 import threading
 import time
 
-from harness import VERSION, Daemon, FifoDevice, TcpDevice, check, many_files, run_parts, second, until, within
+from harness import VERSION, WAIT, Daemon, FifoDevice, TcpDevice, check, many_files, run_parts, second, slowness, until, within
 
 PROGRAM = os.path.abspath(sys.argv[1])
 WATCH = b'?WATCH={"json":true};'
@@ -104,8 +104,10 @@ def bad_clients():
         time.sleep(0.01)
     check("one byte at a time", VERSION, slow.line())
     gone.send(b'?WATCH={"json":true};?POLL;?POLL;?POL')
+    until(daemon.at_rest)
+    threads = daemon.threads()
     gone.reset()
-    time.sleep(0.5)  # the daemon notices it, so that its end is not what closes this session
+    until(lambda: daemon.threads() < threads)  # the daemon notices it, so that its end is not what closes this session
     device.send(second(0) + second(1) + second(2))
     device.end()
     check("the good client has it all", ["DEVICE", "TPV", "TPV", "TPV", "DEVICE"], classes_of(good.lines()))
@@ -118,23 +120,24 @@ def bad_clients():
 def crowd():
     """The 65th client, and many that come and go. Of each that has gone little stays until the daemon ends."""
     daemon, device = started("--queue", "64")
+    until(daemon.listening().at_rest)
+    alone = daemon.threads()
     clients = [daemon.client() for _ in range(64)]
     for client in clients:
         client.line()
     late = daemon.client()
     check("the 65th link is dropped without a byte", None, late.line())
     clients[7].close()
-    again = None
-    for _ in range(100):
-        again = daemon.client()
-        if again.line() == VERSION:
-            break
+    again = daemon.client()
+    end = time.monotonic() + WAIT
+    while again.line() != VERSION and time.monotonic() < end:
         time.sleep(0.05)
+        again = daemon.client()
     check("when one has gone the next is taken", False, again.ended)
     for client in clients:
         client.close()
     again.close()
-    time.sleep(1.5)
+    until(lambda: daemon.threads() <= alone)
     probe = daemon.client()
     probe.line()
     files, memory, threads = daemon.open_files(), daemon.memory(), daemon.threads()
@@ -142,9 +145,8 @@ def crowd():
         client = daemon.client()
         client.line()
         client.close()
-    time.sleep(1.5)
-    within(f"{LINKS:,} links later: open files", daemon.open_files() <= files + 8, (files, daemon.open_files()))
-    within(f"{LINKS:,} links later: threads", daemon.threads() <= threads + 8, (threads, daemon.threads()))
+    within(f"{LINKS:,} links later: open files", until(lambda: daemon.open_files() <= files + 8), (files, daemon.open_files()))
+    within(f"{LINKS:,} links later: threads", until(lambda: daemon.threads() <= threads + 8), (threads, daemon.threads()))
     within(f"{LINKS:,} links later: at most 10 KB each", daemon.memory() <= memory + LINKS * 10, (memory, daemon.memory()))
     device.end()
     check("the crowd: status", 0, daemon.wait()[0])
@@ -155,6 +157,7 @@ def stuck_client():
     daemon, device = started("--queue", "4000")
     quick = daemon.client()
     quick.line()
+    until(daemon.at_rest)
     files = daemon.open_files()
     stuck = daemon.client(4096)
     stuck.line()
@@ -173,16 +176,17 @@ def stuck_client():
         device.send(second(t) * 20)
         time.sleep(0.002)
     fed = time.monotonic()
-    until(lambda: daemon.open_files() <= files, 10)
+    until(lambda: daemon.open_files() <= files)
     check("of a stuck one no file is left", files, daemon.open_files())
     device.end()
-    reader.join(30)
+    reader.join(WAIT)
     gaps = [b - a for a, b in zip(stamps, stamps[1:]) if b <= fed]
-    within("a quick client beside a stuck one waits less than half a second", max(gaps, default=9) < 0.5, max(gaps, default=9))
+    within("a quick client beside a stuck one waits less than half a second", max(gaps, default=9) < 0.5 * slowness(), max(gaps, default=9))
     within("and gets every sentence", len(stamps) >= 2_000 * 20 * 2, len(stamps))
     status, out = daemon.wait()
     check("a stuck client: status", 0, status)
-    within("the stuck one overran", re.search(rb"^s1 (drained|writefault) overrun \d+$", out, re.M) is not None, out)
+    # If the device is slow, its second without a byte taken comes before its queue is full.
+    within("the stuck one overran, or was ended as it took nothing", re.search(rb"^s1 (drained|writefault) (overrun|hungup) \d+$", out, re.M) is not None, out)
 
 
 def devices():
@@ -264,7 +268,7 @@ def idle():
         client.line()
         client.send(b'?WATCH={"nmea":true}\n')
         client.line(), client.line()
-    time.sleep(0.5)
+    until(daemon.at_rest)
     before = daemon.cpu()
     time.sleep(5)
     spent = daemon.cpu() - before
@@ -279,7 +283,7 @@ def idle():
             if client is not clients[t]:
                 client.line()
             client.line()
-    within("a sentence is there within 20 ms, at the middle of thirty", sorted(waits)[15] < 0.02, sorted(waits)[15])
+    within("a sentence is there within 20 ms, at the middle of thirty", sorted(waits)[15] < 0.02 * slowness(), sorted(waits)[15])
     device.end()
     for client in clients:
         client.lines()

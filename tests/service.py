@@ -6,6 +6,7 @@ Use: service.py PROGRAM [NAME.. | LIMIT]. NAME picks some of the parts, as `tree
 itself, if it was built with a small one (SESSIONS in telling_door.rt): then that alone is run. gpsd is tried where it is installed. Prints a
 line for each check, and ends with 1 if one fails. Every wait is bounded.
 """
+import select
 import signal
 import sys
 import threading
@@ -18,6 +19,7 @@ from service_tools import PROGRAM, SOON, Service, Watched, Watcher, freeze
 
 BURST = 128       # links that are taken at once
 PACE = 10         # links a second behind them
+NONE_LEFT = "has no file descriptor left: raise LimitNOFILE"
 
 
 def pace():
@@ -41,10 +43,10 @@ def pace():
     later = sum(visit() for _ in range(more))
     slow = time.monotonic() - begun
     check("pace: all are greeted", BURST + more, first + later)
-    within(f"pace: {BURST} links at once", quick < 8, f"{quick:.1f} s")
+    within(f"pace: {BURST} links at once", quick < 8 * slowness(), f"{quick:.1f} s")
     spare = PACE * quick  # links that the time of the burst allowed besides
     least = max(0, (more - spare - 2) / PACE)
-    within(f"pace: {more} more take at least {least:.1f} s", least <= slow <= 12, f"{slow:.1f} s")
+    within(f"pace: {more} more take at least {least:.1f} s", least <= slow <= 12 * slowness(), f"{slow:.1f} s")
     service.ends("after a burst")
     device.close()
 
@@ -81,8 +83,9 @@ def few_files():
         clients, greeting = [], VERSION
         while greeting and len(clients) < files:
             clients.append(daemon.client())
+            until(lambda: select.select([clients[-1].socket], [], [], 0)[0] or NONE_LEFT in daemon.said())
             greeting = clients[-1].receive(seconds=1)
-        check(f"{files} files: it is said that none is left", True, daemon.says("has no file descriptor left: raise LimitNOFILE"))
+        check(f"{files} files: it is said that none is left", True, daemon.says(NONE_LEFT))
         time.sleep(1)
         check(f"{files} files: once", 1, daemon.said().count("LimitNOFILE"))
         clients[0].close()
@@ -114,7 +117,7 @@ def frozen():
           [(asked.line() or b"").partition(b'"class":"')[2].partition(b'"')[0] for _ in range(2)])
     device.send(second(0))
     check("stopped for a minute: and is served", second(0), asked.line() + asked.line())
-    check("stopped for a minute: who asked nothing is closed", b"", silent.receive(seconds=10))
+    check("stopped for a minute: who asked nothing is closed", b"", silent.receive())
     asked.close()
     silent.close()
     device.end()

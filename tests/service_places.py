@@ -6,7 +6,7 @@ import tempfile
 import time
 
 from harness import *
-from service_tools import PROGRAM, SLACK, Service, Terminal, Watched, Watcher
+from service_tools import PROGRAM, Service, Terminal, Watched, Watcher, slack
 
 GPSD = shutil.which("gpsd") or shutil.which("gpsd", path="/usr/sbin")
 LEAVES = 32       # clients of each of two daemons
@@ -17,6 +17,7 @@ def terminal_again():
         path = os.path.join(folder, "gps0")
         service = Service(f"gps0=file:{path}")
         watcher = Watcher(service)
+        service.says("cannot be opened: no such file")
         for t in range(3):
             terminal = Terminal(path)
             check(f"terminal, time {t}: it is opened", True, terminal.is_read_by(service))
@@ -49,7 +50,8 @@ def fifo_again():
     os.mkfifo(path)
     begun = time.monotonic()
     with open(path, "wb", buffering=0) as writer:
-        within("a FIFO that was made again: it is opened within 5 s", time.monotonic() - begun <= 5 + SLACK, time.monotonic() - begun)
+        took = time.monotonic() - begun
+        within("a FIFO that was made again: it is opened within 5 s", took <= 5 + slack(), took)
         writer.write(second(3))
         check("a FIFO that was made again: its sentences", True, watcher.takes(second(3)))
         service.ends("a FIFO whose writer is silent")
@@ -87,6 +89,7 @@ def daemon_again():
     port = free_port()
     leaf = Service(f"up=gpsd:127.0.0.1:{port}")
     watcher = Watcher(leaf)
+    leaf.says("cannot be opened: connection refused")
     for t in range(3):
         device = TcpDevice()
         root = Daemon(PROGRAM, "--wait", "1", device.word, port=port)  # it reads nothing before somebody watches
@@ -123,7 +126,7 @@ def gpsd_again():
         last = second(sent)
         device.send(last)
         sent += 1
-        until(lambda: comes(last), 10)
+        until(lambda: comes(last))
         whole = b"".join(second(t) for t in range(begun, sent))
         check(f"gpsd, start {start}: the last sentences that it was sent, without a gap", True, whole.endswith(had) and last in had or had)
         root.process.kill()
@@ -190,7 +193,7 @@ def own_address():
                           (f"[::]:{port}", f"tcp:127.0.0.1:{port}")):
         for words in (), ("--reopen", "1"):
             daemon = Daemon(PROGRAM, *words, f"up={place}", port=port, listen=listen)
-            status, _ = daemon.wait(10)
+            status, _ = daemon.wait()
             check(f"{place} at {listen} {' '.join(words)}: status", 3, status)
             check(f"{place} at {listen} {' '.join(words)}: why", True, "this daemon itself listens there" in daemon.said())
     device = TcpDevice()

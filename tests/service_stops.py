@@ -6,7 +6,7 @@ import threading
 import time
 
 from harness import *
-from service_tools import SLACK, SOON, Service, Terminal, Watched, Watcher, stopped_server
+from service_tools import SOON, Service, Terminal, Watched, Watcher, slack, stopped_server
 
 CONNECTING = 5    # seconds that a connection in the making may take
 
@@ -17,7 +17,7 @@ def stop_at_once():
     service.ends("before the first byte")
     device = TcpDevice()
     daemon = Watched("--stop", "/dev/null", "--wait", "1", device.word)
-    status, out = daemon.wait(SOON + SLACK)
+    status, out = daemon.wait(SOON + slack())
     check("a stop that was there before the start, with --wait: status and lines", (0, b""), (status, out))
     device.close()
     daemon = Watched("--stop", "/nonexistent/stop", (device := TcpDevice()).word)
@@ -59,7 +59,7 @@ def stop_connecting():
     service.ends("a connection in the making", status=3, seconds=CONNECTING)
     check("a connection in the making: why it did not come about", True, f"{place} failed before a byte came: no answer within 5 seconds" in service.said())
     check("a connection in the making: the client's stream", b"", watcher.rest())
-    check("a connection in the making, with --reopen: status", 0, other.wait(CONNECTING + SLACK)[0])
+    check("a connection in the making, with --reopen: status", 0, other.wait(CONNECTING + slack())[0])
     for it in [listener, *waiting]:
         it.close()
 
@@ -118,7 +118,7 @@ def stop_under_flood():
     had = honest.rest()
     whole = sent * (1 + len(had) // len(sent))
     check("a stop under a flood: status", 0, status)
-    within("a stop under a flood: the end within the ten seconds of a closed session", took <= 10 + SLACK, f"{took:.1f} s")
+    within("a stop under a flood: the end within the ten seconds of a closed session", took <= 10 + slack(), f"{took:.1f} s")
     check("a stop under a flood: the honest client got what was sent, without a gap", True, had == whole[:len(had)] and len(had) > 0)
     check("a stop under a flood: it ends with a whole sentence", b"\r\n", had[-2:])
     number = re.search(rb"^s0 drained daemonend (\d+)$", service.out, re.M)

@@ -11,7 +11,7 @@ import tempfile
 import threading
 import time
 
-from harness import VERSION, Daemon, TcpDevice, check, run_parts, second, until, within
+from harness import VERSION, Daemon, TcpDevice, check, run_parts, second, slowness, until, within
 
 PROGRAM = os.path.abspath(sys.argv[1])
 NOBODY = "61234"  # a user of whom nothing else runs, since a limit of threads counts all threads of a user
@@ -41,7 +41,7 @@ def one_watching():
     """A daemon with a long queue, its device, and a client with a small buffer that watches; and how many threads the daemon has with it."""
     daemon, device = started("--queue", "65536")
     client = watching(daemon)
-    time.sleep(0.2)
+    until(daemon.at_rest)
     return daemon, device, client, daemon.threads()
 
 
@@ -77,32 +77,52 @@ class Takers:
             client.close()
 
 
-def draining():
-    """64 clients that are closed, but take 2,000 bytes each 0.3 s of what is left: no more than sixteen come beside them, and after ten seconds
-    all are gone."""
+def full_house():
+    """A daemon and its device, 64 clients that are closed, but take 2,000 bytes each 0.3 s of what is left, and forty that come beside them; how
+    many of these are greeted; how many threads the daemon had before, and when the first was closed."""
     daemon, device = started("--queue", "8192")
+    until(daemon.at_rest)
     before = daemon.threads()
     takers = Takers([watching(daemon) for _ in range(64)], 2000, 0.3)
     time.sleep(0.5)
     device.send(fixes(30_000))
-    until(lambda: daemon.client().receive(len(VERSION), 1), 20)  # it is greeted once one of the 64 is closed; the others follow
+    until(lambda: daemon.client().receive(len(VERSION), 1))  # it is greeted once one of the 64 is closed; the others follow
     start = time.monotonic()
     time.sleep(0.5)
     later = [daemon.client() for _ in range(40)]
     greeted = sum(client.receive(len(VERSION), 5) == VERSION for client in later)
+    return daemon, device, takers, later, greeted, before, start
+
+
+def draining():
+    """64 clients that are closed, but take 2,000 bytes each 0.3 s of what is left: no more than sixteen come beside them, and after ten seconds
+    all are gone."""
+    daemon, device, takers, later, greeted, before, start = full_house()
     threads = daemon.threads() - before
     print(f"        beside 64 clients that take slowly {greeted} of 40 are greeted, and the clients have {threads} threads", flush=True)
     within("closed clients that still take: others are served beside them", greeted >= 16, greeted)
     within("closed clients that still take: no more than 80 have threads", threads <= 2 * 80, threads)
     for client in later:
         client.close()
-    gone = until(lambda: daemon.threads() <= before, 20)
+    gone = until(lambda: daemon.threads() <= before)
     took = time.monotonic() - start
     takers.stop()
-    within("closed clients that still take: after ten seconds all are gone", gone and took < 13, took)
+    within("closed clients that still take: after ten seconds all are gone", gone and took < 13 * slowness(), took)
     client = daemon.client()
     check("closed clients that still take: the next one is served", VERSION, client.line())
     end_well("closed clients that still take", daemon, device, client)
+
+
+def all_go_at_once():
+    """The same house: if all go at once, the next client finds a place at once."""
+    daemon, device, takers, later, _, before, _ = full_house()
+    takers.stop()
+    for client in later:
+        client.close()
+    gone = until(lambda: daemon.threads() <= before, 5 * slowness())
+    client = daemon.client()
+    check("eighty clients that go at once: the next one is served", (True, VERSION), (gone, client.receive(len(VERSION))))
+    end_well("eighty clients that go at once", daemon, device, client)
 
 
 def connections_of(port):
@@ -118,12 +138,12 @@ def left_to_the_system():
     clients = [watching(daemon) for _ in range(6)]
     before = connections_of(daemon.port)
     device.send(fixes(20_000))
-    ended = until(lambda: daemon.threads() <= 8, 15)
+    ended = until(lambda: daemon.threads() <= 8)
     start = time.monotonic()
     within("clients that take nothing: they are ended", ended and before == len(clients), (daemon.threads(), before))
-    gone = until(lambda: connections_of(daemon.port) == 0, 20)
+    gone = until(lambda: connections_of(daemon.port) == 0)
     took = time.monotonic() - start
-    within("clients that take nothing: the system keeps nothing for them ten seconds later", gone and took < 10, (took, connections_of(daemon.port)))
+    within("clients that take nothing: the system keeps nothing for them ten seconds later", gone and took < 10 * slowness(), (took, connections_of(daemon.port)))
     for client in clients[1:]:
         client.close()
     end_well("clients that take nothing, and the system", daemon, device, clients[0])
@@ -136,27 +156,30 @@ def slow_end():
     takers = Takers([client], 2000, 0.3)
     start = time.monotonic()
     device.end()
-    status = daemon.wait(30)[0]
+    status = daemon.wait()[0]
     took = time.monotonic() - start
     takers.stop()
     print(f"        it ended after {took:.1f} s", flush=True)
-    within("a client that takes slowly at the end: the daemon ends within 12 s", took < 12, took)
+    within("a client that takes slowly at the end: the daemon ends within 12 s", took < 12 * slowness(), took)
     check("a client that takes slowly at the end: status", 0, status)
 
 
 def slow_reader():
-    """A client that takes 200 bytes each 0.1 s through a small buffer is slow, but takes: it keeps its link, and loses nothing."""
-    count = 20_000
+    """A client that takes 8,000 bytes a second, by the clock, through a small buffer is slow, but takes: it keeps its link, and loses nothing. Its
+    system tells of room once half of the buffer is free, which is each 0.15 s."""
+    count, rate = 20_000, 8_000
     daemon, device, client, threads = one_watching()
-    device.send(fixes(count))
+    feeder = threading.Thread(target=device.send, args=(fixes(count),))
+    feeder.start()
     start, found = time.monotonic(), bytearray()
-    while time.monotonic() - start < 20 and daemon.threads() >= threads:
-        found += client.receive(200)
-        time.sleep(0.1)
+    while (passed := time.monotonic() - start) < 20 and daemon.threads() >= threads:
+        found += client.receive(max(1, int(rate * passed) - len(found)))
+        time.sleep(0.05)
     took = time.monotonic() - start
     within("a reader that is slow keeps its link for 20 s", took >= 20, took)
     while found.count(b'"TPV"') < count and (data := client.receive()):
         found += data
+    feeder.join()
     check("a reader that is slow loses nothing", count, found.count(b'"TPV"'))
     end_well("a reader that is slow", daemon, device, client)
 
@@ -166,9 +189,9 @@ def deaf():
     daemon, device, client, before = one_watching()
     start = time.monotonic()
     device.send(fixes(20_000))
-    gone = until(lambda: daemon.threads() < before, 10)
+    gone = until(lambda: daemon.threads() < before)
     took = time.monotonic() - start
-    within("a client that takes nothing is ended after some second", gone and 1 <= took <= 5, took)
+    within("a client that takes nothing is ended after some second", gone and 1 <= took <= 5 * slowness(), took)
     end_well("a client that takes nothing", daemon, device, client)
 
 
@@ -206,7 +229,7 @@ def few_threads():
                 client.close()
                 device.take().send(fixes(1))
                 device.end()
-            status = daemon.wait(10)[0]
+            status = daemon.wait()[0]
             check(f"{most} threads: status", 7, status)
             check(f"{most} threads: the silent device is lost", True, f"{silent.word.partition('=')[2]} was lost: out of memory" in daemon.said())
             device.close()
@@ -214,7 +237,7 @@ def few_threads():
 
 
 def main():
-    parts = [deaf, few_threads, draining, left_to_the_system, slow_end, slow_reader]
+    parts = [deaf, few_threads, draining, all_go_at_once, left_to_the_system, slow_end, slow_reader]
     for name in sys.argv[2:]:
         if name not in [part.__name__ for part in parts]:
             sys.exit(f"slow_clients.py: no part {name}")

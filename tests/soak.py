@@ -83,6 +83,11 @@ class Soak:
             it.start()
         return threads
 
+    def turns(self):
+        """How often the bytes of the first receiver have filled the history."""
+        first = self.receivers[0]
+        return sum(len(packet) for k in range(100) for packet in first.packets(k)) / 100 * first.fed / HISTORY
+
     def settled(self, wanted):
         """Open files and threads, once they have come down to those wanted, or after a bounded wait."""
         until(lambda: all(a <= b for a, b in zip(self.look()[1:], wanted)), pause=0.05)
@@ -123,6 +128,7 @@ class Soak:
         for client in self.guests:
             client.start()
         time.sleep(SECONDS * 0.6)
+        until(lambda: self.turns() > 2, pause=0.5)
         # The guests go, and for the rest of the time only those that stay are there: memory must not rise by what is fed alone.
         self.guests_go(warm)
         middle, fed = self.look(), self.receivers[0].fed
@@ -144,8 +150,7 @@ class Soak:
         closing.sessions(self.clients, self.sessions.opened)
         closing.units(self.receivers, self.pulses_told)
         closing.monitor()
-        first = self.receivers[0]
-        turns = sum(len(packet) for k in range(100) for packet in first.packets(k)) / 100 * first.fed / HISTORY
+        turns = self.turns()
         within("the history turned", turns > 2, turns)
         print(f"        {[it.fed for it in self.receivers]} seconds fed, {turns:.0f} turns, {self.sessions.opened} sessions, "
               f"{sum(it.changes for it in self.clients)} changes of policy, {sum(it.lines for it in self.clients)} items checked, "

@@ -1,7 +1,7 @@
 """The end of a soak: the daemon's closing lines against what its clients took and its receivers were fed."""
 import re
 
-from harness import BEGIN, check, within
+from harness import BEGIN, check, slowness, within
 
 
 class Closing:
@@ -43,7 +43,7 @@ class Closing:
             check(f"unit {unit} published a sample for each second of {receiver.name}", (receiver.fed, 2 * receiver.fed, 0),
                   self.counts.get(unit, (0, 0, 0)))
         self.pulses = self.counts.get("3", (0, 0, 0))[0]
-        within("pulses were paired in at least half of the seconds", 2 * self.pulses >= pulses_told - 2, (self.pulses, pulses_told))
+        within("pulses were paired in at least half of the seconds", 2 * self.pulses * slowness() >= pulses_told - 2, (self.pulses, pulses_told))
 
     def monitor(self):
         for line in self.lines:

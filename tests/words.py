@@ -9,12 +9,11 @@ import subprocess
 import sys
 import tempfile
 
-from harness import check, exit_status, frame, run_parts, sentence
+from harness import WAIT, check, exit_status, frame, run_parts, sentence
 
 PROGRAM = os.path.abspath(sys.argv[1])
 TOP = os.path.dirname(os.path.dirname(os.path.abspath(__file__)))
 USAGE = "usage: gpsrelay decode|replay|generate|pseudo|lines|serve"
-WAIT = 20
 COMMANDS = ["decode", "replay", "generate", "pseudo", "lines", "serve"]
 
 RMC = sentence("GPRMC,123519,A,4807.038,N,01131.000,E,022.4,084.4,230394,003.1,W")

@@ -13,7 +13,7 @@ import sys
 import tempfile
 import time
 
-from checks import check, exit_status
+from checks import WAIT, check, exit_status
 from packets import sentence
 from rows_decode import MADE
 from rows_text import EOE_FRAME, PVT_FRAME, RMC, at, fix, rmc_fix
@@ -78,7 +78,7 @@ def slow_feed():
         child.stdin.write(sentence(f"GPRMC,{120000 + t:06},A,4807.038,N,01131.000,E,022.4,084.4,010624,,,A"))
         child.stdin.flush()
         if t > 0:
-            ready, _, _ = select.select([child.stdout], [], [], 5)
+            ready, _, _ = select.select([child.stdout], [], [], WAIT)
             lines.append(os.read(child.stdout.fileno(), 65536).count(b"\n") if ready else 0)
         time.sleep(0.05)
     rest = child.communicate()[0]
@@ -101,17 +101,17 @@ class Waiting:
         return bool(select.select([self.output], [], [], seconds)[0])
 
     def gives(self, data, wanted):
-        """What comes of these bytes while nothing else does: as much as is wanted or what came in five seconds, and what follows at once."""
+        """What comes of these bytes while nothing else does: as much as is wanted, or what came in time, and what follows at once."""
         os.write(self.input, data)
         found = b""
-        while len(found) < len(wanted) and self.comes(5):
+        while len(found) < len(wanted) and self.comes(WAIT):
             found += os.read(self.output, 65536)
         return found + (os.read(self.output, 65536) if self.comes(0.2) else b"")
 
     def ends(self):
         """What comes once the input is closed, and the status."""
         os.close(self.input)
-        return self.child.communicate(timeout=30)[0], self.child.returncode
+        return self.child.communicate(timeout=WAIT)[0], self.child.returncode
 
 
 def time_alone(clock):

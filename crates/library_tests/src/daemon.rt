@@ -2,7 +2,7 @@
 
 ghost use Rattle.std.specs.Prelude.{◌≡◌, ◌≤◌, [], ◌∷◌, IfOk, None, Some};
 ghost use Rattle.gps_outside.specs.DoorPlans.{HaveLinks};
-ghost use Rattle.gps_outside.specs.Links.{IsUnread, IsUnwritten};
+ghost use Rattle.gps_outside.specs.Links.{AsksOf, IsUnread, IsUnwritten};
 ghost use Rattle.gps_world.specs.MemoryWorlds.{HaveSources};
 ghost use Rattle.serve_end_parts.specs.Plans.{IsPlan};
 
@@ -37,15 +37,15 @@ const FIX: &[u8] =
 \"lat\":48.117300000,\"lon\":11.516666667,\"track\":84.4000,\"speed\":11.524}\r\n";
 
 /// What a session is sent that watches from before the device's first byte to its end.
-const WHOLE: Parts<'static> = &[VERSION, DEVICES, JSON, ACTIVE, FIX, ENDED];
+pub(crate) const WHOLE: Parts<'static> = &[VERSION, DEVICES, JSON, ACTIVE, FIX, ENDED];
 
-const WATCH_JSON: &[u8] = b"?WATCH={\"json\":true};\n";
+pub(crate) const WATCH_JSON: &[u8] = b"?WATCH={\"json\":true};\n";
 
 pub(crate) const UNIT: &[u8] = b"u0 published 1 count 2 left 0\n";
 
 pub(crate) const HISTORY: u32 = 16_777_216;
 
-fn file(alloc: Global, path: &[u8]) -> Result<Place, NoMemory> {
+pub(crate) fn file(alloc: Global, path: &[u8]) -> Result<Place, NoMemory> {
     Ok(Place::File(Bytes::from_slice(alloc, path)?))
 }
 
@@ -91,7 +91,8 @@ where
     requires sources { HaveSources (λ source. IsUnread (I.content source) (I.faults source) (I.quiets source)) places.items }
     requires links { HaveLinks
         (λ source. IsUnread (I.content source) (I.faults source) (I.quiets source))
-        (λ sink. IsUnwritten None sink.faults) door.items }
+        (λ sink. IsUnwritten None sink.faults)
+        (λ source _. AsksOf (I.content source) None) door.items }
 {
     let door = MemoryDoor::new(door, AtEnd::Quiet);
     let clock = MemoryClock::new(Vec::new(alloc), FIVE);
@@ -140,7 +141,8 @@ fn client(
     requires { sink.faults ≡ 0 }
     ensures { IfOk result (λ plan. HaveLinks
         (λ source. IsUnread (Some source.stream) source.faults source.quiets)
-        (λ sink. IsUnwritten None sink.faults) (plan ∷ [])) }
+        (λ sink. IsUnwritten None sink.faults)
+        (λ source _. AsksOf (Some source.stream) None) (plan ∷ [])) }
 {
     let source = MemorySource::new(request.to_vec(alloc)?, Vec::new(alloc), AtEnd::Quiet);
     Ok(DoorPlan::Link(source, sink))
@@ -154,7 +156,8 @@ fn one_client(
 ) -> Result<Vec<DoorPlan<MemorySource, CountingSink>>, NoMemory>
     ensures { IfOk result (λ plan. HaveLinks
         (λ source. IsUnread (Some source.stream) source.faults source.quiets)
-        (λ sink. IsUnwritten None sink.faults) plan.items) }
+        (λ sink. IsUnwritten None sink.faults)
+        (λ source _. AsksOf (Some source.stream) None) plan.items) }
 {
     let sink = CountingSink::of(alloc, writes, &no_lines(alloc)?, None)?;
     let link = client(alloc, WATCH_JSON, sink)?;
@@ -170,7 +173,8 @@ fn one_client(
 fn two_clients(alloc: Global) -> Result<Vec<DoorPlan<MemorySource, CountingSink>>, NoMemory>
     ensures { IfOk result (λ plan. HaveLinks
         (λ source. IsUnread (Some source.stream) source.faults source.quiets)
-        (λ sink. IsUnwritten None sink.faults) plan.items) }
+        (λ sink. IsUnwritten None sink.faults)
+        (λ source _. AsksOf (Some source.stream) None) plan.items) }
 {
     let second = no_lines(alloc)?;
     let held = CountingSink::of(
@@ -189,7 +193,10 @@ fn two_clients(alloc: Global) -> Result<Vec<DoorPlan<MemorySource, CountingSink>
 }
 
 /// The place `x`, behind which there is one sentence.
-fn place_x(alloc: Global, reads: &[ReadPlan]) -> Result<Vec<(Place, MemorySource)>, NoMemory>
+pub(crate) fn place_x(
+    alloc: Global,
+    reads: &[ReadPlan],
+) -> Result<Vec<(Place, MemorySource)>, NoMemory>
     ensures { IfOk result (λ places. HaveSources (λ source. IsUnread (Some source.stream) source.faults source.quiets) places.items) }
 {
     let source = MemorySource::new(RMC.to_vec(alloc)?, reads.to_vec(alloc)?, AtEnd::End);
@@ -320,7 +327,8 @@ fn cued_client(
 ) -> Result<Vec<DoorPlan<CuedSource, CountingSink>>, NoMemory>
     ensures { IfOk result (λ plan. HaveLinks
         (λ source. IsUnread None 0 source.quiets)
-        (λ sink. IsUnwritten None sink.faults) plan.items) }
+        (λ sink. IsUnwritten None sink.faults)
+        (λ _ _. AsksOf None None) plan.items) }
 {
     let source = CuedSource::of(cues, lines)?;
     let sink = CountingSink::of(alloc, &[], lines, None)?;

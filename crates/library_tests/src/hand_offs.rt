@@ -69,19 +69,19 @@ fn in_order(
     hand: &HandOff,
     giver: &mut Giver,
     taker: &mut Taker,
-    turns: &[Round],
+    rounds: &[Round],
     consumptions: &[Consumption],
 ) -> bool
     requires giver { giver.old.segment ≡ hand.now }
     requires taker { taker.old.segment ≡ hand.now }
 {
     let mut good = true;
-    for turn in turns {
-        if let Some(number) = turn.begins {
+    for round in rounds {
+        if let Some(number) = round.begins {
             giver.begin(numbered(number));
         }
-        good &= stores(hand, giver, turn.stores) == turn.stores;
-        good &= steps(hand, taker, turn.steps) == turn.ended;
+        good &= stores(hand, giver, round.stores) == round.stores;
+        good &= steps(hand, taker, round.steps) == round.ended;
     }
     for consumption in consumptions {
         good &= taker.consume(hand) == *consumption;
@@ -92,11 +92,11 @@ fn in_order(
 /// Whether it comes so at a new hand-off.
 fn comes_so(
     alloc: Global,
-    turns: &[Round],
+    rounds: &[Round],
     consumptions: &[Consumption],
 ) -> Result<bool, NoMemory> {
     let (hand, mut giver, mut taker) = HandOff::new(alloc, 0)?;
-    Ok(in_order(&hand, &mut giver, &mut taker, turns, consumptions))
+    Ok(in_order(&hand, &mut giver, &mut taker, rounds, consumptions))
 }
 
 #[test]
@@ -132,8 +132,8 @@ fn a_sample_is_consumed_once(rt: HostRuntime) -> Result<(), Fail> {
             &[Consumption::NotReady { count: 4, valid: 0 }],
         ),
     ];
-    for (turns, consumptions) in rows {
-        assert!(rt; comes_so(rt.alloc(), *turns, *consumptions)?);
+    for (rounds, consumptions) in rows {
+        assert!(rt; comes_so(rt.alloc(), *rounds, *consumptions)?);
     }
     Ok(())
 }

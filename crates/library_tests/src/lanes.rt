@@ -84,7 +84,7 @@ fn the_ends_of_a_closed_lane_can_still_be_settled(rt: HostRuntime) -> Result<(),
     Ok(())
 }
 
-/// By these one thread says that an item came, and the other that there is room.
+/// One thread rings `items` when an item came, and the other rings `room` when the lane has room.
 #[derive(Drop)]
 struct Bells {
     items: Bell,

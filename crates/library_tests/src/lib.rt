@@ -9,6 +9,8 @@ mod daemon;
 #[cfg(test)]
 mod daemon_upstream;
 #[cfg(test)]
+mod due_sinks;
+#[cfg(test)]
 mod hand_offs;
 #[cfg(test)]
 mod lanes;

@@ -71,12 +71,12 @@ impl Round {
     }
 }
 
-/// Whether the stores and loads in this order end so: a sample that is begun is stored as far as the turn says.
+/// Whether the stores and loads in this order end so: a sample that is begun is stored as far as the round says.
 fn in_order(
     segment: &Segment,
     publisher: &mut Publisher,
     monitor: &mut Monitor,
-    turns: &[Round],
+    rounds: &[Round],
 ) -> bool
     requires publisher { publisher.old.segment ≡ segment.now }
     requires monitor { monitor.old.segment ≡ segment.now }
@@ -84,12 +84,12 @@ fn in_order(
     ensures monitor { monitor.new.segment ≡ monitor.old.segment }
 {
     let mut good = true;
-    for turn in turns {
-        if let Some((reference, host)) = turn.begins {
+    for round in rounds {
+        if let Some((reference, host)) = round.begins {
             publisher.begin(at(reference, host));
         }
-        good &= stores(segment, publisher, turn.stores) == turn.stores;
-        good &= loads(segment, monitor, turn.loads) == turn.ended;
+        good &= stores(segment, publisher, round.stores) == round.stores;
+        good &= loads(segment, monitor, round.loads) == round.ended;
     }
     good
 }
@@ -99,12 +99,12 @@ pub(crate) fn taken(number: u32, sample: Sample) -> Option<Reading> {
 }
 
 /// The count of the publisher, if it comes so at a segment whose first number is this.
-fn count_after(alloc: Global, first: u32, turns: &[Round]) -> Result<Option<u32>, NoMemory>
+fn count_after(alloc: Global, first: u32, rounds: &[Round]) -> Result<Option<u32>, NoMemory>
     requires { first ≤ 1073741823 }
 {
     let (segment, mut publisher) = Segment::new(alloc, first)?;
     let mut monitor = Monitor::of(publisher.monitor_seat(&segment));
-    let good = in_order(&segment, &mut publisher, &mut monitor, turns);
+    let good = in_order(&segment, &mut publisher, &mut monitor, rounds);
     Ok(good.then_some(publisher.count()))
 }
 
@@ -117,20 +117,20 @@ fn what_is_read_between_the_stores(rt: HostRuntime) -> Result<(), Fail> {
     let not_ready = Reading::NotReady { count: 3, valid: 0 };
     let (first, second) = ((764_426_119, 1), (1_735_689_599, 2));
     // A store between the loads is a clash.
-    let turns = [
+    let rounds = [
         Round::of(Some(first), 13, 6, None),
         Round::of(Some(second), 2, 6, Some(clash)),
         Round::of(None, 0, 2, Some(not_ready)),
         Round::of(None, 11, 12, taken(2, at(1_735_689_599, 2))),
     ];
-    assert_eq!(rt; count_after(rt.alloc(), 0, &turns)?, Some(4));
+    assert_eq!(rt; count_after(rt.alloc(), 0, &rounds)?, Some(4));
     // After the greatest number no sample begins.
     let greatest = taken(1_073_741_823, at(764_426_119, 1));
-    let turns = [
+    let rounds = [
         Round::of(Some(first), 13, 0, None),
         Round::of(Some(second), 0, 12, greatest),
     ];
-    let count = count_after(rt.alloc(), 1_073_741_822, &turns)?;
+    let count = count_after(rt.alloc(), 1_073_741_822, &rounds)?;
     assert_eq!(rt; count, Some(2_147_483_646));
     Ok(())
 }

@@ -4,7 +4,8 @@
 # Use: tools/build.sh [--unproved]
 #
 # Without an option it proves the program and builds it from what is proved, as crates/gpsrelay/out/gpsrelay. That takes some
-# 40 minutes on four processors and some 75 on two. If it is ended early, the next call goes on where it was.
+# 40 minutes on four processors and some 75 on two. If it is ended early, the next call goes on where it was. Then the program decodes
+# the recorded drive of samples/, and says how many lines of each class that gave.
 #
 # --unproved builds it without any proof, as out/unproved/gpsrelay, in some three minutes. `gpsrelay --version` then says
 # that it is built without proof. It has checks of its own and is slower.
@@ -23,7 +24,7 @@ while [ $# -gt 0 ]; do
     case $1 in
     --unproved) unproved=1 ;;
     -h | --help)
-        sed -n '2,13s/^# \{0,1\}//p' "${BASH_SOURCE[0]}"
+        sed -n '2,14s/^# \{0,1\}//p' "${BASH_SOURCE[0]}"
         exit 0
         ;;
     *) refuse 2 "$1: no such option; see build.sh --help" ;;
@@ -43,3 +44,7 @@ echo "Proving and building: some 40 minutes on four processors, some 75 on two; 
 cd "$top/crates/gpsrelay"
 rt run -- decode </dev/null
 echo "$PWD/out/gpsrelay: built from what is proved"
+if [ -e "$top/samples/drive.nmea" ]; then
+    echo "samples/drive.nmea, decoded and counted by class:"
+    out/gpsrelay decode <"$top/samples/drive.nmea" | out/gpsrelay lines
+fi

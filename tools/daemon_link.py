@@ -4,6 +4,7 @@ import socket
 import time
 
 WATCH = b'?WATCH={"json":true};\n'
+GREETING = b'"class":"VERSION"'  # stands in the line that a daemon sends before it has read anything
 LONGEST_LINE = 1_048_576  # bytes; a longer one is passed over
 FIRST_PAUSE, LONGEST_PAUSE = 0.25, 3.0  # seconds before a daemon that is gone is tried again
 SETTLED = 5.0  # seconds after which a link that ends was a good one: the next pause is the first one again
@@ -23,8 +24,9 @@ def address_words(host, port):
 
 def daemon_lines(address, tell, over=lambda: False, fails=lambda why: None):
     """The lines of a daemon, which it is asked for by WATCH; from one link after another, until `over()`. `tell` is called with True at the
-    first line of a link, and with False when a link that had one has ended. `fails` is called once, with the reason, if no link had a line
-    yet. A daemon that is gone, or takes no client, is tried again after a pause, which is doubled each time up to the longest one."""
+    first line of a link behind the greeting, since the daemon has taken the WATCH then and sends all that comes from there on, and with False
+    when such a link has ended. `fails` is called once, with the reason, if no link had such a line yet. A daemon that is gone, or takes no
+    client, is tried again after a pause, which is doubled each time up to the longest one."""
     pause, told = FIRST_PAUSE, False
     while not over():
         begun, heard = time.monotonic(), False
@@ -34,9 +36,9 @@ def daemon_lines(address, tell, over=lambda: False, fails=lambda why: None):
                 keep_alive(link)
                 link.sendall(WATCH)
                 for line in lines_of(link):
-                    if not heard:
+                    if not heard and GREETING not in line:
                         tell(True)
-                    heard = True
+                        heard = True
                     yield line
         except OSError as fault:
             if not heard and not told:

@@ -9,3 +9,4 @@ pub mod Scaled
 pub mod Text
 pub mod Utc
 pub mod Limits
+pub mod Lists

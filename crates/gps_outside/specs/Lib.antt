@@ -9,6 +9,5 @@ pub mod ReadPlans
 pub mod WritePlans
 pub mod ClockPlans
 pub mod ReadSteps
-pub mod Inflow
 pub mod Links
 pub mod DoorPlans

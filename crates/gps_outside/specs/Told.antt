@@ -1,5 +1,6 @@
 -- The modelled contents of an object of the outside, and what happens to them.
 use Rattle.std.specs.Prelude.{◌≡◌, ℕ, ◌<◌, List, [], ◌++◌, length, Option, Some, None, ◌⊎◌}
+use Rattle.gps_fixed.specs.Lists.{IsPrefix}
 
 -- the bytes that were read from a source so far, and those that are left in it
 pub record Stream : Type 0 where
@@ -33,9 +34,6 @@ pub record IsAtEnd (before after : Stream) : Type 0 where
 pub record MayLose (before after : Stream) : Type 0 where
   pub same : after.taken ≡ before.taken
   pub lost : (after.left ≡ before.left) ⊎ (after.left ≡ [])
-
-abbrev pub IsPrefix : List ℕ → List ℕ → Type 0
-IsPrefix front whole = (rest : List ℕ) × (whole ≡ front ++ rest)
 
 -- the piece follows what was written
 abbrev pub Appends : List ℕ → List ℕ → List ℕ → Type 0

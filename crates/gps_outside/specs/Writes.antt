@@ -25,7 +25,7 @@ FailsOnly (Wrote n) before after = after ≡ before
 FailsOnly Failed before after = Unit {0}
 
 -- after each part of the piece that was written, the sink may be written the rest
-abbrev pub AllowsAll : {K : Type 0} → (K → Option (List ℕ)) → (K → Option (List ℕ)) → (K → List ℕ → Type 0) → K → List ℕ → Type 0
-AllowsAll {K} asks written allows sink piece =
+abbrev pub AllowsInParts : {K : Type 0} → (K → Option (List ℕ)) → (K → Option (List ℕ)) → (K → List ℕ → Type 0) → K → List ℕ → Type 0
+AllowsInParts {K} asks written allows sink piece =
     (now : K) (part rest : List ℕ) → piece ≡ part ++ rest → 0 < length rest
     → asks now ≡ asks sink → written now ≡ option_map (λ before. before ++ part) (written sink) → allows now rest

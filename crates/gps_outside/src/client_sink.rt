@@ -25,10 +25,14 @@ pub trait ClientSink: Drop {
     fn write(&mut self, piece: &[u8]) -> WriteStep
         requires some { 0 < length piece.now }
         requires allowed { allows self.old piece.now }
+
+        // What was written. What its client sends stays as it was.
         ensures client { asks self.new ≡ asks self.old }
         ensures fits { FitsPiece result (length piece.now) }
         ensures bytes { Writes result piece.now (written self.old) (written self.new) }
         ensures unmodelled { written self.old ≡ None → written self.new ≡ None }
+
+        // It failed exactly if the faults rose.
         ensures faults_stay { faults self.old ≤ faults self.new }
         ensures failed { result ≡ WriteStep.Failed → Rose (faults self.old) (faults self.new) }
         ensures fails_only { FailsOnly result (faults self.old) (faults self.new) };
@@ -56,16 +60,20 @@ pub trait ClientSink: Drop {
 
 ghost use Rattle.std.specs.Prelude.{◌≡◌, ◌≤◌, None, false, true};
 ghost use Rattle.gps_outside.specs.Counts.{Rose};
-ghost use Rattle.gps_outside.specs.Writes.{AllowsAll, WritesAll};
+ghost use Rattle.gps_outside.specs.Writes.{AllowsInParts, WritesAll};
 
 /// Writes the whole piece to a client, by as many writes as it needs.
 ///
 /// False: the sink failed, and a prefix of the piece was written. An empty piece is written without a call.
 pub fn send_all<K: ClientSink>(sink: &mut K, piece: &[u8]) -> bool
-    requires allowed { AllowsAll K.asks K.written K.allows sink.old piece.now }
+    requires allowed { AllowsInParts K.asks K.written K.allows sink.old piece.now }
+
+    // What was written. What its client sends stays as it was.
     ensures client { K.asks sink.new ≡ K.asks sink.old }
     ensures bytes { WritesAll result piece.now (K.written sink.old) (K.written sink.new) }
     ensures unmodelled { K.written sink.old ≡ None → K.written sink.new ≡ None }
+
+    // It failed exactly if the faults rose.
     ensures faults_stay { K.faults sink.old ≤ K.faults sink.new }
     ensures failed { result ≡ false → Rose (K.faults sink.old) (K.faults sink.new) }
     ensures fails_only { result ≡ true → K.faults sink.new ≡ K.faults sink.old }

@@ -1,7 +1,7 @@
 ghost use Rattle.std.specs.Prelude.{◌≡◌, ◌≤◌, length, IfOk};
 
 use crate::patience::give_up_after;
-use crate::reader_source::is_quiet;
+use crate::quiet::is_quiet;
 use crate::{ClientSink, WriteStep};
 use std::io::{self, ErrorKind, Read, Write};
 use std::marker::Model;

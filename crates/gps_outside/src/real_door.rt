@@ -1,7 +1,7 @@
 ghost use Rattle.std.specs.Prelude.{◌≡◌, IfOk};
 
 use crate::link_sink::STEP;
-use crate::reader_source::is_quiet;
+use crate::quiet::is_quiet;
 use crate::{Closer, Door, DoorStep, LinkSink, RealSource};
 use std::alloc::Global;
 use std::fs::File;

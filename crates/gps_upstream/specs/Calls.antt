@@ -4,7 +4,8 @@ use Rattle.gps_outside.specs.declared.source.ReadStep.{ReadStep}
 use Rattle.gps_outside.specs.declared.source.ReadStep.TheVariants as answers
 use Rattle.gps_outside.specs.Counts.{Rose}
 use Rattle.gps_outside.specs.Reads.{CountsQuiet, FailsOnly, FitsBuffer, Reads}
-use Rattle.gps_outside.specs.Told.{Stream, Goes, IsPrefix, Appends, AppendsPart}
+use Rattle.gps_outside.specs.Told.{Stream, Goes, Appends, AppendsPart}
+use Rattle.gps_fixed.specs.Lists.{IsPrefix}
 use Rattle.upstream_laws.specs.Head.{taken, behind}
 use Rattle.gps_upstream.specs.declared.head.Head.{Head}
 use Rattle.gps_upstream.specs.declared.head.Head.TheVariants as heads

@@ -3,7 +3,8 @@ use Rattle.std.proofs.Common.{◌≡◌, inl, inr, ℕ, List, [], ◌∷◌, ◌
 use Rattle.std.specs.List.{flat_map}
 use Rattle.std.proofs.lemmas.List.Concat.{flat_map-append}
 use Rattle.session_core.specs.declared.subject.Subject.{Subject}
-use Rattle.gps_lane.specs.Lane.{Begins, BeginsWith}
+use Rattle.gps_lane.specs.Lane.{Begins}
+use Rattle.gps_fixed.specs.Lists.{IsPrefix}
 use Rattle.serve_pieces.specs.declared.piece.Ending.{Ending}
 use Rattle.serve_pieces.specs.declared.piece.Piece.{Piece}
 use Rattle.serve_pieces.specs.declared.piece.Piece.TheVariants.{Last}
@@ -12,7 +13,7 @@ use Rattle.serve_pieces.specs.EdgeLines.{all_edge_lines}
 use Rattle.serve_pieces.specs.Held.{AreDue, AreHeld, CarryHeld}
 
 -- what fewer pieces carry begins what all carry
-fewer : {X : Type 0} (part : Piece → List X) (held : List X) (first more : List Piece) → BeginsWith (flat_map part (first ++ more)) held → BeginsWith (flat_map part first) held
+fewer : {X : Type 0} (part : Piece → List X) (held : List X) (first more : List Piece) → IsPrefix (flat_map part (first ++ more)) held → IsPrefix (flat_map part first) held
 fewer part held first more all = (
   flat_map part more ++ all.0,
   all.1 ∙ ap (λ l. l ++ all.0) (flat_map-append part first more) ∙ append_assoc (flat_map part first) (flat_map part more) all.0,
@@ -41,8 +42,8 @@ begun_held about pieces (inr more) = fewer_held about.source pieces more.0 more.
 pub held_begins : (about : Subject) (pieces : List Piece) → AreDue about pieces → Begins AreDue about pieces
 held_begins about pieces held = inr ([], subst (AreDue about) (sym (append-nil pieces)) held)
 
-none_more : {X : Type 0} (part : Piece → List X) (held : List X) (pieces : List Piece) (piece : Piece) → part piece ≡ [] → BeginsWith (flat_map part pieces) held
-    → BeginsWith (flat_map part (pieces ++ piece ∷ [])) held
+none_more : {X : Type 0} (part : Piece → List X) (held : List X) (pieces : List Piece) (piece : Piece) → part piece ≡ [] → IsPrefix (flat_map part pieces) held
+    → IsPrefix (flat_map part (pieces ++ piece ∷ [])) held
 none_more part held pieces piece none begins = (
   begins.0,
   begins.1 ∙ ap (λ l. l ++ begins.0) (sym (flat_map-append part pieces (piece ∷ []) ∙ ap (λ l. flat_map part pieces ++ (l ++ [])) none ∙ append-nil (flat_map part pieces))),

@@ -1,16 +1,16 @@
 -- The pieces that went through a lane, and what the lane's source holds.
 use Rattle.std.specs.Prelude.{ℕ, List, [], Option, Some, None}
 use Rattle.session_core.specs.declared.subject.Subject.{Subject}
-use Rattle.gps_lane.specs.Lane.{BeginsWith}
+use Rattle.gps_fixed.specs.Lists.{IsPrefix}
 use Rattle.serve_pieces.specs.declared.piece.Piece.{Piece}
 use Rattle.serve_pieces.specs.Carried.{device_bytes, input_bytes, lines_of}
 use Rattle.serve_pieces.specs.EdgeLines.{all_edge_lines}
 
 -- what the pieces carry is a prefix of what a source holds, for each kind of pieces
 pub record CarryHeld (held : List ℕ) (pieces : List Piece) : Type 0 where
-  pub device : BeginsWith (device_bytes pieces) held
-  pub input : BeginsWith (input_bytes pieces) held
-  pub lines : BeginsWith (lines_of pieces) (all_edge_lines held)
+  pub device : IsPrefix (device_bytes pieces) held
+  pub input : IsPrefix (input_bytes pieces) held
+  pub lines : IsPrefix (lines_of pieces) (all_edge_lines held)
 
 -- the same, if it is told what the source holds
 abbrev pub AreHeld : Option (List ℕ) → List Piece → Type 0

@@ -20,7 +20,7 @@ use session_core::PlainOutlet;
 use shm_monitor::MonStep;
 
 /// How many monitors may be in a script.
-const MOST_WATCHERS: usize = 64;
+const MOST_MONITORS: usize = 64;
 
 /// The line of a reading that this step ends.
 fn push_step(out: &mut Bytes, m: u8, step: MonStep) -> Result<(), NoMemory>
@@ -60,7 +60,7 @@ impl ReplayBook {
             (2 * length self.now.book.names)) }
     {
         let count = self.watchers.len();
-        m == count as u64 && count < MOST_WATCHERS && self.has_unit(u)
+        m == count as u64 && count < MOST_MONITORS && self.has_unit(u)
     }
 
     /// The next monitor, of this unit.

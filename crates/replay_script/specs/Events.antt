@@ -2,6 +2,7 @@
 use Rattle.std.specs.Prelude.{ℕ, ◌≤◌, length, ◌==◌, List, [], ◌∷◌, Option, Some, None, option_and_then, unwrap_or, codes, if◌then◌else◌}
 use Rattle.std.specs.Option.{option_map}
 use Rattle.std.specs.Str.{bytes_eq}
+use Rattle.gps_fixed.specs.Limits.{longest_piece, most_queue}
 use Rattle.gps_report.specs.Name.{is_name}
 use Rattle.pps_edges.specs.Scan.{edge_in}
 use Rattle.replay_script.specs.declared.event.ScriptEvent.{ScriptEvent}
@@ -30,7 +31,7 @@ edge_at text = option_and_then (λ d. option_map (λ edge. Edge d.0 edge) (edge_
 -- a session alone, or with the capacity of its outlet
 abbrev pub open_alone : List ℕ → Option ℕ → Option ScriptEvent
 open_alone text (Some session) = Some (Open session None)
-open_alone text None = option_map (λ p. Open p.0 (Some p.1)) (number_and_count 1 65_536 text)
+open_alone text None = option_map (λ p. Open p.0 (Some p.1)) (number_and_count 1 most_queue text)
 
 unfoldable pub open_in : List ℕ → Option ScriptEvent
 open_in text = open_alone text (number_in text)
@@ -59,7 +60,7 @@ number_event word rest =
     else (if bytes_eq word (codes "lose") then option_map (λ d. Lose d) (number_in rest)
     else (if bytes_eq word (codes "open") then open_in rest
     else (if bytes_eq word (codes "hang") then option_map (λ s. Hang s) (number_in rest)
-    else (if bytes_eq word (codes "take") then option_map (λ p. Take p.0 p.1) (number_and_count 1 65_536 rest)
+    else (if bytes_eq word (codes "take") then option_map (λ p. Take p.0 p.1) (number_and_count 1 most_queue rest)
     else (if bytes_eq word (codes "monitor") then monitor_in rest
     else (if bytes_eq word (codes "store") then option_map (λ p. Store p.0 p.1) (number_and_count 1 1_000 rest)
     else (if bytes_eq word (codes "load") then option_map (λ p. Load p.0 p.1) (number_and_count 1 1_000 rest)
@@ -76,12 +77,12 @@ event_in (c ∷ line) =
 
 -- 1 to 512 bytes
 abbrev pub IsPiece : List ℕ → Type 0
-IsPiece bytes = (1 ≤ length bytes) × (length bytes ≤ 512)
+IsPiece bytes = (1 ≤ length bytes) × (length bytes ≤ longest_piece)
 
 -- 1 to 65,536 items, if a number is given
 abbrev pub IsCap : Option ℕ → Type 0
 IsCap None = Unit {0}
-IsCap (Some cap) = (1 ≤ cap) × (cap ≤ 65_536)
+IsCap (Some cap) = (1 ≤ cap) × (cap ≤ most_queue)
 
 -- the ranges of an event's bytes and numbers
 abbrev pub Fits : ScriptEvent → Type 0

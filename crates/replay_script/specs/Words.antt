@@ -5,6 +5,7 @@ use Rattle.std.specs.List.{list_all}
 use Rattle.std.specs.Str.Parse.{digits_value}
 use Rattle.hex.specs.Hex.{decode_of}
 use Rattle.hex.specs.declared.error.FromHexError.{FromHexError}
+use Rattle.gps_fixed.specs.Limits.{longest_piece}
 use Rattle.gps_fixed.specs.Moment.{Moment}
 use Rattle.pps_edges.specs.EdgeLine.{is_digit}
 use Rattle.replay_script.specs.declared.payload.Payload.{Payload}
@@ -62,7 +63,7 @@ unfoldable pub text_in : ℕ → List ℕ → List ℕ → Option (List ℕ)
 text_in most ending text = if is_sized most text then Some (text ++ ending) else None
 
 abbrev pub decoded : Result (List ℕ) FromHexError → Option (List ℕ)
-decoded (Ok bytes) = if is_sized 512 bytes then Some bytes else None
+decoded (Ok bytes) = if is_sized longest_piece bytes then Some bytes else None
 decoded (Err fault) = None
 
 -- 1 to 512 bytes, each as two hexadecimal digits of either case

@@ -1,5 +1,6 @@
 // The bytes of a line: as text, or as hexadecimal digits.
 ghost use Rattle.std.specs.Prelude.{◌≡◌, ◌≤◌, ◌+◌, ◌++◌, IfOk, IfSome, length};
+ghost use Rattle.gps_fixed.specs.Limits.{longest_piece};
 ghost use Rattle.replay_script.specs.Events.{IsPiece};
 ghost use Rattle.replay_script.specs.Words.{bytes_in, hex_in, is_sized, text_in};
 
@@ -48,7 +49,7 @@ fn text_bytes(
     most: usize,
     ending: &[u8],
 ) -> Result<Option<Bytes>, NoMemory>
-    requires { most + length ending.now ≤ 512 }
+    requires { most + length ending.now ≤ longest_piece }
     ensures is { IfOk result (λ bytes. bytes ≡ text_in most ending.now text.now) }
     ensures piece { IfOk result (λ bytes. IfSome bytes (λ b. IsPiece b)) }
 {

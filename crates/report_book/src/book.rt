@@ -237,6 +237,8 @@ impl<O: Outlet> Book<O> {
         requires some { 1 ≤ length piece.now }
         requires piece { length piece.now ≤ longest_piece }
         requires may { MayInput O.may s piece.now self.old }
+
+        // Each request is answered, or the call is refused and nothing changes.
         ensures hears { OnOk result (AnswersRequests O.exact s piece.now self.old self.new) }
         ensures refusal { RefusesAs (session_fault self.old s) result }
         ensures limit { self.new.log.limit ≡ self.old.log.limit }

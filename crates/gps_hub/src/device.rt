@@ -339,9 +339,13 @@ pub(crate) fn pump<R: Wait + Copy>(
     requires runs { device_fault book.old d ≡ None }
     requires going { end.old ≡ None }
     requires may { MayGiveNext d inlets.old book.old }
+
+    // What the book did with the piece, and the answer.
     ensures step { DeviceStep d book.old book.new inlets.old inlets.new end.old end.new lasts.old lasts.new }
     ensures answer { Looked result d inlets.old inlets.new lasts.old end.new book.old book.new }
     ensures empty { result ≡ Pumped.Empty → (book.new ≡ book.old) × (end.new ≡ end.old) }
+
+    // What was received is a prefix of what the sources hold.
     ensures read { LaneIsRead inlets.new }
 {
     let pumped = pump_one(book, inlets, lasts, end, d);

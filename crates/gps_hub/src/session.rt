@@ -107,9 +107,13 @@ pub(crate) fn pump<R: Wait + Copy>(
     requires within { s < length book.old.sessions }
     requires open_one { IsOpenAt s book.old.sessions }
     requires may { MayHearNext s input.old book.old }
+
+    // What the book did with the piece, and the answer.
     ensures step { SessionStep s book.old book.new input.old input.new }
     ensures answer { LookedAt result input.old input.new s book.old book.new }
     ensures empty { result ≡ Pumped.Empty → book.new ≡ book.old }
+
+    // What was received is a prefix of what the source holds.
     ensures about { input.new.about ≡ input.old.about }
     ensures heard { AreDue input.new.about input.new.got }
 {

@@ -8,7 +8,8 @@ use Rattle.session_core.specs.declared.subject.Subject.{Subject}
 use Rattle.session_core.specs.Naming.{untold}
 use Rattle.gps_lane.specs.declared.order.Flow.{Flow}
 use Rattle.gps_lane.specs.declared.order.LaneLog.{LaneLog}
-use Rattle.gps_lane.specs.Lane.{flow, log, nothing, with_items, AllFit, Begins, BeginsWith, EndsWith, Fits, FlowBegins, IsInOrder}
+use Rattle.gps_lane.specs.Lane.{flow, log, nothing, with_items, AllFit, Begins, EndsWith, Fits, FlowBegins, IsInOrder}
+use Rattle.gps_fixed.specs.Lists.{IsPrefix}
 
 -- what an end of a queue knows
 abbrev Items : Type 0 → Type 0
@@ -152,7 +153,7 @@ module _ {T : Type 0} (due : Subject → List T → Type 0) where
       )
 
   pub gets : (end : ℕ) (v : Items T) → v.gets ≡ true
-      → Pops (IsInOrder due) end v (λ x w. (w ≡ log v.puts v.gets v.put (with_items (x ∷ []) v.got)) × (v.puts ≡ true → BeginsWith w.got.items w.put.items)
+      → Pops (IsInOrder due) end v (λ x w. (w ≡ log v.puts v.gets v.put (with_items (x ∷ []) v.got)) × (v.puts ≡ true → IsPrefix w.got.items w.put.items)
       × FlowBegins due (with_items (x ∷ []) v.got))
   gets end v may x items views h at =
       let w : Items T = log v.puts v.gets v.put (with_items (x ∷ []) v.got) in
@@ -216,7 +217,7 @@ module _ {T : Type 0} (due : Subject → List T → Type 0) where
   abbrev pub Popped : Option T → Items T → Items T → Type 0
   Popped result v w =
       MatchOption result ((w ≡ v) × Held 0 (λ items. v.puts ≡ true → v.put.items ≡ v.got.items ++ items))
-      (λ x. (w ≡ log v.puts v.gets v.put (with_items (x ∷ []) v.got)) × (v.puts ≡ true → BeginsWith w.got.items w.put.items)
+      (λ x. (w ≡ log v.puts v.gets v.put (with_items (x ∷ []) v.got)) × (v.puts ≡ true → IsPrefix w.got.items w.put.items)
       × FlowBegins due (with_items (x ∷ []) v.got))
 
   pub still_gets : (result : Option T) (v w : Items T) → Popped result v w → v.gets ≡ true → w.gets ≡ true
@@ -232,7 +233,7 @@ module _ {T : Type 0} (due : Subject → List T → Type 0) where
       ap (λ (y : Items T). y.put.items) popped.0 ∙ nothing_left popped.1.0 v.put.items v.got.items popped.1.1 (popped.1.2 puts)
       ∙ sym (ap (λ (y : Items T). y.got.items) popped.0)
 
-  pub got_first : (result : Option T) (v w : Items T) → Popped result v w → v.puts ≡ true → BeginsWith w.got.items w.put.items
+  pub got_first : (result : Option T) (v w : Items T) → Popped result v w → v.puts ≡ true → IsPrefix w.got.items w.put.items
   got_first None v w popped puts = ([], all_got v w popped puts ∙ sym (append-nil w.got.items))
   got_first (Some x) v w popped puts = popped.1 puts
 

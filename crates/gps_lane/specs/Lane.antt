@@ -54,10 +54,6 @@ IsInOrder {T} due items views =
 abbrev pub EndsWith : {T : Type 0} → List T → List T → Type 0
 EndsWith {T} last all = (front : List T) × (all ≡ front ++ last)
 
--- these are the first of all
-abbrev pub BeginsWith : {T : Type 0} → List T → List T → Type 0
-BeginsWith {T} first all = (rest : List T) × (all ≡ first ++ rest)
-
 -- at least n items were put: these are the last of them
 abbrev pub PutAtLeast : {T : Type 0} → ℕ → List T → Type 0
 PutAtLeast {T} n put = (held : List T) × (length held ≡ n) × EndsWith held put

@@ -3,7 +3,8 @@ ghost use Rattle.std.specs.Option.{option_to_list};
 ghost use Rattle.gps_fixed.specs.Limits.{most_queue};
 ghost use Rattle.crossbeam_queue.specs.Passes.{IsPassOf};
 ghost use Rattle.session_core.specs.Naming.{untold};
-ghost use Rattle.gps_lane.specs.Lane.{Begins, BeginsWith, FlowBegins, PutAtLeast, flow, log, nothing, with_items};
+ghost use Rattle.gps_lane.specs.Lane.{Begins, FlowBegins, PutAtLeast, flow, log, nothing, with_items};
+ghost use Rattle.gps_fixed.specs.Lists.{IsPrefix};
 ghost use Rattle.gps_lane.specs.Ends.{MatchPushed};
 
 use crate::Due;
@@ -232,7 +233,7 @@ fn next<T: Due + Drop, R: Wait + Copy>(
     ensures ids { (tx.new.table_id ≡ tx.old.table_id) × (rx.new.table_id ≡ rx.old.table_id) }
 
     // What was received is a prefix of what was put, and all of it if there was no item left.
-    ensures prefix { BeginsWith rx.new.me.0.client.got.items tx.new.me.0.client.put.items }
+    ensures prefix { IsPrefix rx.new.me.0.client.got.items tx.new.me.0.client.put.items }
     ensures all { IfNone result (rx.new.me.0.client.got.items ≡ tx.new.me.0.client.put.items) }
     ensures due { FlowBegins T.due rx.new.me.0.client.got }
 {

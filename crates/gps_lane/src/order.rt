@@ -56,9 +56,10 @@ pub struct Gets;
 
 impl<T: Due> Outcome<T, Items<T>> for Gets {
     ghost use Rattle.std.specs.Prelude.{◌≡◌, [], ◌∷◌, true};
-    ghost use Rattle.gps_lane.specs.Lane.{log, with_items, BeginsWith, FlowBegins};
+    ghost use Rattle.gps_lane.specs.Lane.{log, with_items, FlowBegins};
+    ghost use Rattle.gps_fixed.specs.Lists.{IsPrefix};
 
-    ghost then = { λ v x w. (w ≡ log v.puts v.gets v.put (with_items (x ∷ []) v.got)) × (v.puts ≡ true → BeginsWith w.got.items w.put.items)
+    ghost then = { λ v x w. (w ≡ log v.puts v.gets v.put (with_items (x ∷ []) v.got)) × (v.puts ≡ true → IsPrefix w.got.items w.put.items)
         × FlowBegins T.due (with_items (x ∷ []) v.got) };
 }
 

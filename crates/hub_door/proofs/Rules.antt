@@ -8,16 +8,17 @@ use Rattle.atomic_table.specs.Table.{Me, Allows, Splits, Joins}
 use Rattle.atomic_table.specs.Table.{keeps as no_slot}
 use Rattle.hub_door.specs.declared.view.DoorView.{DoorView}
 use Rattle.hub_door.specs.declared.view.Entry.{Entry}
-use Rattle.hub_door.specs.Views.{keeper, noted, meeting, BeginsWith}
+use Rattle.hub_door.specs.Views.{keeper, noted, meeting}
+use Rattle.gps_fixed.specs.Lists.{IsPrefix}
 use Rattle.hub_door.specs.Rule.{Fits, DoorHolds, HoldsOf}
 
-pub nothing_begins : (all : List Entry) → BeginsWith [] all
+pub nothing_begins : (all : List Entry) → IsPrefix [] all
 nothing_begins all = (all, refl)
 
-pub all_begins : (all : List Entry) → BeginsWith all all
+pub all_begins : (all : List Entry) → IsPrefix all all
 all_begins all = ([], sym (append-nil all))
 
-begins_on : (first all more : List Entry) → BeginsWith first all → BeginsWith first (all ++ more)
+begins_on : (first all more : List Entry) → IsPrefix first all → IsPrefix first (all ++ more)
 begins_on first all more is = (is.0 ++ more, ap (λ (l : List Entry). l ++ more) is.1 ∙ append_assoc first is.0 more)
 
 -- each view fits
@@ -29,7 +30,7 @@ fits_set hub all views seat w others mine j u e =
     ⊎_elim (λ (x : (j ≡ seat) × (w ≡ u)). subst (λ (y : ℕ × DoorView). Fits hub all y.0 y.1) (λ i. (sym x.0 i, x.1 i)) mine)
     (λ (x : (j ≢ seat) × (get_elem? views j ≡ some u)). others j u x.1) (at_set views seat j w u e)
 
-pub note_fits : (hub : ℕ) (all list : List Entry) (seat : ℕ) → BeginsWith list all → Fits hub all seat (noted list)
+pub note_fits : (hub : ℕ) (all list : List Entry) (seat : ℕ) → IsPrefix list all → Fits hub all seat (noted list)
 note_fits hub all list seat begins =
     record { keeps = λ is. absurd (cc); begins = begins; told = nothing_begins all }
 
@@ -91,7 +92,7 @@ meets seat v other w s h at apart theirs =
 
 -- a load at which the hub's list and a note agree
 pub checks : (slots seat : ℕ) (list told : List Entry)
-    → Allows {S = Unit {0}} HoldsOf slots seat (meeting (keeper list) told, []) 0 (λ n. n) (λ _ (after : Me (Unit {0}) DoorView). (after ≡ (keeper list, [])) × BeginsWith told list)
+    → Allows {S = Unit {0}} HoldsOf slots seat (meeting (keeper list) told, []) 0 (λ n. n) (λ _ (after : Me (Unit {0}) DoorView). (after ≡ (keeper list, [])) × IsPrefix told list)
 checks slots seat list told s h homes at small =
     let f = h.fits seat (meeting (keeper list) told) at in
     let mine = f.keeps refl in (
@@ -103,7 +104,7 @@ checks slots seat list told s h homes at small =
         all = h.all;
         fits = fits_set h.hub h.all s.views seat (keeper list) h.fits (record { keeps = λ _. mine; begins = f.begins; told = nothing_begins h.all });
       },
-      (refl, subst (BeginsWith told) (sym mine.1) f.told),
+      (refl, subst (IsPrefix told) (sym mine.1) f.told),
     )
 
 -- at the start
@@ -122,7 +123,7 @@ module _ (seat : ℕ) (me : Me (Unit {0}) DoorView) (is : me ≡ (keeper me.0.li
       (adds slots seat me.0.list e)
 
 pub checks_as : (slots seat : ℕ) (me : Me (Unit {0}) DoorView) (list told : List Entry) → me ≡ (meeting (keeper list) told, [])
-    → Allows {S = Unit {0}} HoldsOf slots seat me 0 (λ n. n) (λ _ (after : Me (Unit {0}) DoorView). (after ≡ (keeper me.0.list, [])) × BeginsWith me.0.told me.0.list)
+    → Allows {S = Unit {0}} HoldsOf slots seat me 0 (λ n. n) (λ _ (after : Me (Unit {0}) DoorView). (after ≡ (keeper me.0.list, [])) × IsPrefix me.0.told me.0.list)
 checks_as slots seat me list told is =
-    subst (λ (u : Me (Unit {0}) DoorView). Allows {S = Unit {0}} HoldsOf slots seat u 0 (λ n. n) (λ _ (after : Me (Unit {0}) DoorView). (after ≡ (keeper u.0.list, [])) × BeginsWith u.0.told u.0.list)) (sym is)
+    subst (λ (u : Me (Unit {0}) DoorView). Allows {S = Unit {0}} HoldsOf slots seat u 0 (λ n. n) (λ _ (after : Me (Unit {0}) DoorView). (after ≡ (keeper u.0.list, [])) × IsPrefix u.0.told u.0.list)) (sym is)
     (checks slots seat list told)

@@ -6,13 +6,13 @@ use lib.ListN.{get_elem?}
 use Rattle.atomic_table.specs.Table.{State}
 use Rattle.hub_door.specs.declared.view.DoorView.{DoorView}
 use Rattle.hub_door.specs.declared.view.Entry.{Entry}
-use Rattle.hub_door.specs.Views.{BeginsWith}
+use Rattle.gps_fixed.specs.Lists.{IsPrefix}
 
 -- what holds of one seat's view, if the hub's seat has this number
 pub record Fits (hub : ℕ) (all : List Entry) (seat : ℕ) (v : DoorView) : Type 0 where
   pub keeps : v.keeps ≡ true → (seat ≡ hub) × (v.list ≡ all)
-  pub begins : BeginsWith v.list all
-  pub told : BeginsWith v.told all
+  pub begins : IsPrefix v.list all
+  pub told : IsPrefix v.told all
 
 pub record DoorHolds (views : List DoorView) : Type 0 where
   pub hub : ℕ

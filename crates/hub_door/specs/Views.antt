@@ -17,10 +17,6 @@ noted list = record { keeps = false; list = list; told = [] }
 abbrev pub meeting : DoorView → List Entry → DoorView
 meeting v told = record { keeps = v.keeps; list = v.list; told = told }
 
--- these are the first of all
-abbrev pub BeginsWith : List Entry → List Entry → Type 0
-BeginsWith first all = (rest : List Entry) × (all ≡ first ++ rest)
-
 -- the hub's seat of this table
 abbrev pub IsKeeperOf : TableId → TableId → Me (Unit {0}) DoorView → Type 0
 IsKeeperOf table at me = (at ≡ table) × (me ≡ (keeper me.0.list, []))

@@ -64,7 +64,8 @@ pub struct ChecksNote;
 
 impl Play<(), DoorView> for ChecksNote {
     ghost use Rattle.std.specs.Prelude.{◌≡◌, []};
-    ghost use Rattle.hub_door.specs.Views.{keeper, BeginsWith};
+    ghost use Rattle.hub_door.specs.Views.{keeper};
+    ghost use Rattle.gps_fixed.specs.Lists.{IsPrefix};
 
-    ghost then = { λ step before word after. (after ≡ (keeper before.0.list, [])) × BeginsWith before.0.told before.0.list };
+    ghost then = { λ step before word after. (after ≡ (keeper before.0.list, [])) × IsPrefix before.0.told before.0.list };
 }

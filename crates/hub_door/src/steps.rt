@@ -1,6 +1,7 @@
 // The steps on the door's table.
 ghost use Rattle.std.specs.Prelude.{◌≡◌, [], ◌∷◌, ◌++◌};
-ghost use Rattle.hub_door.specs.Views.{BeginsWith, IsKeeperOf, IsNoteOf, keeper, noted};
+ghost use Rattle.hub_door.specs.Views.{IsKeeperOf, IsNoteOf, keeper, noted};
+ghost use Rattle.gps_fixed.specs.Lists.{IsPrefix};
 
 use crate::plays::{AddsEntry, ChecksNote, Entering, JoinsNote, Notes};
 use crate::table::{DoorWord, TableSeat};
@@ -11,7 +12,7 @@ pub(crate) fn compare(word: &DoorWord, hub: &mut TableSeat, seat: &mut TableSeat
     requires one { word.now.shared.table_id.words ≡ 1 }
     requires hub { IsKeeperOf word.now.shared.table_id hub.old.table_id hub.old.me }
     requires seat { IsNoteOf word.now.shared.table_id seat.old.table_id seat.old.me }
-    ensures begins { BeginsWith seat.old.me.0.list hub.old.me.0.list }
+    ensures begins { IsPrefix seat.old.me.0.list hub.old.me.0.list }
     ensures hub { (hub.new.table_id ≡ hub.old.table_id) × (hub.new.me ≡ hub.old.me) }
     ensures seat { (seat.new.table_id ≡ seat.old.table_id) × (seat.new.me ≡ (noted hub.old.me.0.list, [])) }
 {

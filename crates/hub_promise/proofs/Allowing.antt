@@ -17,7 +17,8 @@ use Rattle.device_core.specs.Stream.{bytes_in, edges_in, piece as stream_piece}
 use Rattle.device_core.proofs.Streams.{bytes_of_piece, edges_of_piece}
 use Rattle.gps_fixed.specs.Moment.{Moment}
 use Rattle.gps_lane.specs.Ends.{Taking}
-use Rattle.gps_lane.specs.Lane.{BeginsWith, MayKeep}
+use Rattle.gps_lane.specs.Lane.{MayKeep}
+use Rattle.gps_fixed.specs.Lists.{IsPrefix}
 use Rattle.gps_report.specs.declared.edge.Edge.{Edge}
 use Rattle.gps_report.specs.declared.edge.Symbol.{Symbol}
 use Rattle.gps_report.specs.declared.edge.Symbol.TheVariants.{Edge as EdgeSymbol}
@@ -33,7 +34,7 @@ use Rattle.serve_pieces.specs.declared.piece.Piece.TheVariants.{Bytes, Line, Inp
 use Rattle.session_core.specs.declared.mark.Close.{Close}
 use Rattle.session_core.specs.declared.subject.DeviceHeld.{DeviceHeld}
 use Rattle.session_core.specs.declared.subject.Subject.{Subject}
-use Rattle.session_runs.specs.Due.{IsFirst, IsReadFor, IsReadFrom, device_names}
+use Rattle.session_runs.specs.Due.{IsLogFor, IsReadFrom, device_names}
 use Rattle.session_runs.proofs.Zipping.{zip_weaker}
 use Rattle.hub_promise.specs.declared.ends.DeviceEnd.{DeviceEnd}
 use Rattle.hub_promise.specs.DaemonHub.{DeviceFits, LogIsRead, SessionFits, whole_log}
@@ -60,8 +61,8 @@ no_lines [] refused e = refl
 no_lines (line ∷ lines) refused e = absurd (cc)
 
 edges_by_source : (log : List Entry) (d : ℕ) (source : Option (List ℕ))
-    → IfSome source (λ (held : List ℕ). BeginsWith (edges_in (stream d log)) (edges_said (all_edge_lines held)))
-    → IfSome (edges_in_source (Some source)) (λ (held : List Edge). IsFirst (edges_in (stream d log)) held)
+    → IfSome source (λ (held : List ℕ). IsPrefix (edges_in (stream d log)) (edges_said (all_edge_lines held)))
+    → IfSome (edges_in_source (Some source)) (λ (held : List Edge). IsPrefix (edges_in (stream d log)) held)
 edges_by_source log d None read = tt
 edges_by_source log d (Some held) read = read
 
@@ -123,7 +124,7 @@ log_is b before holds stands = subst (λ (n : ℕ). IsLog n (before ++ b.log.log
 read_for : (terms : Terms) (h : HubView) (lasts : List Lasts) (log : List Entry) (inlets : List InletsView) (ends : List (Option DeviceEnd)) (source : Option (List ℕ))
     → HubKeeps terms h lasts → map names_of inlets ≡ map names_of h.inlets → length inlets ≡ length h.book.names → length ends ≡ length h.book.names
     → IsLog (length h.book.names) log → AllZip (DeviceFits log) (range_with_len 0 (length h.book.names)) (devices_of inlets ends) → All LaneIsRead inlets
-    → IsReadFor (subject_of terms source) log
+    → IsLogFor (subject_of terms source) log
 read_for terms h lasts log inlets ends source k lanes n m is_log fits read =
     let numbers : List ℕ = range_with_len 0 (length h.book.names) in
     let held : List DeviceHeld = devices_held h.book.names (map names_of inlets) in
@@ -133,7 +134,7 @@ read_for terms h lasts log inlets ends source k lanes n m is_log fits read =
     let each : AllZip (IsReadFrom log) numbers held = devices_read log numbers h.book.names inlets ends n m fits (logs_read log numbers inlets ends fits read) in
     let these : Lanes (map names_of inlets) = subst Numbered (sym (held_length h.book.names (map names_of inlets) (lanes_count inlets ∙ n))) each in
     let Among : ℕ → Type 0 = λ c. IsLog c log in
-    let About : Terms → Type 0 = λ t. IsReadFor (subject_of t source) log in
+    let About : Terms → Type 0 = λ t. IsLogFor (subject_of t source) log in
     subst About k.terms_are
     (record {
       is_log = subst Among (sym (held_length h.book.names (map names_of h.inlets) (lanes_count h.inlets ∙ k.count))) is_log;
@@ -142,7 +143,7 @@ read_for terms h lasts log inlets ends source k lanes n m is_log fits read =
 
 -- the log of the whole run
 pub read_now : (terms : Terms) (h : HubView) (lasts : List Lasts) (source : Option (List ℕ)) (k : HubKeeps terms h lasts)
-    → IsReadFor (subject_of terms source) (whole_log k.over.0 h.book)
+    → IsLogFor (subject_of terms source) (whole_log k.over.0 h.book)
 read_now terms h lasts source k =
     read_for terms h lasts (whole_log k.over.0 h.book) h.inlets h.ends source k refl k.count k.ends_count
     (log_is h.book k.over.0 k.holds k.over.1.hub.opening) k.over.1.hub.devices k.read
@@ -152,7 +153,7 @@ read_on : (terms : Terms) (h : HubView) (lasts : List Lasts) (d : ℕ) (x y : In
     → get_or h.inlets d x ≡ x → names_of y ≡ names_of x → LaneIsRead y → ((e : ℕ) → nat_eq d e ≡ false → IsQuiet e entries)
     → IsLog (length h.book.names) (whole_log k.over.0 h.book ++ entries)
     → DeviceFits (whole_log k.over.0 h.book ++ entries) d (device_of y None)
-    → IsReadFor (subject_of terms source) (whole_log k.over.0 h.book ++ entries)
+    → IsLogFor (subject_of terms source) (whole_log k.over.0 h.book ++ entries)
 read_on terms h lasts d x y entries source k here names read quiet is_log mine =
     let log : List Entry = whole_log k.over.0 h.book in
     read_for terms h lasts (log ++ entries) (set h.inlets d y) (set h.ends d None) source k
@@ -164,8 +165,8 @@ read_on terms h lasts d x y entries source k here names read quiet is_log mine =
 quiet_read : (log entries : List Entry) (d : ℕ) (device : DeviceHeld) → stream d entries ≡ [] → IsReadFrom log d device
     → IsReadFrom (log ++ entries) d device
 quiet_read log entries d device none read =
-    let HasBytes : List Symbol → Type 0 = λ l. IfSome device.bytes (λ (held : List ℕ). IsFirst (bytes_of (bytes_in l)) held) in
-    let HasEdges : List Symbol → Type 0 = λ l. IfSome device.edges (λ (held : List Edge). IsFirst (edges_in l) held) in
+    let HasBytes : List Symbol → Type 0 = λ l. IfSome device.bytes (λ (held : List ℕ). IsPrefix (bytes_of (bytes_in l)) held) in
+    let HasEdges : List Symbol → Type 0 = λ l. IfSome device.edges (λ (held : List Edge). IsPrefix (edges_in l) held) in
     let same : stream d log ≡ stream d (log ++ entries) =
     sym (stream-append d log entries ∙ ap (λ l. stream d log ++ l) none ∙ append-nil (stream d log)) in
     record { bytes = subst HasBytes same read.bytes; edges = subst HasEdges same read.edges }
@@ -173,13 +174,13 @@ quiet_read log entries d device none read =
 -- ---- entries of a device
 
 sent_held : (source : Option (List ℕ)) (pieces : List Piece) → AreHeld source pieces
-    → IfSome source (λ (all : List ℕ). IsFirst (input_bytes pieces) all)
+    → IfSome source (λ (all : List ℕ). IsPrefix (input_bytes pieces) all)
 sent_held None pieces held = tt
 sent_held (Some all) pieces held = held.input
 
 pub reports_due_each : (terms : Terms) (names : List (List ℕ)) (before log entries : List Entry) (sessions : List MemberView) (inputs : List (Taking Piece))
     → ((source : Option (List ℕ)) → device_names (subject_of terms source) ≡ names)
-    → ((source : Option (List ℕ)) → IsReadFor (subject_of terms source) ((before ++ log) ++ entries))
+    → ((source : Option (List ℕ)) → IsLogFor (subject_of terms source) ((before ++ log) ++ entries))
     → AllZip (ServesClient terms) sessions inputs → AllZip (SessionFits names before log) sessions inputs
     → MayReportEach MayKeep (line_for names) (history_after (before ++ log) entries) sessions
 reports_due_each terms names before log entries sessions inputs named_so read clients fits s a lt =
@@ -193,7 +194,7 @@ reports_due_each terms names before log entries sessions inputs named_so read cl
 
 -- of those that the log may go on with
 may_add : (terms : Terms) (h : HubView) (lasts : List Lasts) (d : ℕ) (entries : List Entry) (k : HubKeeps terms h lasts)
-    → ((source : Option (List ℕ)) → IsReadFor (subject_of terms source) (whole_log k.over.0 h.book ++ entries)) → MayAdd MayKeep d entries h.book
+    → ((source : Option (List ℕ)) → IsLogFor (subject_of terms source) (whole_log k.over.0 h.book ++ entries)) → MayAdd MayKeep d entries h.book
 may_add terms h lasts d entries k read free held = (
   k.over.0,
   k.over.1.hub.opening,

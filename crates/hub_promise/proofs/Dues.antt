@@ -28,7 +28,8 @@ use Rattle.session_core.specs.Stretches.{Stretch, AreInOrder, answer_stretch, en
 use Rattle.session_core.proofs.Growth.{items_grow, items_marked}
 use Rattle.session_runs.specs.Accounts.{Account}
 use Rattle.session_runs.specs.Asking.{Asked}
-use Rattle.session_runs.specs.Due.{IsDue, IsFirst, IsReadFor, device_names}
+use Rattle.session_runs.specs.Due.{IsDue, IsLogFor, device_names}
+use Rattle.gps_fixed.specs.Lists.{IsPrefix}
 use Rattle.session_runs.specs.Following.{answered_run, opened_run}
 use Rattle.session_runs.specs.Runs.{SessionRun, IsHere, IsRunOf, closed_from, items_over}
 use Rattle.session_runs.proofs.Answering.{answers_now, asked_joined, asked_longer}
@@ -40,11 +41,11 @@ use Rattle.session_runs.proofs.Whole.{whole_history}
 
 -- these bytes are a prefix of what the client sends, if that is told
 abbrev pub IsSentBy : Subject → List ℕ → Type 0
-IsSentBy about bytes = IfSome about.source (λ (all : List ℕ). IsFirst bytes all)
+IsSentBy about bytes = IfSome about.source (λ (all : List ℕ). IsPrefix bytes all)
 
 -- with all of these the outlet would keep just what is due, so it may keep the first of them
 due_begins : (names : List (List ℕ)) (log : List Entry) (about : Subject) (table : TableId) (s : SessionView) (run : SessionRun) (heard : List ℕ) (items : List (List ℕ))
-    → device_names about ≡ names → s.name ≡ of_table table about → IsReadFor about log → IsSentBy about heard
+    → device_names about ≡ names → s.name ≡ of_table table about → IsLogFor about log → IsSentBy about heard
     → Asked names log run.stretches (requests heard)
     → s.kept ++ items ≡ items_over names log run → AllowsAll MayKeep s items
 due_begins names log about table s run heard items named name read sent asked all front rest is =
@@ -95,7 +96,7 @@ items_grown names before log entries s r is run =
     ∙ ap (λ c. session_items lines c r.stretches (history whole) ++ selected lines s.policy (history_after whole entries)) (sym none)
 
 pub reports_due : (names : List (List ℕ)) (before log entries : List Entry) (about : Subject) (table : TableId) (a : MemberView) (r : SessionRun) (bytes : List ℕ)
-    → device_names about ≡ names → a.session.name ≡ of_table table about → IsReadFor about ((before ++ log) ++ entries) → IsSentBy about bytes
+    → device_names about ≡ names → a.session.name ≡ of_table table about → IsLogFor about ((before ++ log) ++ entries) → IsSentBy about bytes
     → Account names before log a r [] bytes → MayReport MayKeep (line_for names) (history_after (before ++ log) entries) a.session
 reports_due names before log entries about table a r bytes named name read sent account is =
     let more : List (List ℕ) = selected (line_for names) a.session.policy (history_after (before ++ log) entries) in
@@ -117,7 +118,7 @@ answers_add lines end stretches (answer ∷ answers) past =
     ∙ append_assoc (items_to lines end stretches past) (answer.reply ∷ []) (map (λ answer. answer.reply) answers)
 
 pub replies_due : (names : List (List ℕ)) (before log : List Entry) (about : Subject) (table : TableId) (a : MemberView) (r : SessionRun) (bytes piece : List ℕ)
-    → device_names about ≡ names → a.session.name ≡ of_table table about → a.session.closing ≡ None → IsReadFor about (before ++ log)
+    → device_names about ≡ names → a.session.name ≡ of_table table about → a.session.closing ≡ None → IsLogFor about (before ++ log)
     → IsSentBy about (bytes ++ piece) → Account names before log a r [] bytes → MayHear MayKeep (known_in (length names) (before ++ log)) names piece a
 replies_due names before log about table a r bytes piece named name is read sent account more cut =
     let whole : List Entry = before ++ log in
@@ -144,11 +145,11 @@ replies_due names before log about table a r bytes piece named name is read sent
 -- ---- the opening reply
 
 -- nothing begins what the client sends
-nothing_first : (source : Option (List ℕ)) → IfSome source (λ (all : List ℕ). IsFirst [] all)
+nothing_first : (source : Option (List ℕ)) → IfSome source (λ (all : List ℕ). IsPrefix [] all)
 nothing_first None = tt
 nothing_first (Some all) = (all, refl)
 
-pub opening_due : (log : List Entry) (about : Subject) (table : TableId) → IsReadFor about log → MayKeep (of_table table about) (opening_reply ∷ [])
+pub opening_due : (log : List Entry) (about : Subject) (table : TableId) → IsLogFor about log → MayKeep (of_table table about) (opening_reply ∷ [])
 opening_due log about table read =
     let names : List (List ℕ) = device_names about in
     let place : ℕ = length (history log) in

@@ -7,7 +7,7 @@ use Rattle.std.proofs.lemmas.List.Concat.{flat_map-append}
 use Rattle.book_log.specs.Entries.{Entry, stream}
 use Rattle.device_core.specs.Stream.{bytes_in, edges_in}
 use Rattle.gps_lane.specs.Ends.{Taking}
-use Rattle.gps_lane.specs.Lane.{BeginsWith}
+use Rattle.gps_fixed.specs.Lists.{IsPrefix}
 use Rattle.gps_report.specs.declared.edge.Edge.{Edge}
 use Rattle.packet_cut.specs.Packets.{bytes_of, stamped}
 use Rattle.packet_cut.proofs.StreamLaws.{bytes_of-append, bytes_of-stamped}
@@ -44,12 +44,12 @@ edges_carried (Input bytes ∷ pieces) = edges_carried pieces
 edges_carried (Last ending ∷ pieces) = edges_carried pieces
 
 -- the log has what was taken of the first of what all pieces carry
-taken_begins : {X : Type 0} (logged taken refused all : List X) (rest : List X) → logged ≡ taken → all ≡ (taken ++ refused) ++ rest → BeginsWith logged all
+taken_begins : {X : Type 0} (logged taken refused all : List X) (rest : List X) → logged ≡ taken → all ≡ (taken ++ refused) ++ rest → IsPrefix logged all
 taken_begins logged taken refused all rest is whole =
     (refused ++ rest, whole ∙ append_assoc taken refused rest ∙ ap (λ l. l ++ (refused ++ rest)) (sym is))
 
 bytes_read : (log : List Entry) (d : ℕ) (x : InletsView) (end : Option DeviceEnd) (about : Option (List ℕ)) → DeviceFits log d (device_of x end) → AreHeld about x.bytes.got
-    → IfSome about (λ (held : List ℕ). BeginsWith (bytes_of (bytes_in (stream d log))) held)
+    → IfSome about (λ (held : List ℕ). IsPrefix (bytes_of (bytes_in (stream d log))) held)
 bytes_read log d x end None fits held = tt
 bytes_read log d x end (Some all) fits held =
     taken_begins (bytes_of (bytes_in (stream d log))) (device_bytes fits.taken) (device_bytes fits.refused) all held.device.0
@@ -58,7 +58,7 @@ bytes_read log d x end (Some all) fits held =
 
 edges_read : (log : List Entry) (d : ℕ) (own lane : Taking Piece) (end : Option DeviceEnd) (about : Option (List ℕ))
     → DeviceFits log d (device_of (record { bytes = own; edges = Some lane }) end) → AreHeld about lane.got
-    → IfSome about (λ (held : List ℕ). BeginsWith (edges_in (stream d log)) (edges_said (all_edge_lines held)))
+    → IfSome about (λ (held : List ℕ). IsPrefix (edges_in (stream d log)) (edges_said (all_edge_lines held)))
 edges_read log d own lane end None fits held = tt
 edges_read log d own lane end (Some all) fits held =
     let said : List ℕ → List Edge = λ line. option_to_list (edge_in line) in

@@ -9,7 +9,7 @@ use Rattle.atomic_table.specs.Seated.{TableId}
 use Rattle.book_log.specs.Entries.{Entry}
 use Rattle.book_sessions.specs.MemberView.{MemberView}
 use Rattle.gps_lane.specs.Ends.{Taking}
-use Rattle.gps_lane.specs.Lane.{BeginsWith}
+use Rattle.gps_fixed.specs.Lists.{IsPrefix}
 use Rattle.hub_door.specs.Admissions.{SessionLanes, link_of}
 use Rattle.report_book.specs.BookView.{BookView}
 use Rattle.report_book.specs.Refusals.{RefusesOnly, missing, missing_session}
@@ -77,7 +77,7 @@ pub gets_none : (x : Taking Piece) → GetsMore x x
 gets_none x = record { more = []; gets = λ i. record { lane = x.lane; about = x.about; got = sym (append-nil x.got) i }; untold = λ told. refl }
 
 -- one more piece, or none
-pub gets_one : (put : List Piece) (x y : Taking Piece) (piece : Option Piece) → TellsOnce put → y ≡ record x { got = x.got ++ option_to_list piece } → BeginsWith y.got put → GetsMore x y
+pub gets_one : (put : List Piece) (x y : Taking Piece) (piece : Option Piece) → TellsOnce put → y ≡ record x { got = x.got ++ option_to_list piece } → IsPrefix y.got put → GetsMore x y
 gets_one put x y piece once gets begins = record {
   more = option_to_list piece;
   gets = gets;

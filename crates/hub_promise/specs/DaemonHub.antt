@@ -12,7 +12,7 @@ use Rattle.book_units.specs.Samples.{samples_of}
 use Rattle.book_units.specs.Units.{UnitView, all_of}
 use Rattle.device_core.specs.Stream.{bytes_in, edges_in}
 use Rattle.gps_lane.specs.Ends.{Taking}
-use Rattle.gps_lane.specs.Lane.{BeginsWith}
+use Rattle.gps_fixed.specs.Lists.{IsPrefix}
 use Rattle.gps_command.specs.Requests.{requests}
 use Rattle.packet_cut.specs.Packets.{bytes_of}
 use Rattle.report_book.specs.BookView.{BookView}
@@ -130,9 +130,9 @@ pub record DaemonHubOver (forgotten : List Entry) (p : Parts) : Type 0 where
 -- The bytes of device d in the log are a prefix of what its source holds, and its edges are a prefix of those of the lines that its source of
 -- edges holds; each if it is told what the source holds.
 pub record LogIsRead (log : List Entry) (d : ℕ) (x : HubDevice) : Type 0 where
-  pub bytes : IfSome x.lanes.bytes.about.source (λ (held : List ℕ). BeginsWith (bytes_of (bytes_in (stream d log))) held)
+  pub bytes : IfSome x.lanes.bytes.about.source (λ (held : List ℕ). IsPrefix (bytes_of (bytes_in (stream d log))) held)
   pub edges : IfSome x.lanes.edges (λ (lane : Taking Piece). IfSome lane.about.source (λ (held : List ℕ).
-      BeginsWith (edges_in (stream d log)) (edges_said (all_edge_lines held))))
+      IsPrefix (edges_in (stream d log)) (edges_said (all_edge_lines held))))
 
 -- the same of each device
 abbrev pub LogsAreRead : List Entry → Parts → Type 0

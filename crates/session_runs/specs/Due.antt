@@ -11,19 +11,16 @@ use Rattle.session_core.specs.declared.subject.Subject.{Subject}
 use Rattle.book_log.specs.Entries.{Entry, IsLog, stream}
 use Rattle.session_runs.specs.Asking.{Asked}
 use Rattle.session_runs.specs.Runs.{SessionRun, items_over}
-
--- these are the first of all
-abbrev pub IsFirst : {T : Type 0} → List T → List T → Type 0
-IsFirst {T} first all = (rest : List T) × (all ≡ first ++ rest)
+use Rattle.gps_fixed.specs.Lists.{IsPrefix}
 
 -- The bytes of device d in the log are a prefix of those that its source holds, and its edges of those that its source of edges holds; each if
 -- that is told.
 pub record IsReadFrom (log : List Entry) (d : ℕ) (device : DeviceHeld) : Type 0 where
-  pub bytes : IfSome device.bytes (λ (held : List ℕ). IsFirst (bytes_of (bytes_in (stream d log))) held)
-  pub edges : IfSome device.edges (λ (held : List Edge). IsFirst (edges_in (stream d log)) held)
+  pub bytes : IfSome device.bytes (λ (held : List ℕ). IsPrefix (bytes_of (bytes_in (stream d log))) held)
+  pub edges : IfSome device.edges (λ (held : List Edge). IsPrefix (edges_in (stream d log)) held)
 
 -- It is a log of these devices, and each one's part of it was read from its sources.
-pub record IsReadFor (about : Subject) (log : List Entry) : Type 0 where
+pub record IsLogFor (about : Subject) (log : List Entry) : Type 0 where
   pub is_log : IsLog (length about.devices) log
   pub each : AllZip (IsReadFrom log) (range_with_len 0 (length about.devices)) about.devices
 
@@ -36,12 +33,12 @@ pub record IsDue (about : Subject) (items : List (List ℕ)) : Type 0 where
   pub log : List Entry
   pub run : SessionRun
   pub heard : List ℕ
-  pub read : IsReadFor about log
-  pub sent : IfSome about.source (λ (all : List ℕ). IsFirst heard all)
+  pub read : IsLogFor about log
+  pub sent : IfSome about.source (λ (all : List ℕ). IsPrefix heard all)
   pub asked : Asked (device_names about) log run.stretches (requests heard)
   pub all : items ≡ items_over (device_names about) log run
 
 -- What may be written next, if this was written before: with it, the bytes begin those of items that are due.
 abbrev pub MayWrite : Subject → Option (List ℕ) → List ℕ → Type 0
 MayWrite about None piece = Unit {0}
-MayWrite about (Some before) piece = (items : List (List ℕ)) × IsDue about items × IsFirst (before ++ piece) (concat items)
+MayWrite about (Some before) piece = (items : List (List ℕ)) × IsDue about items × IsPrefix (before ++ piece) (concat items)

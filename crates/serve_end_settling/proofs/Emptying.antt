@@ -4,7 +4,7 @@ use Rattle.std.specs.Prelude.{option_to_list}
 use Rattle.std.specs.List.{concat}
 use Rattle.std.proofs.lemmas.List.Folds.{concat-append}
 use Rattle.gps_lane.specs.Ends.{Taking}
-use Rattle.gps_lane.specs.Lane.{BeginsWith}
+use Rattle.gps_fixed.specs.Lists.{IsPrefix}
 use Rattle.gps_outside.specs.Counts.{Rose}
 use Rattle.gps_outside.specs.Told.{Goes, Appends, AppendsPart}
 use Rattle.gps_outside.proofs.Going.{goes_as}
@@ -124,7 +124,7 @@ failed_on was mid rx' item between faults' is more rx before faults one =
 
 -- a part of an item was written
 pub part_emptied : (kept : List (List ℕ)) (rx mid rx' : Taking (List ℕ)) (item : List ℕ)
-    → mid ≡ record rx { got = mid.got } → rx' ≡ record mid { got = mid.got ++ item ∷ [] } → BeginsWith rx'.got kept → Empties WriteFault kept rx rx'
+    → mid ≡ record rx { got = mid.got } → rx' ≡ record mid { got = mid.got ++ item ∷ [] } → IsPrefix rx'.got kept → Empties WriteFault kept rx rx'
 part_emptied kept rx mid rx' item lane more begins = record {
   lane = ap (λ (x : Taking (List ℕ)). x.lane) more ∙ ap (λ (x : Taking (List ℕ)). x.lane) lane;
   begins = begins;

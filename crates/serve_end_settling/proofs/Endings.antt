@@ -3,7 +3,7 @@ use Rattle.std.proofs.Common.{◌≡◌, ℕ, List, [], ◌∷◌, ◌++◌, len
 use Rattle.std.specs.Prelude.{option_to_list}
 use Rattle.std.specs.Option.{option_or}
 use Rattle.gps_lane.specs.Ends.{Putting, Taking}
-use Rattle.gps_lane.specs.Lane.{BeginsWith}
+use Rattle.gps_fixed.specs.Lists.{IsPrefix}
 use Rattle.hub_promise.specs.Given.{ending_in, ending_of}
 use Rattle.serve_pieces.specs.declared.piece.Ending.{Ending}
 use Rattle.serve_pieces.specs.declared.piece.Piece.{Piece}
@@ -42,7 +42,7 @@ nothing_behind (g ∷ got) rest (p ∷ pieces) ending end is untold told =
     let same : ending_in g ≡ None = ap (λ l. ending_in (first_or g l)) is ∙ both.1 in
     nothing_behind got rest pieces ending end (ap (drop 1) is) both.0 (told_later (ending_of got) (ending_in g) end told same)
 
-untold_before : (put got : List Piece) (piece : Piece) (told : Option Ending) → ending_of got ≡ told → TellsLast put → BeginsWith (got ++ piece ∷ []) put → told ≡ None
+untold_before : (put got : List Piece) (piece : Piece) (told : Option Ending) → ending_of got ≡ told → TellsLast put → IsPrefix (got ++ piece ∷ []) put → told ≡ None
 untold_before put got piece None is last begins = refl
 untold_before put got piece (Some end) is last begins =
     let parts : got ++ (piece ∷ begins.0) ≡ last.pieces ++ last_piece last.ending = sym (append_assoc got (piece ∷ []) begins.0) ∙ sym begins.1 ∙ last.puts in
@@ -60,21 +60,21 @@ all_got : (tx : Putting Piece) (rx rx' : Taking Piece) (piece : Option Piece) �
 all_got tx rx rx' None is all same = all
 all_got tx rx rx' (Some piece) is all same = absurd (longer rx.got piece (sym is ∙ same))
 
-one_at_most : (put : List Piece) (rx rx' : Taking Piece) (piece : Option Piece) → rx'.got ≡ rx.got ++ option_to_list piece → BeginsWith rx'.got put → TellsLast put
+one_at_most : (put : List Piece) (rx rx' : Taking Piece) (piece : Option Piece) → rx'.got ≡ rx.got ++ option_to_list piece → IsPrefix rx'.got put → TellsLast put
     → OneMoreAtMost rx rx'
 one_at_most put rx rx' None is begins last = inl (is ∙ append-nil rx.got)
 one_at_most put rx rx' (Some piece) is begins last =
-    let first : BeginsWith (rx.got ++ piece ∷ []) put = (begins.0, begins.1 ∙ ap (λ l. l ++ begins.0) is) in
+    let first : IsPrefix (rx.got ++ piece ∷ []) put = (begins.0, begins.1 ∙ ap (λ l. l ++ begins.0) is) in
     inr (piece, is, untold_before put rx.got piece (ending_of rx.got) refl last first)
 
 -- a lane whose two ends are at hand
 pub settled : (tx tx' : Putting Piece) (rx rx' : Taking Piece) (piece : Option Piece)
-    → tx' ≡ tx → rx' ≡ record rx { got = rx.got ++ option_to_list piece } → rx.lane ≡ tx.lane → BeginsWith rx'.got tx'.put → IfNone piece (rx'.got ≡ tx'.put)
+    → tx' ≡ tx → rx' ≡ record rx { got = rx.got ++ option_to_list piece } → rx.lane ≡ tx.lane → IsPrefix rx'.got tx'.put → IfNone piece (rx'.got ≡ tx'.put)
     → Settles tx rx rx'
 settled tx tx' rx rx' piece same is one begins all =
     let got : rx'.got ≡ rx.got ++ option_to_list piece = ap (λ (x : Taking Piece). x.got) is in
     let lane : rx'.lane ≡ rx.lane = ap (λ (x : Taking Piece). x.lane) is in
-    let begins_put : BeginsWith rx'.got tx.put = subst (λ (x : Putting Piece). BeginsWith rx'.got x.put) same begins in
+    let begins_put : IsPrefix rx'.got tx.put = subst (λ (x : Putting Piece). IsPrefix rx'.got x.put) same begins in
     record {
       lane = lane;
       one = lane ∙ one;

@@ -2,7 +2,7 @@
 use Rattle.std.specs.Prelude.{◌≡◌, ◌⊎◌, List, [], ◌∷◌, ◌++◌, Option, Some, None, option_map, option_to_list}
 use Rattle.gps_fixed.specs.Moment.{Moment}
 use Rattle.gps_lane.specs.Ends.{Putting, Taking}
-use Rattle.gps_lane.specs.Lane.{BeginsWith}
+use Rattle.gps_fixed.specs.Lists.{IsPrefix}
 use Rattle.gps_outside.specs.Told.{Stream}
 use Rattle.hub_promise.specs.Given.{ending_of}
 use Rattle.hub_promise.specs.Parts.{InletsView}
@@ -45,7 +45,7 @@ pub record Settles (tx : Putting Piece) (rx rx' : Taking Piece) : Type 0 where
   pub lane : rx'.lane ≡ rx.lane
   pub one : rx'.lane ≡ tx.lane
   pub more : (piece : Option Piece) × (rx'.got ≡ rx.got ++ option_to_list piece)
-  pub begins : BeginsWith rx'.got tx.put
+  pub begins : IsPrefix rx'.got tx.put
   pub all : rx'.got ≡ rx.got → rx'.got ≡ tx.put
   pub behind : TellsLast tx.put → OneMoreAtMost rx rx'
 

@@ -2,7 +2,7 @@
 use Rattle.std.specs.Prelude.{◌≡◌, ℕ, List, get_or, Some}
 use Rattle.book_sessions.specs.MemberView.{MemberView}
 use Rattle.gps_lane.specs.Ends.{Taking}
-use Rattle.gps_lane.specs.Lane.{BeginsWith}
+use Rattle.gps_fixed.specs.Lists.{IsPrefix}
 use Rattle.report_book.specs.BookView.{BookView}
 use Rattle.output_lines.specs.declared.closing.SessionEnd.{SessionEnd}
 use Rattle.output_lines.specs.declared.closing.SessionEnd.TheVariants.{Drained, WriteFault}
@@ -26,5 +26,5 @@ given_to s book free = (get_or book.sessions s free).session.kept
 -- The items that were received are a prefix of those that the outlet was given, and are all of them if the writer drained it.
 pub record Empties (end : WriterEnd) (kept : List (List ℕ)) (rx rx' : Taking (List ℕ)) : Type 0 where
   pub lane : rx'.lane ≡ rx.lane
-  pub begins : BeginsWith rx'.got kept
+  pub begins : IsPrefix rx'.got kept
   pub all : end ≡ writer.Drained → rx'.got ≡ kept

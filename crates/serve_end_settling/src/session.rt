@@ -2,10 +2,10 @@ ghost use Rattle.std.specs.Prelude.{◌≡◌, ◌<◌, ◌≤◌, ◌++◌, ℕ
 ghost use Rattle.std.specs.Option.{option_to_list};
 ghost use Rattle.book_sessions.specs.MemberView.{MemberView};
 ghost use Rattle.gps_lane.specs.Ends.{Taking};
-ghost use Rattle.gps_lane.specs.Lane.{BeginsWith};
+ghost use Rattle.gps_fixed.specs.Lists.{IsPrefix};
 ghost use Rattle.gps_outside.specs.Counts.{Rose};
-ghost use Rattle.gps_outside.specs.Writes.{AllowsAll, WritesAll};
-ghost use Rattle.serve_workers.specs.Writing.{MayGoOn};
+ghost use Rattle.gps_outside.specs.Writes.{AllowsInParts, WritesAll};
+ghost use Rattle.serve_workers.specs.Writing.{MayWriteOn};
 ghost use Rattle.serve_workers.specs.declared.writer.WriterEnd.{WriterEnd};
 ghost use Rattle.serve_threads.specs.declared.session.SessionLink.{SessionLink};
 ghost use Rattle.serve_threads.specs.Sessions.{SessionRuns, Wrote};
@@ -43,7 +43,7 @@ fn next_item<R: Wait + Copy>(
     requires outlet { IsOutletOf number items.old book.old }
     ensures book { book.new ≡ book.old }
     ensures items { items.new ≡ record items.old { got = items.old.got ++ option_to_list result } }
-    ensures begins { (free : MemberView) → BeginsWith items.new.got (given_to number book.old free) }
+    ensures begins { (free : MemberView) → IsPrefix items.new.got (given_to number book.old free) }
     ensures all { IfNone result ((free : MemberView) → items.new.got ≡ given_to number book.old free) }
 {
     match book.settle(number, items) {
@@ -54,10 +54,14 @@ fn next_item<R: Wait + Copy>(
 
 /// Writes an item; false if the sink failed.
 fn write_item<K: ClientSink>(sink: &mut K, item: Item) -> bool
-    requires allowed { AllowsAll K.asks K.written K.allows sink.old item }
+    requires allowed { AllowsInParts K.asks K.written K.allows sink.old item }
+
+    // What was written. What its client sends stays as it was.
     ensures client { K.asks sink.new ≡ K.asks sink.old }
     ensures bytes { WritesAll result item (K.written sink.old) (K.written sink.new) }
     ensures unmodelled { K.written sink.old ≡ None → K.written sink.new ≡ None }
+
+    // It failed exactly if the faults rose.
     ensures faults_stay { K.faults sink.old ≤ K.faults sink.new }
     ensures failed { result ≡ false → Rose (K.faults sink.old) (K.faults sink.new) }
     ensures fails_only { result ≡ true → K.faults sink.new ≡ K.faults sink.old }
@@ -75,8 +79,12 @@ fn drain<K: ClientSink, R: Wait + Copy>(
 ) -> WriterEnd
     requires there { number < length book.old.sessions }
     requires outlet { IsOutletOf number items.old book.old }
-    requires goes_on { MayGoOn K.asks K.written K.allows sink.old items.old }
-    ensures goes_on { result ≡ WriterEnd.Drained → MayGoOn K.asks K.written K.allows sink.new items.new }
+
+    // The sink allows what is due, and after a drained outlet it still does.
+    requires goes_on { MayWriteOn K.asks K.written K.allows sink.old items.old }
+    ensures goes_on { result ≡ WriterEnd.Drained → MayWriteOn K.asks K.written K.allows sink.new items.new }
+
+    // The book stays, and the outlet gives its items in order.
     ensures book { book.new ≡ book.old }
     ensures outlet { (free : MemberView) → Empties result (given_to number book.old free) items.old items.new }
     ensures wrote { Wrote result items.old items.new (K.written sink.old) (K.written sink.new) (K.faults sink.old) (K.faults sink.new) }

@@ -322,6 +322,8 @@ impl<J: HubNaming, R: Wait + Copy> Floor<J, R> {
         requires open { outlet.is_open ≡ true }
         requires input { input.got ≡ [] }
         requires about { outlet.about ≡ subject_of J.terms input.about.source }
+
+        // It has the next number, and its lanes are in the door's list, or the answer says why it is refused.
         ensures number { IfOk result (λ s. s ≡ length door.old.links) }
         ensures door { OnOk result (door.new ≡ admitting (link_of outlet.lane outlet.cap input.lane) door.old) }
         ensures refused { IfErr result (λ why. TurnsAway why held door.old door.new) }

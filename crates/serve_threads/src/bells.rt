@@ -18,6 +18,14 @@ pub struct DeviceBells {
     pub alone: Alone,
 }
 
+/// A reader's own bell, whether it has no thread, and the bell of the pump, which takes what it puts.
+#[derive(Clone, Copy)]
+pub struct ReaderBells<'a> {
+    pub own: &'a Bell,
+    pub alone: &'a Alone,
+    pub pump: &'a Bell,
+}
+
 /// The bells of the daemon's own threads.
 #[derive(Drop)]
 pub struct Bells {

@@ -8,12 +8,14 @@ mod bells;
 mod monitors;
 mod reading;
 mod session;
+mod spawner;
 mod work;
 
-pub use bells::{Alone, Bells, DeviceBells, SessionBells};
+pub use bells::{Alone, Bells, DeviceBells, ReaderBells, SessionBells};
 pub use monitors::{MonitorPromise, MonitorStart, ReadingsDone, monitor_starts, start_monitor};
 pub use reading::{
     DeviceReaderDone, DeviceReading, EdgeReading, ReaderDone, start_device, start_edges,
 };
 pub use session::{Attending, LinkDone, SessionLink, WriterDone, start_session};
+pub use spawner::Spawner;
 pub use work::{Work, start, start_if};

@@ -3,6 +3,7 @@ ghost use Rattle.std.specs.Arc.{arc_value};
 ghost use Rattle.book_units.specs.Units.{segment_of};
 ghost use Rattle.serve_threads.specs.Monitors.{MonitorRan};
 
+use crate::spawner::Spawner;
 use crate::work::{Work, start};
 use gps_fixed::NoMemory;
 use gps_lane::{Bell, Tx};
@@ -14,7 +15,7 @@ use shm_segment::Segment;
 use std::alloc::Global;
 use std::snapshot::Snapshot;
 use std::sync::{Arc, Wait};
-use std::thread::{Promise, Scope};
+use std::thread::Promise;
 
 /// The most units.
 const UNITS: u8 = 16;
@@ -102,9 +103,7 @@ fn monitor_all<R: Wait>(
 
 /// Starts a unit's monitor. If there is no thread for it, it makes its readings at once.
 pub fn start_monitor<'s, E, R: Wait + Copy + Send + Sync + 's>(
-    rt: R,
-    alloc: Global,
-    scope: &'s Scope<'s, E>,
+    spawner: &Spawner<'s, E, R>,
     monitor_start: MonitorStart,
     tries: u32,
     own: &'s Bell,
@@ -116,6 +115,7 @@ pub fn start_monitor<'s, E, R: Wait + Copy + Send + Sync + 's>(
         segment: Snapshot::of(&monitor_start.segment),
         tries,
     };
+    let (rt, alloc, scope) = (spawner.rt, spawner.alloc, spawner.scope);
     start(
         scope,
         promise,

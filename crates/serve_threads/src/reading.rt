@@ -6,9 +6,10 @@ ghost use Rattle.serve_workers.specs.Sourced.{FromSource, LinesFrom};
 ghost use Rattle.serve_workers.specs.Stamping.{StampsPieces};
 ghost use Rattle.serve_threads.specs.Reading.{Reads, ReadsLines, counts};
 
-use crate::bells::Alone;
+use crate::bells::ReaderBells;
+use crate::spawner::Spawner;
 use crate::work::{Work, start};
-use gps_lane::{Bell, Tx};
+use gps_lane::Tx;
 use gps_outside::{Clock, Source};
 use serve_pieces::{Ending, Piece};
 use serve_workers::{Dials, SharedClock, read_device, read_edges, read_session};
@@ -16,7 +17,7 @@ use stamp_shares::StampShare;
 use std::alloc::Global;
 use std::snapshot::Snapshot;
 use std::sync::{Mutex, Wait};
-use std::thread::{Promise, Scope};
+use std::thread::Promise;
 
 /// What a reader hands back: its source, its end of the lane, how it told its lane that the source ended (none if it was told to end before
 /// that), and whether the source failed.
@@ -80,9 +81,7 @@ pub fn device_reader<S: Source, C: Clock, D: Dials, R: Wait + Copy>(
     clock: &Mutex<SharedClock<C, D>>,
     share: StampShare<D>,
     pieces: Tx<Piece, R>,
-    own: &Bell,
-    alone: &Alone,
-    pump: &Bell,
+    bells: ReaderBells,
 ) -> DeviceReaderDone<S, R, D>
     requires open { pieces.is_open ≡ true }
     requires from { FromSource device_part (IsDevicePiece D.may) pieces.about.source pieces.put (S.content source) }
@@ -100,9 +99,9 @@ pub fn device_reader<S: Source, C: Clock, D: Dials, R: Wait + Copy>(
         clock,
         share,
         &mut pieces,
-        own,
-        pump,
-        alone.span(),
+        bells.own,
+        bells.pump,
+        bells.alone.span(),
     );
     let reader = ReaderDone {
         source,
@@ -120,9 +119,7 @@ pub fn session_reader<S: Source, R: Wait + Copy>(
     alloc: Global,
     source: S,
     pieces: Tx<Piece, R>,
-    own: &Bell,
-    alone: &Alone,
-    pump: &Bell,
+    bells: ReaderBells,
 ) -> ReaderDone<S, R>
     requires open { pieces.is_open ≡ true }
     requires from { FromSource input_part IsInputPiece pieces.about.source pieces.put (S.content source) }
@@ -132,7 +129,15 @@ pub fn session_reader<S: Source, R: Wait + Copy>(
 {
     let mut source = source;
     let mut pieces = pieces;
-    let end = read_session(rt, alloc, &mut source, &mut pieces, own, pump, alone.span());
+    let end = read_session(
+        rt,
+        alloc,
+        &mut source,
+        &mut pieces,
+        bells.own,
+        bells.pump,
+        bells.alone.span(),
+    );
     ReaderDone {
         source,
         pieces,
@@ -150,16 +155,12 @@ pub fn start_device<
     D: Dials + Send + Sync + 's,
     R: Wait + Copy + Send + Sync + 's,
 >(
-    rt: R,
-    alloc: Global,
-    scope: &'s Scope<'s, E>,
+    spawner: &Spawner<'s, E, R>,
     source: S,
     clock: &'s Mutex<SharedClock<C, D>>,
     share: StampShare<D>,
     pieces: Tx<Piece, R>,
-    own: &'s Bell,
-    alone: &'s Alone,
-    pump: &'s Bell,
+    bells: ReaderBells<'s>,
 ) -> Work<DeviceReaderDone<S, R, D>, DeviceReading<S, R, D>>
     requires open { pieces.is_open ≡ true }
     requires from { FromSource device_part (IsDevicePiece D.may) pieces.about.source pieces.put (S.content source) }
@@ -172,11 +173,12 @@ pub fn start_device<
         pieces: Snapshot::of(&pieces),
         share: Snapshot::of(&share),
     };
+    let (rt, alloc, scope) = (spawner.rt, spawner.alloc, spawner.scope);
     start(
         scope,
         promise,
-        move || { device_reader(&rt, alloc, source, clock, share, pieces, own, alone, pump) },
-        move || alone.leave(),
+        move || device_reader(&rt, alloc, source, clock, share, pieces, bells),
+        move || bells.alone.leave(),
     )
 }
 
@@ -187,9 +189,7 @@ pub fn edge_reader<S: Source, R: Wait + Copy>(
     alloc: Global,
     source: S,
     pieces: Tx<Piece, R>,
-    own: &Bell,
-    alone: &Alone,
-    pump: &Bell,
+    bells: ReaderBells,
 ) -> ReaderDone<S, R>
     requires open { pieces.is_open ≡ true }
     requires from { LinesFrom pieces.about.source pieces.put [] (S.content source) }
@@ -198,7 +198,15 @@ pub fn edge_reader<S: Source, R: Wait + Copy>(
 {
     let mut source = source;
     let mut pieces = pieces;
-    let end = read_edges(rt, alloc, &mut source, &mut pieces, own, pump, alone.span());
+    let end = read_edges(
+        rt,
+        alloc,
+        &mut source,
+        &mut pieces,
+        bells.own,
+        bells.pump,
+        bells.alone.span(),
+    );
     ReaderDone {
         source,
         pieces,
@@ -209,14 +217,10 @@ pub fn edge_reader<S: Source, R: Wait + Copy>(
 
 /// Starts the reader of a device's edges.
 pub fn start_edges<'s, E, S: Source + Send + 's, R: Wait + Copy + Send + Sync + 's>(
-    rt: R,
-    alloc: Global,
-    scope: &'s Scope<'s, E>,
+    spawner: &Spawner<'s, E, R>,
     source: S,
     pieces: Tx<Piece, R>,
-    own: &'s Bell,
-    alone: &'s Alone,
-    pump: &'s Bell,
+    bells: ReaderBells<'s>,
 ) -> Work<ReaderDone<S, R>, EdgeReading<S, R>>
     requires open { pieces.is_open ≡ true }
     requires from { LinesFrom pieces.about.source pieces.put [] (S.content source) }
@@ -227,10 +231,11 @@ pub fn start_edges<'s, E, S: Source + Send + 's, R: Wait + Copy + Send + Sync + 
         source: Snapshot::of(&source),
         pieces: Snapshot::of(&pieces),
     };
+    let (rt, alloc, scope) = (spawner.rt, spawner.alloc, spawner.scope);
     start(
         scope,
         promise,
-        move || edge_reader(&rt, alloc, source, pieces, own, alone, pump),
-        move || alone.leave(),
+        move || edge_reader(&rt, alloc, source, pieces, bells),
+        move || bells.alone.leave(),
     )
 }

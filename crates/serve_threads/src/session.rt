@@ -2,11 +2,12 @@ ghost use Rattle.std.specs.Prelude.{◌≡◌, true};
 ghost use Rattle.serve_pieces.specs.Carried.{input_part};
 ghost use Rattle.serve_workers.specs.Readings.{IsInputPiece};
 ghost use Rattle.serve_workers.specs.Sourced.{FromSource};
-ghost use Rattle.serve_workers.specs.Writing.{MayGoOn};
+ghost use Rattle.serve_workers.specs.Writing.{MayWriteOn};
 ghost use Rattle.serve_threads.specs.Sessions.{SessionRuns, Wrote};
 
-use crate::bells::SessionBells;
+use crate::bells::{ReaderBells, SessionBells};
 use crate::reading::{ReaderDone, session_reader};
+use crate::spawner::Spawner;
 use crate::work::{Work, start};
 use gps_lane::{Bell, Rx, Tx};
 use gps_outside::{ClientSink, Source};
@@ -17,7 +18,7 @@ use std::alloc::Global;
 use std::marker::Model;
 use std::snapshot::Snapshot;
 use std::sync::{Arc, Wait};
-use std::thread::{Promise, Scope, Threads};
+use std::thread::{Promise, Threads};
 
 /// What a writer hands back.
 #[derive(Drop)]
@@ -30,7 +31,7 @@ pub struct WriterDone<K: ClientSink, R> {
 impl<K: ClientSink, R> Model for WriterDone<K, R> {
     ghost use Rattle.std.specs.Prelude.{◌≡◌};
     ghost use Rattle.serve_workers.specs.declared.writer.WriterEnd.TheVariants.{Drained};
-    ghost use Rattle.serve_workers.specs.Writing.{MayGoOn};
+    ghost use Rattle.serve_workers.specs.Writing.{MayWriteOn};
     ghost use Rattle.serve_threads.specs.Writers.{WriterView};
 
     ghost Value = { WriterView K };
@@ -38,7 +39,7 @@ impl<K: ClientSink, R> Model for WriterDone<K, R> {
     ghost view = { λ w. record { sink = w.sink; items = w.items; end = w.end } };
 
     // Unless its sink failed, what still comes from its lane may be written.
-    ghost invariant = { λ w. w.end ≡ Drained → MayGoOn K.asks K.written K.allows w.sink w.items };
+    ghost invariant = { λ w. w.end ≡ Drained → MayWriteOn K.asks K.written K.allows w.sink w.items };
 }
 
 /// What the two threads of a session hand back.
@@ -89,7 +90,7 @@ fn session_writer<K: ClientSink, R: Wait + Copy>(
     sink: K,
     bells: &SessionBells,
 ) -> WriterDone<K, R>
-    requires goes_on { MayGoOn K.asks K.written K.allows sink items }
+    requires goes_on { MayWriteOn K.asks K.written K.allows sink items }
     ensures { Wrote result.end items result.items (K.written sink) (K.written result.sink) (K.faults sink) (K.faults result.sink) }
 {
     let mut items = items;
@@ -108,9 +109,7 @@ pub fn attend<
     K: ClientSink + Send + 's,
     R: Threads + Wait + Copy + Send + Sync + 's,
 >(
-    rt: R,
-    alloc: Global,
-    scope: &'s Scope<'s, E>,
+    spawner: Spawner<'s, E, R>,
     link: SessionLink<S, K, R>,
     bells: Arc<SessionBells>,
     writers: Arc<SessionBells>,
@@ -118,9 +117,10 @@ pub fn attend<
 ) -> LinkDone<S, K, R>
     requires open { link.pieces.is_open ≡ true }
     requires from { FromSource input_part IsInputPiece link.pieces.about.source link.pieces.put (S.content link.source) }
-    requires goes_on { MayGoOn K.asks K.written K.allows link.sink link.items }
+    requires goes_on { MayWriteOn K.asks K.written K.allows link.sink link.items }
     ensures { SessionRuns S.content S.faults S.quiets K.written K.faults link result }
 {
+    let Spawner { rt, alloc, scope } = spawner;
     let SessionLink {
         source,
         sink,
@@ -134,23 +134,27 @@ pub fn attend<
     let started = scope.spawn_with(
         promise,
         move || -> WriterDone<K, R>
-            requires goes_on { MayGoOn K.asks K.written K.allows sink items }
+            requires goes_on { MayWriteOn K.asks K.written K.allows sink items }
         {
             let (items, sink) = (items, sink);
             session_writer(&rt, alloc, items, sink, &writers)
         },
     );
-    let own = &bells.reader;
+    let reader_bells = ReaderBells {
+        own: &bells.reader,
+        alone: &bells.alone,
+        pump,
+    };
     match started {
         Ok(writer) => {
-            let reader = session_reader(&rt, alloc, source, pieces, own, &bells.alone, pump);
+            let reader = session_reader(&rt, alloc, source, pieces, reader_bells);
             let writer = writer.join(&rt);
             bells.leave();
             LinkDone { reader, writer }
         }
         Err(refused) => {
             bells.alone.leave();
-            let reader = session_reader(&rt, alloc, source, pieces, own, &bells.alone, pump);
+            let reader = session_reader(&rt, alloc, source, pieces, reader_bells);
             let writer = (refused.value)();
             bells.leave();
             LinkDone { reader, writer }
@@ -166,9 +170,7 @@ pub fn start_session<
     K: ClientSink + Send + 's,
     R: Threads + Wait + Copy + Send + Sync + 's,
 >(
-    rt: R,
-    alloc: Global,
-    scope: &'s Scope<'s, E>,
+    spawner: &Spawner<'s, E, R>,
     link: SessionLink<S, K, R>,
     bells: Arc<SessionBells>,
     writers: Arc<SessionBells>,
@@ -177,20 +179,21 @@ pub fn start_session<
 ) -> Work<LinkDone<S, K, R>, Attending<S, K, R>>
     requires open { link.pieces.is_open ≡ true }
     requires from { FromSource input_part IsInputPiece link.pieces.about.source link.pieces.put (S.content link.source) }
-    requires goes_on { MayGoOn K.asks K.written K.allows link.sink link.items }
+    requires goes_on { MayWriteOn K.asks K.written K.allows link.sink link.items }
     ensures { result.link.value ≡ link }
 {
     let promise = Attending {
         link: Snapshot::of(&link),
     };
+    let (rt, alloc, scope) = (spawner.rt, spawner.alloc, spawner.scope);
     start(
         scope,
         promise,
         move || -> LinkDone<S, K, R>
             requires open { link.pieces.is_open ≡ true }
             requires from { FromSource input_part IsInputPiece link.pieces.about.source link.pieces.put (S.content link.source) }
-            requires goes_on { MayGoOn K.asks K.written K.allows link.sink link.items }
-        { attend(rt, alloc, scope, link, bells, writers, pump) },
+            requires goes_on { MayWriteOn K.asks K.written K.allows link.sink link.items }
+        { attend(Spawner { rt, alloc, scope }, link, bells, writers, pump) },
         move || own.alone.leave(),
     )
 }

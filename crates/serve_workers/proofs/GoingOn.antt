@@ -7,11 +7,11 @@ use Rattle.gps_lane.specs.Ends.{Taking}
 use Rattle.gps_lane.specs.Lane.{Begins}
 use Rattle.gps_outside.specs.Told.{Goes, Appends}
 use Rattle.gps_outside.specs.Waiting.{Waits}
-use Rattle.gps_outside.specs.Writes.{AllowsAll}
+use Rattle.gps_outside.specs.Writes.{AllowsInParts}
 use Rattle.gps_outside.proofs.Writing.{appended}
 use Rattle.session_core.specs.declared.subject.Subject.{Subject}
 use Rattle.session_runs.specs.Due.{IsDue, MayWrite}
-use Rattle.serve_workers.specs.Writing.{AllowsDue, Gathers, HasWritten, MayGoOn}
+use Rattle.serve_workers.specs.Writing.{AllowsDue, Gathers, HasWritten, MayWriteOn}
 
 -- what was written, and then these bytes, are those of the items that were received
 abbrev pub HasBut : List ℕ → List (List ℕ) → Option (List ℕ) → Type 0
@@ -107,13 +107,13 @@ may_write about got piece more part rest (Some bytes) now (inr due) has split so
 -- a piece that goes on with what was written may be written, by as many writes as it needs
 pub may_send : {K : Type 0} (asks written : K → Option (List ℕ)) (allows : K → List ℕ → Type 0) (sink : K) (about : Subject) (got : List (List ℕ)) (piece more : List ℕ)
     → AllowsDue asks written allows about → asks sink ≡ about.source → Begins IsDue about got → HasBut (piece ++ more) got (written sink)
-    → AllowsAll asks written allows sink piece
+    → AllowsInParts asks written allows sink piece
 may_send asks written allows sink about got piece more allowed client begins has = λ now part rest split some same is.
     allowed now rest (same ∙ client) (may_write about got piece more part rest (written sink) (written now) begins has split some is)
 
 -- of a piece that may be written the rest may be, once the sink was written the first part
 pub may_send_rest : {K : Type 0} (asks written : K → Option (List ℕ)) (allows : K → List ℕ → Type 0) (first sink : K) (piece rest : List ℕ)
-    → AllowsAll asks written allows first piece → Waits piece rest (written first) (written sink) → (written first ≡ None → written sink ≡ None) → asks sink ≡ asks first
+    → AllowsInParts asks written allows first piece → Waits piece rest (written first) (written sink) → (written first ≡ None → written sink ≡ None) → asks sink ≡ asks first
     → 0 < length rest
     → (now : K) → asks now ≡ asks sink → written now ≡ written sink → allows now rest
 may_send_rest asks written allows first sink piece rest allowed waits unmodelled client some now same is =
@@ -121,7 +121,7 @@ may_send_rest asks written allows first sink piece rest allowed waits unmodelled
 
 -- nothing is written meanwhile
 pub goes_on_still : {K : Type 0} (asks written : K → Option (List ℕ)) (allows : K → List ℕ → Type 0) (sink sink' : K) (lane : Taking (List ℕ))
-    → MayGoOn asks written allows sink lane → asks sink' ≡ asks sink → written sink' ≡ written sink → MayGoOn asks written allows sink' lane
+    → MayWriteOn asks written allows sink lane → asks sink' ≡ asks sink → written sink' ≡ written sink → MayWriteOn asks written allows sink' lane
 goes_on_still asks written allows sink sink' lane may client still = record {
   client = client ∙ may.client;
   wrote = subst (λ w. HasWritten lane.got w) (sym still) may.wrote;
@@ -133,8 +133,8 @@ about_of lane lane' same = ap (λ (l : Taking (List ℕ)). l.about) same
 
 -- all that was received was written
 pub goes_on : {K : Type 0} (asks written : K → Option (List ℕ)) (allows : K → List ℕ → Type 0) (sink sink' : K) (lane lane' : Taking (List ℕ))
-    → MayGoOn asks written allows sink lane → asks sink' ≡ asks sink → lane' ≡ record lane { got = lane'.got } → HasWritten lane'.got (written sink')
-    → MayGoOn asks written allows sink' lane'
+    → MayWriteOn asks written allows sink lane → asks sink' ≡ asks sink → lane' ≡ record lane { got = lane'.got } → HasWritten lane'.got (written sink')
+    → MayWriteOn asks written allows sink' lane'
 goes_on asks written allows sink sink' lane lane' may client same wrote =
     let about = about_of lane lane' same in record {
       client = client ∙ may.client ∙ sym (ap (λ (s : Subject). s.source) about);
@@ -144,9 +144,9 @@ goes_on asks written allows sink sink' lane lane' may client same wrote =
 
 -- so it may by a writer that may go on, whose lane has given more since
 pub may_send_on : {K : Type 0} (asks written : K → Option (List ℕ)) (allows : K → List ℕ → Type 0) (first sink : K) (lane lane' : Taking (List ℕ)) (piece more : List ℕ)
-    → MayGoOn asks written allows first lane → asks sink ≡ asks first → lane' ≡ record lane { got = lane'.got } → Begins IsDue lane'.about lane'.got
+    → MayWriteOn asks written allows first lane → asks sink ≡ asks first → lane' ≡ record lane { got = lane'.got } → Begins IsDue lane'.about lane'.got
     → HasBut (piece ++ more) lane'.got (written sink)
-    → AllowsAll asks written allows sink piece
+    → AllowsInParts asks written allows sink piece
 may_send_on asks written allows first sink lane lane' piece more may client same begins has =
     let about = about_of lane lane' same in
     may_send asks written allows sink lane'.about lane'.got piece more (subst (λ (s : Subject). AllowsDue asks written allows s) (sym about) may.allowed)
@@ -154,8 +154,8 @@ may_send_on asks written allows first sink lane lane' piece more may client same
 
 -- one item more was received: it may be written
 pub may_send_item : {K : Type 0} (asks written : K → Option (List ℕ)) (allows : K → List ℕ → Type 0) (sink : K) (lane lane' : Taking (List ℕ)) (item : List ℕ)
-    → MayGoOn asks written allows sink lane → lane' ≡ record lane { got = lane.got ++ item ∷ [] } → Begins IsDue lane'.about lane'.got
-    → AllowsAll asks written allows sink item
+    → MayWriteOn asks written allows sink lane → lane' ≡ record lane { got = lane.got ++ item ∷ [] } → Begins IsDue lane'.about lane'.got
+    → AllowsInParts asks written allows sink item
 may_send_item asks written allows sink lane lane' item may next begins =
     let gets : lane'.got ≡ lane.got ++ item ∷ [] = ap (λ (l : Taking (List ℕ)). l.got) next in
     may_send_on asks written allows sink sink lane lane' item [] may refl (next ∙ ap (λ l. record lane { got = l }) (sym gets)) begins
@@ -169,9 +169,9 @@ has_next item got (Some bytes) has =
 
 -- and was
 pub sent_item : {K : Type 0} (asks written : K → Option (List ℕ)) (allows : K → List ℕ → Type 0) (sink sink' : K) (lane lane' : Taking (List ℕ)) (item : List ℕ)
-    → MayGoOn asks written allows sink lane → lane' ≡ record lane { got = lane.got ++ item ∷ [] } → asks sink' ≡ asks sink
+    → MayWriteOn asks written allows sink lane → lane' ≡ record lane { got = lane.got ++ item ∷ [] } → asks sink' ≡ asks sink
     → written sink' ≡ option_map (λ bytes. bytes ++ item) (written sink)
-    → MayGoOn asks written allows sink' lane'
+    → MayWriteOn asks written allows sink' lane'
 sent_item asks written allows sink sink' lane lane' item may next client all =
     let gets : lane'.got ≡ lane.got ++ item ∷ [] = ap (λ (l : Taking (List ℕ)). l.got) next in
     goes_on asks written allows sink sink' lane lane' may client (next ∙ ap (λ l. record lane { got = l }) (sym gets))
@@ -179,6 +179,6 @@ sent_item asks written allows sink sink' lane lane' item may next client all =
 
 -- there was none to receive
 pub goes_on_none : {K : Type 0} (asks written : K → Option (List ℕ)) (allows : K → List ℕ → Type 0) (sink : K) (lane lane' : Taking (List ℕ))
-    → MayGoOn asks written allows sink lane → lane' ≡ record lane { got = lane.got ++ [] } → MayGoOn asks written allows sink lane'
+    → MayWriteOn asks written allows sink lane → lane' ≡ record lane { got = lane.got ++ [] } → MayWriteOn asks written allows sink lane'
 goes_on_none asks written allows sink lane lane' may none =
-    subst (λ (l : Taking (List ℕ)). MayGoOn asks written allows sink l) (sym (none ∙ ap (λ l. record lane { got = l }) (append-nil lane.got))) may
+    subst (λ (l : Taking (List ℕ)). MayWriteOn asks written allows sink l) (sym (none ∙ ap (λ l. record lane { got = l }) (append-nil lane.got))) may

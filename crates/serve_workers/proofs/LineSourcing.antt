@@ -6,7 +6,8 @@ use Rattle.std.proofs.lemmas.List.{map-append}
 use Rattle.std.proofs.lemmas.List.Concat.{flat_map-append}
 use Rattle.session_core.specs.declared.subject.Subject.{Subject}
 use Rattle.gps_lane.specs.Ends.{Putting}
-use Rattle.gps_lane.specs.Lane.{Begins, BeginsWith}
+use Rattle.gps_lane.specs.Lane.{Begins}
+use Rattle.gps_fixed.specs.Lists.{IsPrefix}
 use Rattle.gps_outside.specs.Told.{Stream, Goes, Stays, Passes, IsAtEnd}
 use Rattle.line_cut.specs.declared.limit.Limit.{Limit}
 use Rattle.line_cut.specs.declared.next.WholeLine.{WholeLine}
@@ -41,11 +42,11 @@ lines_in : (lines : List (List ℕ)) → lines_of (line_pieces lines) ≡ lines
 lines_in [] = refl
 lines_in (line ∷ lines) = ap (λ l. line ∷ l) (lines_in lines)
 
-begins_none : (held none : List ℕ) → none ≡ [] → BeginsWith none held
+begins_none : (held none : List ℕ) → none ≡ [] → IsPrefix none held
 begins_none held none is = (held, ap (λ l. l ++ held) (sym is))
 
 -- more bytes end no other line than those that came before
-lines_go_on : (bytes left : List ℕ) → BeginsWith (edge_lines bytes) (all_edge_lines (bytes ++ left))
+lines_go_on : (bytes left : List ℕ) → IsPrefix (edge_lines bytes) (all_edge_lines (bytes ++ left))
 lines_go_on bytes left =
     let later : List (List ℕ) = map text_of (fitting_lines edge_limit (open_line bytes ++ left)) in
     let on : edge_lines (bytes ++ left) ≡ edge_lines bytes ++ later =

@@ -5,7 +5,8 @@ use Rattle.std.proofs.lemmas.List.Concat.{flat_map-append}
 use Rattle.gps_fixed.specs.Moment.{Moment}
 use Rattle.session_core.specs.declared.subject.Subject.{Subject}
 use Rattle.gps_lane.specs.Ends.{Putting}
-use Rattle.gps_lane.specs.Lane.{Begins, BeginsWith}
+use Rattle.gps_lane.specs.Lane.{Begins}
+use Rattle.gps_fixed.specs.Lists.{IsPrefix}
 use Rattle.gps_outside.specs.Told.{Stream, Goes, Stays, Passes}
 use Rattle.serve_pieces.specs.declared.piece.Piece.{Piece}
 use Rattle.serve_pieces.specs.declared.piece.Piece.TheVariants.{Bytes, Line, Input, Last}
@@ -45,17 +46,17 @@ no_line (Line line ∷ put) each = absurd each.0
 no_line (Input bytes ∷ put) each = no_line put each.1
 no_line (Last ending ∷ put) each = absurd each.0
 
-begins_none : {X : Type 0} (held none : List X) → none ≡ [] → BeginsWith none held
+begins_none : {X : Type 0} (held none : List X) → none ≡ [] → IsPrefix none held
 begins_none held none is = (held, ap (λ l. l ++ held) (sym is))
 
-pub device_carries : (may : Option (List Moment)) (held : List ℕ) (put : List Piece) → Each (IsDevicePiece may) put → BeginsWith (device_bytes put) held → CarryHeld held put
+pub device_carries : (may : Option (List Moment)) (held : List ℕ) (put : List Piece) → Each (IsDevicePiece may) put → IsPrefix (device_bytes put) held → CarryHeld held put
 device_carries may held put each begins = record {
   device = begins;
   input = begins_none held (input_bytes put) (no_input may put each);
   lines = begins_none (all_edge_lines held) (lines_of put) (no_lines may put each);
 }
 
-pub input_carries : (held : List ℕ) (put : List Piece) → Each IsInputPiece put → BeginsWith (input_bytes put) held → CarryHeld held put
+pub input_carries : (held : List ℕ) (put : List Piece) → Each IsInputPiece put → IsPrefix (input_bytes put) held → CarryHeld held put
 input_carries held put each begins = record {
   device = begins_none held (device_bytes put) (no_device put each);
   input = begins;

@@ -1,7 +1,7 @@
 -- What a reader has put of its source's bytes so far.
 use Rattle.std.specs.Prelude.{◌≡◌, ℕ, List, [], ◌++◌, Option, Some, None, IfSome, option_map}
 use Rattle.std.specs.List.{flat_map}
-use Rattle.gps_lane.specs.Lane.{BeginsWith}
+use Rattle.gps_fixed.specs.Lists.{IsPrefix}
 use Rattle.gps_outside.specs.Told.{Stream}
 use Rattle.serve_pieces.specs.declared.piece.Piece.{Piece}
 use Rattle.serve_pieces.specs.declared.piece.Ending.TheVariants.{End, Failed, NoMemory}
@@ -35,7 +35,7 @@ FromSourceOn Closed part P about put now = Unit {0}
 
 -- pieces as P says carry what a source holds, if their bytes of this part are its first ones
 abbrev pub Carries : (Piece → List ℕ) → (Piece → Type 0) → Type 0
-Carries part P = (held : List ℕ) (put : List Piece) → Each P put → BeginsWith (flat_map part put) held → CarryHeld held put
+Carries part P = (held : List ℕ) (put : List Piece) → Each P put → IsPrefix (flat_map part put) held → CarryHeld held put
 
 -- Only lines were put, those that these bytes complete; and with what is left, the bytes are all that the source holds.
 pub record LinesOf (held : List ℕ) (put : List Piece) (bytes left : List ℕ) : Type 0 where

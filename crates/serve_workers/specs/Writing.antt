@@ -38,7 +38,7 @@ AllowsDue {K} asks written allows about =
 
 -- What comes from the lane may be written to the sink: it is that of the lane's client, what was received so far was written to it, and it allows
 -- what is due.
-pub record MayGoOn {K : Type 0} (asks written : K → Option (List ℕ)) (allows : K → List ℕ → Type 0) (sink : K) (lane : Taking (List ℕ)) : Type 0 where
+pub record MayWriteOn {K : Type 0} (asks written : K → Option (List ℕ)) (allows : K → List ℕ → Type 0) (sink : K) (lane : Taking (List ℕ)) : Type 0 where
   pub client : asks sink ≡ lane.about.source
   pub wrote : HasWritten lane.got (written sink)
   pub allowed : AllowsDue asks written allows lane.about

@@ -1,9 +1,9 @@
 ghost use Rattle.std.specs.Prelude.{◌≡◌, ◌<◌, ◌≤◌, ◌⊎◌, ℕ, List, [], ◌++◌, true, false, length, Option, None};
 ghost use Rattle.gps_outside.specs.Counts.{Rose};
 ghost use Rattle.gps_outside.specs.declared.sink.WriteStep.{WriteStep};
-ghost use Rattle.gps_outside.specs.Writes.{AllowsAll, FailsOnly, FitsPiece, Writes as WritesPiece, WritesAll};
+ghost use Rattle.gps_outside.specs.Writes.{AllowsInParts, FailsOnly, FitsPiece, Writes as WritesPiece, WritesAll};
 ghost use Rattle.serve_workers.specs.declared.writer.WriterEnd.{WriterEnd};
-ghost use Rattle.serve_workers.specs.Writing.{Gathers, MayGoOn, Writes};
+ghost use Rattle.serve_workers.specs.Writing.{Gathers, MayWriteOn, Writes};
 
 use gps_lane::{Bell, Rx};
 use gps_outside::{ClientSink, WriteStep};
@@ -25,10 +25,14 @@ const ROOM: usize = 16_384;
 
 /// Writes a piece. Once the bell is closed, the sink is told before each write that what is still to be written is bounded.
 fn write_piece<K: ClientSink>(own: &Bell, sink: &mut K, piece: &[u8]) -> bool
-    requires allowed { AllowsAll K.asks K.written K.allows sink.old piece.now }
+    requires allowed { AllowsInParts K.asks K.written K.allows sink.old piece.now }
+
+    // What was written. What its client sends stays as it was.
     ensures client { K.asks sink.new ≡ K.asks sink.old }
     ensures bytes { WritesAll result piece.now (K.written sink.old) (K.written sink.new) }
     ensures unmodelled { K.written sink.old ≡ None → K.written sink.new ≡ None }
+
+    // It failed exactly if the faults rose.
     ensures faults_stay { K.faults sink.old ≤ K.faults sink.new }
     ensures failed { result ≡ false → Rose (K.faults sink.old) (K.faults sink.new) }
     ensures fails_only { result ≡ true → K.faults sink.new ≡ K.faults sink.old }
@@ -56,10 +60,14 @@ fn tell_end<K: ClientSink>(own: &Bell, sink: &mut K)
 fn write_some<K: ClientSink>(own: &Bell, sink: &mut K, piece: &[u8]) -> WriteStep
     requires some { 0 < length piece.now }
     requires allowed { (now : K) → K.asks now ≡ K.asks sink.old → K.written now ≡ K.written sink.old → K.allows now piece.now }
+
+    // What was written. What its client sends stays as it was.
     ensures client { K.asks sink.new ≡ K.asks sink.old }
     ensures fits { FitsPiece result (length piece.now) }
     ensures bytes { WritesPiece result piece.now (K.written sink.old) (K.written sink.new) }
     ensures unmodelled { K.written sink.old ≡ None → K.written sink.new ≡ None }
+
+    // It failed exactly if the faults rose.
     ensures faults_stay { K.faults sink.old ≤ K.faults sink.new }
     ensures failed { result ≡ WriteStep.Failed → Rose (K.faults sink.old) (K.faults sink.new) }
     ensures fails_only { FailsOnly result (K.faults sink.old) (K.faults sink.new) }
@@ -113,10 +121,16 @@ fn write_on<K: ClientSink, R: Wait + Copy>(
     room: Vec<u8>,
 ) -> WriterEnd
     requires room { room.items ≡ [] }
-    requires goes_on { MayGoOn K.asks K.written K.allows sink.old items.old }
-    ensures goes_on { result ≡ WriterEnd.Drained → MayGoOn K.asks K.written K.allows sink.new items.new }
+
+    // The sink allows what is due, and after a drained lane it still does.
+    requires goes_on { MayWriteOn K.asks K.written K.allows sink.old items.old }
+    ensures goes_on { result ≡ WriterEnd.Drained → MayWriteOn K.asks K.written K.allows sink.new items.new }
+
+    // What was written is what was received.
     ensures writes { Writes result items.old.got items.new.got (K.written sink.old) (K.written sink.new) }
     ensures lane { items.new ≡ record items.old { got = items.new.got } }
+
+    // It ended with a fault exactly if the faults rose.
     ensures faults_stay { K.faults sink.old ≤ K.faults sink.new }
     ensures failed { result ≡ WriterEnd.WriteFault → Rose (K.faults sink.old) (K.faults sink.new) }
     ensures sound { result ≡ WriterEnd.Drained → K.faults sink.new ≡ K.faults sink.old }
@@ -185,10 +199,14 @@ pub fn write_items<K: ClientSink, R: Wait + Copy>(
     own: &Bell,
     sink: &mut K,
 ) -> WriterEnd
-    requires goes_on { MayGoOn K.asks K.written K.allows sink.old items.old }
-    ensures goes_on { result ≡ WriterEnd.Drained → MayGoOn K.asks K.written K.allows sink.new items.new }
+    requires goes_on { MayWriteOn K.asks K.written K.allows sink.old items.old }
+    ensures goes_on { result ≡ WriterEnd.Drained → MayWriteOn K.asks K.written K.allows sink.new items.new }
+
+    // What was written is what was received.
     ensures writes { Writes result items.old.got items.new.got (K.written sink.old) (K.written sink.new) }
     ensures lane { items.new ≡ record items.old { got = items.new.got } }
+
+    // It ended with a fault exactly if the faults rose.
     ensures faults_stay { K.faults sink.old ≤ K.faults sink.new }
     ensures failed { result ≡ WriterEnd.WriteFault → Rose (K.faults sink.old) (K.faults sink.new) }
     ensures sound { result ≡ WriterEnd.Drained → K.faults sink.new ≡ K.faults sink.old }

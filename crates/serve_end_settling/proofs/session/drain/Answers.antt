@@ -1,5 +1,5 @@
 use Rattle.std.proofs.Common.{◌∙◌, refl, subst}
-use Rattle.gps_lane.specs.Lane.{BeginsWith}
+use Rattle.gps_fixed.specs.Lists.{IsPrefix}
 use Rattle.report_book.specs.BookView.{BookView}
 use Rattle.serve_end_settling.specs.Outlets.{given_to}
 use Rattle.gps_outside.proofs.Writing.{appended}
@@ -11,7 +11,7 @@ pub returns-then-not-write_item-clause-outlet : goal.returns-then-not-write_item
 returns-then-not-write_item-clause-outlet g c = λ free.
     part_emptied (given_to c.args.number c.args.book.now free) c.args.items.now c.items.items c.next_item.new.items c.in-Some-next_item.item c.items.invariant.wrote.lane
     c.in-Some-next_item.ensures.items
-    (subst (λ (b : BookView). BeginsWith c.next_item.new.items.got (given_to c.args.number b free)) c.items.invariant.book (c.in-Some-next_item.ensures.begins free))
+    (subst (λ (b : BookView). IsPrefix c.next_item.new.items.got (given_to c.args.number b free)) c.items.invariant.book (c.in-Some-next_item.ensures.begins free))
 
 pub returns-then-not-write_item-clause-wrote : goal.returns-then-not-write_item-clause-wrote
 returns-then-not-write_item-clause-wrote g c =

@@ -22,7 +22,7 @@ use Rattle.serve_threads.specs.Sessions.{SessionRuns, Wrote}
 use Rattle.serve_end_settling.proofs.Emptying.{wrote_item, wrote_less, wrote_none, wrote_part}
 use Rattle.serve_end_settling.proofs.Endings.{sessions_tell_last}
 use Rattle.serve_door.specs.declared.seated.Seated.{Seated}
-use Rattle.serve_door.specs.Doors.{AreSeated, EachLink, HaveLanes, IsUnused, lanes_of, link_at, links_at}
+use Rattle.serve_door.specs.Doors.{AreSeated, EachLink, HaveLanes, HasNewLanes, lanes_of, link_at, links_at}
 use Rattle.serve_door.specs.Released.{AreEndsOf, GotMore, WritesItem, WritesOn}
 
 -- ---- which lanes are a session's
@@ -40,7 +40,7 @@ module _ {S K R : Type 0} where
   lanes_in queue (one ∷ seated) zero x free there = refl
   lanes_in queue (one ∷ seated) (suc s) x free there = lanes_in queue seated s x free (omega arith)
 
-  unused_in : (seated : List (Seated S K R)) (s : ℕ) (x : Seated S K R) → s < length seated → EachLink IsUnused (links_at seated) → IsUnused (link_at (slice_index_or seated s x))
+  unused_in : (seated : List (Seated S K R)) (s : ℕ) (x : Seated S K R) → s < length seated → EachLink HasNewLanes (links_at seated) → HasNewLanes (link_at (slice_index_or seated s x))
   unused_in [] s x there unused = absurd (omega arith)
   unused_in (one ∷ seated) zero x there unused = unused.0
   unused_in (one ∷ seated) (suc s) x there unused = unused_in seated s x (omega arith) unused.1

@@ -5,7 +5,7 @@ use Rattle.std.specs.List.{AllZip}
 use Rattle.gps_outside.specs.Counts.{Rose}
 use Rattle.hub_door.specs.Admissions.{Admissions, admitting, link_of}
 use Rattle.serve_threads.specs.declared.session.SessionLink.{SessionLink}
-use Rattle.serve_door.specs.Doors.{AreSeated, DoorNow, EachLink, FailsBy, IsUnused, Tended, Tends, Way, lanes_of, way_of}
+use Rattle.serve_door.specs.Doors.{AreSeated, DoorNow, EachLink, FailsBy, HasNewLanes, Tended, Tends, Way, lanes_of, way_of}
 
 each_more : {L : Type 0} (P : L → Type 0) (links : List L) (link : L) → EachLink P links → P link → EachLink P (links ++ link ∷ [])
 each_more P [] link each p = (p, tt)
@@ -17,11 +17,11 @@ module _ {S K R : Type 0} (P : SessionLink S K R → Type 0) (queue : ℕ) where
 
   -- one more session, admitted with its lanes
   pub seated_more : (links : List (SessionLink S K R)) (link : SessionLink S K R) (old new : Admissions)
-      → AreSeated P queue links old → new ≡ admitting (lanes_of queue link) old → IsUnused link → P link
+      → AreSeated P queue links old → new ≡ admitting (lanes_of queue link) old → HasNewLanes link → P link
       → AreSeated P queue (links ++ link ∷ []) new
   seated_more links link old new seated is unused p = record {
     lanes = map-append (lanes_of queue) links (link ∷ []) ∙ ap (λ l. l ++ lanes_of queue link ∷ []) seated.lanes ∙ sym (ap (λ a. a.links) is);
-    unused = each_more IsUnused links link seated.unused unused;
+    unused = each_more HasNewLanes links link seated.unused unused;
     each = each_more P links link seated.each p;
   }
 
@@ -29,7 +29,7 @@ module _ {S K R : Type 0} (P : SessionLink S K R → Type 0) (queue : ℕ) where
       → AreSeated P queue links' new
   same_links links links' old new seated same is = record {
     lanes = ap (map (lanes_of queue)) same ∙ seated.lanes ∙ sym is;
-    unused = subst (EachLink IsUnused) (sym same) seated.unused;
+    unused = subst (EachLink HasNewLanes) (sym same) seated.unused;
     each = subst (EachLink P) (sym same) seated.each;
   }
 

@@ -22,8 +22,8 @@ abbrev pub lanes_of : {S K R : Type 0} → ℕ → SessionLink S K R → Session
 lanes_of queue link = link_of link.items.lane queue link.pieces.lane
 
 -- nothing went through its lanes
-abbrev pub IsUnused : {S K R : Type 0} → SessionLink S K R → Type 0
-IsUnused link = (link.items.got ≡ []) × (link.pieces.put ≡ [])
+abbrev pub HasNewLanes : {S K R : Type 0} → SessionLink S K R → Type 0
+HasNewLanes link = (link.items.got ≡ []) × (link.pieces.put ≡ [])
 
 -- nothing was taken from its source, nor written to its sink
 abbrev pub IsNewLink : {S K R : Type 0} → (S → Option Stream) → (S → ℕ) → (S → ℕ) → (K → Option (List ℕ)) → (K → ℕ) → SessionLink S K R → Type 0
@@ -38,14 +38,14 @@ EachLink P (link ∷ links) = P link × EachLink P links
 -- each link as it came.
 pub record AreSeated {S K R : Type 0} (P : SessionLink S K R → Type 0) (queue : ℕ) (links : List (SessionLink S K R)) (seat : Admissions) : Type 0 where
   pub lanes : map (lanes_of queue) links ≡ seat.links
-  pub unused : EachLink IsUnused links
+  pub unused : EachLink HasNewLanes links
   pub each : EachLink P links
 
 -- The same, without P, for some number of items that an outlet may hold.
 pub record HaveLanes {S K R : Type 0} (links : List (SessionLink S K R)) (seat : Admissions) : Type 0 where
   pub queue : ℕ
   pub lanes : map (lanes_of queue) links ≡ seat.links
-  pub unused : EachLink IsUnused links
+  pub unused : EachLink HasNewLanes links
 
 -- The door's faults do not fall, and it says that the door failed exactly if they rose.
 pub record FailsBy (failed : Bool) (faults faults' : ℕ) : Type 0 where

@@ -1,19 +1,19 @@
 ghost use Rattle.std.specs.Prelude.{◌≡◌, ◌≤◌, [], false};
 ghost use Rattle.std.specs.Vec.{vec_len, vec_capacity};
+ghost use Rattle.gps_fixed.specs.Limits.{most_queue};
 ghost use Rattle.serve_threads.specs.Sessions.{SessionRuns};
 ghost use Rattle.serve_door.specs.Doors.{FailsBy, IsNewLink, Tended, door_now};
 
+use crate::context::DoorContext;
 use crate::doorman::Doorman;
 use crate::due_sinks::DueSinks;
 use crate::seated::Sessions;
 use gps_hub::{DoorSeat, HubNaming};
 use gps_outside::{ClientSink, Door, Source};
 use serve_end_parts::SessionDone;
-use serve_floor::Floor;
-use serve_threads::{Bells, LinkDone};
-use std::alloc::Global;
-use std::sync::{Mutex, Wait};
-use std::thread::{Scope, Threads};
+use serve_threads::LinkDone;
+use std::sync::Wait;
+use std::thread::Threads;
 
 /// What the door worker begins with.
 #[derive(Drop)]
@@ -30,7 +30,7 @@ pub struct DoorBegin<
     pub queue: u32,
     pub sinks: DueSinks<K, J>,
     pub ghost low: { 1 ≤ queue },
-    pub ghost high: { queue ≤ 65536 },
+    pub ghost high: { queue ≤ most_queue },
     pub ghost none: { room.items ≡ [] },
     pub ghost new: { seat.links ≡ [] },
     pub ghost no_drops: { seat.drops ≡ [] },
@@ -67,20 +67,14 @@ pub(crate) fn tend<
     G: Door<In = S, Out = K> + Send + 's,
     J: HubNaming + Send + Sync + 's,
     R: Threads + Wait + Copy + Send + Sync + 's,
->(
-    rt: R,
-    alloc: Global,
-    scope: &'s Scope<'s, E>,
-    floor: &'s Mutex<Floor<J, R>>,
-    bells: &'s Bells,
-    begin: DoorBegin<S, K, G, J, R>,
-) -> DoorDone<S, K, G, J, R>
+>(context: &DoorContext<'s, E, J, R>, begin: DoorBegin<S, K, G, J, R>) -> DoorDone<S, K, G, J, R>
     ensures tended { Tended (IsNewLink S.content S.faults S.quiets K.written K.faults)
         (SessionRuns S.content S.faults S.quiets K.written K.faults) begin.queue (G.links begin.gate)
         (door_now (G.links result.gate) (G.faults result.gate) (G.quiets result.gate) result.seat.drops result.full result.no_memory)
         result.seat result.runs.items }
     ensures fails { FailsBy result.failed (G.faults begin.gate) (G.faults result.gate) }
 {
+    let (rt, alloc) = (context.spawner.rt, context.spawner.alloc);
     let DoorBegin {
         gate,
         seat,
@@ -100,8 +94,8 @@ pub(crate) fn tend<
     };
     let mut to_ask = true;
     'asks: for _ in rt.forever() {
-        let last = bells.door.is_closed();
-        to_ask = doorman.step(rt, alloc, scope, floor, bells, queue, to_ask, last);
+        let last = context.bells.door.is_closed();
+        to_ask = doorman.step(context, queue, to_ask, last);
         if last {
             return doorman.leave(&rt);
         }

@@ -1,15 +1,14 @@
 ghost use Rattle.std.specs.Prelude.{◌≡◌, IfSome};
 
+use crate::context::DoorContext;
 use crate::door::{DoorBegin, DoorDone, tend};
 use gps_hub::HubNaming;
 use gps_outside::{ClientSink, Door, Source};
-use serve_floor::Floor;
-use serve_threads::{Bells, Work, start_if};
-use std::alloc::Global;
+use serve_threads::{Work, start_if};
 use std::marker::PhantomData;
 use std::snapshot::Snapshot;
-use std::sync::{Mutex, Wait};
-use std::thread::{Promise, Scope, Threads};
+use std::sync::Wait;
+use std::thread::{Promise, Threads};
 
 /// The promise of the door worker's thread: what `tend` ensures for this door.
 #[derive(Drop)]
@@ -41,11 +40,7 @@ pub fn start_door<
     J: HubNaming + Send + Sync + 's,
     R: Threads + Wait + Copy + Send + Sync + 's,
 >(
-    rt: R,
-    alloc: Global,
-    scope: &'s Scope<'s, E>,
-    floor: &'s Mutex<Floor<J, R>>,
-    bells: &'s Bells,
+    context: DoorContext<'s, E, J, R>,
     begin: DoorBegin<S, K, G, J, R>,
 ) -> Option<Work<DoorDone<S, K, G, J, R>, Tending<G, J>>>
     ensures gate { IfSome result (λ work. work.gate.value ≡ begin.gate) }
@@ -56,7 +51,6 @@ pub fn start_door<
         queue: begin.queue,
         marker: PhantomData,
     };
-    start_if(scope, promise, move || {
-        tend(rt, alloc, scope, floor, bells, begin)
-    })
+    let scope = context.spawner.scope;
+    start_if(scope, promise, move || tend(&context, begin))
 }

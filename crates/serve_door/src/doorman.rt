@@ -8,12 +8,13 @@ ghost use Rattle.gps_outside.specs.Links.{AsksOf, IsUnread, IsUnwritten};
 ghost use Rattle.serve_pieces.specs.Carried.{input_part};
 ghost use Rattle.serve_workers.specs.Readings.{IsInputPiece};
 ghost use Rattle.serve_workers.specs.Sourced.{FromSource};
-ghost use Rattle.serve_workers.specs.Writing.{MayGoOn};
+ghost use Rattle.serve_workers.specs.Writing.{MayWriteOn};
 ghost use Rattle.serve_threads.specs.Sessions.{SessionRuns};
 ghost use Rattle.serve_floor.specs.Admitting.{DropsOne};
 ghost use Rattle.serve_door.specs.Doors.{AreSeated, Deals, FailsBy, HaveLanes, IsNewLink, Tends, Way, door_now, links_at, tally, way_of};
 
 use crate::attended::Attended;
+use crate::context::DoorContext;
 use crate::door::DoorDone;
 use crate::due_sinks::DueSinks;
 use crate::places::{Places, ThreadBells, make_places};
@@ -24,11 +25,10 @@ use gps_lane::Bell;
 use gps_outside::{ClientSink, Door, DoorStep, Source};
 use serve_end_parts::SessionDone;
 use serve_floor::{Floor, LinkRefusal};
-use serve_threads::{Bells, SessionLink, start_session};
-use std::alloc::Global;
+use serve_threads::{SessionLink, Spawner, start_session};
 use std::snapshot::Snapshot;
 use std::sync::{Mutex, Wait};
-use std::thread::{Scope, Threads};
+use std::thread::Threads;
 use std::time::Duration;
 
 /// How many milliseconds the door worker waits after no link came.
@@ -86,9 +86,7 @@ impl<S: Source, K: ClientSink, G: Door<In = S, Out = K>, J: HubNaming, R: Wait +
     /// Starts the threads of a session that was admitted, and adds it to the lists, which have room.
     fn start<'s, E>(
         &mut self,
-        rt: R,
-        alloc: Global,
-        scope: &'s Scope<'s, E>,
+        spawner: &Spawner<'s, E, R>,
         pump: &'s Bell,
         link: SessionLink<S, K, R>,
         bells: ThreadBells,
@@ -99,7 +97,9 @@ impl<S: Source, K: ClientSink, G: Door<In = S, Out = K>, J: HubNaming, R: Wait +
         R: Threads + Send + Sync + 's,
         requires open { link.pieces.is_open ≡ true }
         requires from { FromSource input_part IsInputPiece link.pieces.about.source link.pieces.put (S.content link.source) }
-        requires goes_on { MayGoOn K.asks K.written K.allows link.sink link.items }
+        requires goes_on { MayWriteOn K.asks K.written K.allows link.sink link.items }
+
+        // Each list has room for it.
         requires seated { vec_len self.old.sessions.seated < vec_capacity self.old.sessions.seated }
         requires live { vec_len self.old.sessions.live < vec_capacity self.old.sessions.live }
         requires runs { vec_len self.old.sessions.seated < vec_capacity self.old.sessions.runs }
@@ -119,7 +119,7 @@ impl<S: Source, K: ClientSink, G: Door<In = S, Out = K>, J: HubNaming, R: Wait +
             writer,
         } = bells;
         let shown = Snapshot::of(&link);
-        let work = start_session(rt, alloc, scope, link, reader, writer, &door, pump);
+        let work = start_session(spawner, link, reader, writer, &door, pump);
         self.sessions.add(Seated {
             attended: Attended::new(shown, work),
             bells: door,
@@ -147,17 +147,7 @@ impl<S: Source, K: ClientSink, G: Door<In = S, Out = K>, J: HubNaming, R: Wait +
 
     /// Admits a session with a link that came, or drops the link.
     #[tactic(auto, using(crate::proofs::Seating::seated_more, crate::proofs::Dropping::seats, crate::proofs::Dropping::dropped_still, crate::proofs::Dropping::deals_dropped))]
-    fn admit<'s, E>(
-        &mut self,
-        rt: R,
-        alloc: Global,
-        scope: &'s Scope<'s, E>,
-        floor: &'s Mutex<Floor<J, R>>,
-        bells: &'s Bells,
-        queue: u32,
-        source: S,
-        sink: K,
-    )
+    fn admit<'s, E>(&mut self, context: &DoorContext<'s, E, J, R>, queue: u32, source: S, sink: K)
     where
         S: Send + 's,
         K: Send + 's,
@@ -182,6 +172,8 @@ impl<S: Source, K: ClientSink, G: Door<In = S, Out = K>, J: HubNaming, R: Wait +
             (map way_of (links_at self.new.sessions.seated.items)) (tally self.old.seat.drops self.old.full self.old.no_memory)
             (tally self.new.seat.drops self.new.full self.new.no_memory) }
     {
+        let (rt, alloc) = (context.spawner.rt, context.spawner.alloc);
+        let (floor, bells) = (context.floor, context.bells);
         self.sinks.show();
         let held = self.sessions.held();
         if self.sessions.is_full() {
@@ -216,7 +208,7 @@ impl<S: Source, K: ClientSink, G: Door<In = S, Out = K>, J: HubNaming, R: Wait +
                     pieces,
                     items,
                 };
-                self.start(rt, alloc, scope, &bells.pump, link, own);
+                self.start(&context.spawner, &bells.pump, link, own);
             }
             Err(LinkRefusal::TooMany) => self.full = self.full.saturating_add(1),
             Err(LinkRefusal::NoMemory) => self.no_memory = true,
@@ -243,15 +235,7 @@ impl<S: Source, K: ClientSink, G: Door<In = S, Out = K>, J: HubNaming, R: Wait +
 
     /// Asks the door once. The threads that ended while it waited are joined before a link is admitted. False if it has closed or failed.
     #[tactic(auto, using(crate::proofs::Seating::same_links, crate::proofs::Released::have_lanes))]
-    fn ask<'s, E>(
-        &mut self,
-        rt: R,
-        alloc: Global,
-        scope: &'s Scope<'s, E>,
-        floor: &'s Mutex<Floor<J, R>>,
-        bells: &'s Bells,
-        queue: u32,
-    ) -> bool
+    fn ask<'s, E>(&mut self, context: &DoorContext<'s, E, J, R>, queue: u32) -> bool
     where
         S: Send + 's,
         K: Send + 's,
@@ -279,10 +263,11 @@ impl<S: Source, K: ClientSink, G: Door<In = S, Out = K>, J: HubNaming, R: Wait +
             self.new.seat.drops self.new.full self.new.no_memory)
             (map way_of (links_at self.new.sessions.seated.items)) self.new.seat.done false }
     {
+        let (rt, floor, bells) = (context.spawner.rt, context.floor, context.bells);
         match self.gate.accept() {
             DoorStep::Link(source, sink) => {
                 self.join_gone(&rt, floor);
-                self.admit(rt, alloc, scope, floor, bells, queue, source, sink);
+                self.admit(context, queue, source, sink);
                 true
             }
             DoorStep::Quiet => {
@@ -305,11 +290,7 @@ impl<S: Source, K: ClientSink, G: Door<In = S, Out = K>, J: HubNaming, R: Wait +
     #[tactic(auto, using(crate::proofs::Seating::fails_more))]
     fn ask_if<'s, E>(
         &mut self,
-        rt: R,
-        alloc: Global,
-        scope: &'s Scope<'s, E>,
-        floor: &'s Mutex<Floor<J, R>>,
-        bells: &'s Bells,
+        context: &DoorContext<'s, E, J, R>,
         queue: u32,
         to_ask: bool,
         last: bool,
@@ -338,10 +319,10 @@ impl<S: Source, K: ClientSink, G: Door<In = S, Out = K>, J: HubNaming, R: Wait +
             (map way_of (links_at self.new.sessions.seated.items)) self.new.seat.done false }
     {
         if to_ask {
-            self.ask(rt, alloc, scope, floor, bells, queue)
+            self.ask(context, queue)
         } else {
             if !last {
-                bells.door.wait(&rt);
+                context.bells.door.wait(&context.spawner.rt);
             }
             false
         }
@@ -369,11 +350,7 @@ impl<S: Source, K: ClientSink, G: Door<In = S, Out = K>, J: HubNaming, R: Wait +
     #[tactic(auto, using(crate::proofs::Released::have_lanes))]
     pub(crate) fn step<'s, E>(
         &mut self,
-        rt: R,
-        alloc: Global,
-        scope: &'s Scope<'s, E>,
-        floor: &'s Mutex<Floor<J, R>>,
-        bells: &'s Bells,
+        context: &DoorContext<'s, E, J, R>,
         queue: u32,
         to_ask: bool,
         last: bool,
@@ -401,8 +378,8 @@ impl<S: Source, K: ClientSink, G: Door<In = S, Out = K>, J: HubNaming, R: Wait +
             self.new.seat.drops self.new.full self.new.no_memory)
             (map way_of (links_at self.new.sessions.seated.items)) self.new.seat.done false }
     {
-        let to_ask = self.ask_if(rt, alloc, scope, floor, bells, queue, to_ask, last);
-        self.join_gone(&rt, floor);
+        let to_ask = self.ask_if(context, queue, to_ask, last);
+        self.join_gone(&context.spawner.rt, context.floor);
         to_ask
     }
 

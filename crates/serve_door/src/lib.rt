@@ -3,6 +3,7 @@
 #![tactic(auto)]
 
 mod attended;
+mod context;
 mod door;
 mod door_thread;
 mod doorman;
@@ -11,6 +12,7 @@ mod places;
 mod release;
 mod seated;
 
+pub use context::DoorContext;
 pub use door::{DoorBegin, DoorDone};
 pub use door_thread::{Tending, start_door};
 pub use due_sinks::DueSinks;

@@ -58,6 +58,8 @@ fn lane_of<T: Due + Drop, K, R: Wait + Copy, E: About>(
 ) -> Result<(Tx<T, R>, Rx<T, R>), NoMemory>
     requires low { 1 ≤ cap }
     requires high { cap ≤ most_queue }
+
+    // A new lane with this room, about what was picked.
     ensures cap { IfOk result (λ ends. ends.0.cap ≡ cap) }
     ensures nothing { IfOk result (λ ends. (ends.0.put ≡ []) × (ends.1.got ≡ [])) }
     ensures open { IfOk result (λ ends. ends.0.is_open ≡ true) }
@@ -76,6 +78,8 @@ fn item_lane<K: ClientSink, J: HubNaming, R: Wait + Copy>(
 ) -> Result<(Tx<Item, R>, Rx<Item, R>), NoMemory>
     requires low { 1 ≤ queue }
     requires high { queue ≤ most_queue }
+
+    // A new lane with this room, about this client.
     ensures cap { IfOk result (λ ends. ends.0.cap ≡ queue) }
     ensures nothing { IfOk result (λ ends. (ends.0.put ≡ []) × (ends.1.got ≡ [])) }
     ensures open { IfOk result (λ ends. ends.0.is_open ≡ true) }

@@ -1,6 +1,6 @@
 ghost use Rattle.std.specs.Prelude.{◌≡◌, ◌<◌, ◌++◌, [], length, get_or, None, option_map};
 ghost use Rattle.std.specs.Option.{option_to_list};
-ghost use Rattle.gps_outside.specs.Writes.{AllowsAll};
+ghost use Rattle.gps_outside.specs.Writes.{AllowsInParts};
 ghost use Rattle.hub_door.specs.Admissions.{SessionLanes};
 ghost use Rattle.hub_promise.specs.Given.{TellsOnce};
 ghost use Rattle.serve_threads.specs.declared.session.SessionLink.{SessionLink};
@@ -94,7 +94,7 @@ fn next_item<J: HubNaming, R: Wait + Copy>(
 /// Writes an item, unless the sink had failed.
 #[tactic(auto, using(crate::proofs::Released::item_written, crate::proofs::Released::item_cut, crate::proofs::Released::item_skipped))]
 fn write_item<K: ClientSink>(end: WriterEnd, sink: &mut K, item: Item) -> WriterEnd
-    requires allowed { end ≡ WriterEnd.Drained → AllowsAll K.asks K.written K.allows sink.old item }
+    requires allowed { end ≡ WriterEnd.Drained → AllowsInParts K.asks K.written K.allows sink.old item }
     ensures client { K.asks sink.new ≡ K.asks sink.old }
     ensures all { result ≡ WriterEnd.Drained → (end ≡ WriterEnd.Drained) × (K.written sink.new ≡ option_map (λ bytes. bytes ++ item) (K.written sink.old)) }
     ensures item { WritesItem item end result (K.written sink.old) (K.written sink.new) (K.faults sink.old) (K.faults sink.new) }

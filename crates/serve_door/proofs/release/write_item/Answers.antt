@@ -1,11 +1,11 @@
 use Rattle.std.proofs.Common.{◌≡◌, List, ℕ, ◌++◌, option_map, sym, subst}
-use Rattle.gps_outside.specs.Writes.{AllowsAll}
+use Rattle.gps_outside.specs.Writes.{AllowsInParts}
 use Rattle.gps_outside.proofs.Writing.{appended}
 use Rattle.serve_door.proofs.release.write_item.Goals as goal
 
 pub send_all-requires : goal.send_all-requires
 send_all-requires g c = record {
-  allowed = subst (λ l. AllowsAll g.K.ClientSink.asks g.K.ClientSink.written g.K.ClientSink.allows c.args.sink.now l) (sym c.bytes.ensures)
+  allowed = subst (λ l. AllowsInParts g.K.ClientSink.asks g.K.ClientSink.written g.K.ClientSink.allows c.args.sink.now l) (sym c.bytes.ensures)
       (c.requires.allowed c.in-Drained.is);
 }
 

@@ -1,11 +1,12 @@
 -- The stamps that a clock may give, if the world tells them.
-use Rattle.std.proofs.Common.{◌≡◌, ◌<◌, ◌⊎◌, inl, inr, ℕ, Bool, true, List, [], ◌∷◌, length, map, Option, Some, None, IfSome, refl, ap, subst, sym, ◌∙◌}
+use Rattle.std.proofs.Common.{◌≡◌, ◌<◌, ◌⊎◌, inl, inr, ℕ, Bool, true, false, List, [], ◌∷◌, length, map, Option, Some, None, IfSome, refl, ap, subst, sym, ◌∙◌}
 use Rattle.std.specs.List.{AllZip}
 use Rattle.gps_fixed.specs.Moment.{Moment}
 use Rattle.gps_lane.specs.Ends.{Putting}
 use Rattle.gps_outside.specs.Ticks.{Dial}
 use Rattle.gps_outside.specs.Told.{Stream}
 use Rattle.gps_world.specs.Opening.{Tells}
+use Rattle.hub_door.specs.Admissions.{LinkDrop}
 use Rattle.hub_promise.specs.Parts.{InletsView, terms_of}
 use Rattle.report_book.specs.BookView.{BookView}
 use Rattle.world_opening.specs.Opening.{dial_of}
@@ -21,7 +22,7 @@ use Rattle.serve_workers.specs.Readings.{Each, HandsOn, IsDevicePiece}
 use Rattle.gps_serve.specs.AtEnd.{AtEnd, DaemonSettings, HandedBack, ShowsOutOfMemory, settings_in, settings_of, start_with}
 use Rattle.gps_serve.specs.Facts.{WorldFacts}
 use Rattle.gps_serve.specs.Served.{DeviceServed, ReaderServed}
-use Rattle.serve_door.specs.Doors.{NoneLeft, Way}
+use Rattle.serve_door.specs.Doors.{NoneLeft, Tends, Way, door_now}
 use Rattle.gps_serve.proofs.Stamps.{stamps_untold}
 
 untold_pieces : (may : Option (List Moment)) (pieces : List Piece) → Each (IsDevicePiece may) pieces → Each (IsDevicePiece None) pieces
@@ -103,6 +104,27 @@ module _ {G S K R : Type 0} (told : DaemonSettings) (facts : WorldFacts G S K) (
   untold_asked links taken g was =
       elim was [ inl some ↦ inl some | inr (inl quiet) ↦ inr (inl quiet) | inr (inr (inl fault)) ↦ inr (inr (inl fault)) | inr (inr (inr none)) ↦ inr (inr (inr tt)) ]
 
+  untold_tends : (links : Option (List (Way S K))) (g : G) (drops : List LinkDrop) (full : ℕ) (out_of_memory : Bool) (served : List (Way S K)) (done : Bool)
+      → Tends links (door_now (facts.gates.links g) (facts.gates.faults g) (facts.gates.quiets g) drops full out_of_memory) served done false
+      → Tends None (door_now (facts.gates.links g) (facts.gates.faults g) (facts.gates.quiets g) drops full out_of_memory) served done false
+  untold_tends links g drops full out_of_memory served done tends =
+      let takes = tends.takes in
+      record {
+        taken = tends.taken;
+        takes = record {
+          passed = tt;
+          few = takes.few;
+          uncounted = takes.uncounted;
+          count = takes.count;
+          full = takes.full;
+          dealt = takes.dealt;
+          each = takes.each;
+          order = takes.order;
+        };
+        asked = elim tends.asked [ inl never ↦ inl never | inr was ↦ inr (untold_asked links tends.taken g was) ];
+        closed = λ (e : done ≡ true). elim (tends.closed e) [ inl none ↦ inl tt | inr fault ↦ inr fault ];
+      }
+
   untold_short : (links left : Option (List (Way S K))) → ShowsOutOfMemory links left back b → ShowsOutOfMemory None left back b
   untold_short links left short = elim short [
     | inl device ↦ inl device
@@ -135,20 +157,12 @@ module _ {G S K R : Type 0} (told : DaemonSettings) (facts : WorldFacts G S K) (
     gate = at.gate;
     gate_is = at.gate_is;
     door = record {
-      taken = at.door.taken;
-      passed = tt;
-      count = at.door.count;
-      few = at.door.few;
-      none_early = at.door.none_early;
       drops = at.door.drops;
-      counted = at.door.counted;
-      dealt = at.door.dealt;
+      out_of_memory = at.door.out_of_memory;
       served = at.door.served;
-      order = at.door.order;
+      tends = untold_tends links at.gate at.door.drops back.full at.door.out_of_memory at.door.served at.done at.door.tends;
       links_are = at.door.links_are;
-      each = at.door.each;
-      asked = untold_asked links at.door.taken at.gate at.door.asked;
-      closed = λ (e : at.done ≡ true). elim (at.door.closed e) [ inl none ↦ inl tt | inr fault ↦ inr fault ];
+      has_memory = at.door.has_memory;
     };
     short = λ (e : back.no_memory ≡ true). untold_short links (facts.gates.links at.gate) (at.short e);
   }

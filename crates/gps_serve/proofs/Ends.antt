@@ -27,7 +27,7 @@ use Rattle.gps_serve.specs.declared.starts.DeviceStart.{DeviceStart}
 use Rattle.serve_threads.specs.declared.session.SessionLink.{SessionLink}
 use Rattle.gps_serve.specs.AtEnd.{AtEnd, HandedBack, ShowsOutOfMemory, settings_of, start_with}
 use Rattle.gps_serve.specs.Facts.{WorldFacts}
-use Rattle.gps_serve.specs.Served.{DeviceServed, GateServed, MonitorServed, watched_units}
+use Rattle.gps_serve.specs.Served.{DeviceServed, GateServed, MonitorServed, monitored}
 use Rattle.serve_door.specs.Doors.{Way, lanes_of}
 use Rattle.gps_serve.specs.Readies.{AllServed, MonitorReady}
 use Rattle.gps_serve.specs.Runs.{DeviceReady, DevicesRan, RanOn}
@@ -37,7 +37,7 @@ use Rattle.serve_floor.specs.Bursts.{HasStopped}
 use Rattle.gps_serve.specs.Statuses.{AllEnded, EachWhole}
 use Rattle.serve_floor.specs.Bursts.{AreAtRest}
 use Rattle.gps_serve.specs.Units.{CountFromZero}
-use Rattle.gps_serve.specs.Works.{WatchedBy, MonitorsRan, monitored}
+use Rattle.gps_serve.specs.Works.{WatchedBy, MonitorsRan}
 use Rattle.gps_serve.proofs.Devices.{devices_ready}
 use Rattle.gps_serve.proofs.Gates.{each_end, of_queue}
 use Rattle.gps_serve.proofs.Resting.{all_served}
@@ -54,10 +54,10 @@ units_few b holds = let u = holds.units in let n = holds.count in omega arith
 
 pub monitors_by : (tries : ℕ) (no_memory : Bool) (terms : Terms) (b b' : BookView) (inlets : List InletsView) (watched : List ReadingsDone)
     → terms_of b inlets terms.wait ≡ terms → MonitorsRan tries terms.segments watched → (no_memory ≡ false → EachWhole watched) → b' ≡ b
-    → AllZip (MonitorReady tries no_memory) (watched_units tries b'.units) watched
+    → AllZip (MonitorReady tries no_memory) (monitored tries b'.units) watched
 monitors_by tries no_memory terms b b' inlets watched same ran whole is =
     let segments = ran.segments_are ∙ ap (monitored tries) (sym (ap (λ (t : Terms). t.segments) same)) in
-    subst (λ (x : BookView). AllZip (MonitorReady tries no_memory) (watched_units tries x.units) watched) (sym is)
+    subst (λ (x : BookView). AllZip (MonitorReady tries no_memory) (monitored tries x.units) watched) (sym is)
     (monitors_ready tries no_memory b.units ran.monitor_starts watched segments ran.by whole)
 
 pub all_ended_by : {S R : Type 0} (devices : List (DeviceDone S R)) (ends : List (Option DeviceEnd)) → map (λ (d : DeviceDone S R). d.end) devices ≡ ends
@@ -102,7 +102,7 @@ pub at_end_of : {G S K R : Type 0} (terms : Terms) (queue tries : ℕ) (may : Op
     → All IsUnit b.units → AreAtRest (length terms.segments) b.units → CountFromZero terms.segments → All IsClosed b.sessions → All HasStopped ends
     → AllZip (DeviceServed may facts.sources) inlets back.devices → map (λ (d : DeviceDone S R). d.end) back.devices ≡ ends
     → b' ≡ b → AllServed facts.sources facts.sinks b.sessions inputs back.sessions
-    → b'' ≡ b' → AllZip (MonitorServed tries no_memory) (watched_units tries b'.units) back.monitors
+    → b'' ≡ b' → AllZip (MonitorServed tries no_memory) (monitored tries b'.units) back.monitors
     → map (λ (m : MonitorDone). m.unit) back.monitors ≡ range_with_len 0 (length back.monitors) → (back.no_memory ≡ false → no_memory ≡ false)
     → back.gate ≡ Some gate → GateServed facts links back.full back.no_memory seat.done back.sessions gate
     → (back.no_memory ≡ true → ShowsOutOfMemory links (facts.gates.links gate) back b)
@@ -131,8 +131,8 @@ at_end_of {G} {S} {K} {R} terms queue tries may clock links facts back no_memory
           (let count : length terms.segments ≡ length b.units = ap length (sym segments) ∙ segments_of_units b.units in omega (arith, count))
           (subst CountFromZero (sym segments) zeros);
       monitor_numbers = numbers;
-      monitors_are = served_still tries no_memory back.no_memory (watched_units tries b.units) back.monitors so
-          (subst (λ (x : BookView). AllZip (MonitorServed tries no_memory) (watched_units tries x.units) back.monitors) is monitors_are);
+      monitors_are = served_still tries no_memory back.no_memory (monitored tries b.units) back.monitors so
+          (subst (λ (x : BookView). AllZip (MonitorServed tries no_memory) (monitored tries x.units) back.monitors) is monitors_are);
       gate = gate;
       gate_is = gate_is;
       door = door;

@@ -1,10 +1,9 @@
 -- What is left of the door, and what it says of the sessions.
-use Rattle.std.proofs.Common.{◌≡◌, ◌<◌, ◌≤◌, ◌+◌, ◌-◌, ◌^◌, inl, inr, ℕ, Bool, true, false, zero, suc, List, [], ◌∷◌, map, length, min, get_or, Option, Some, None, is_some, refl, sym, ◌∙◌, ap, subst, arith}
+use Rattle.std.proofs.Common.{◌≡◌, ◌<◌, ◌-◌, ◌^◌, ℕ, Bool, true, false, zero, suc, List, [], ◌∷◌, map, length, min, get_or, Option, refl, sym, ◌∙◌, ap, subst, arith}
 use Rattle.std.specs.List.{All, AllZip}
 use Rattle.book_sessions.specs.MemberView.{MemberView}
 use Rattle.gps_lane.specs.Ends.{Taking}
-use Rattle.book_sessions.specs.Roster.{most_live}
-use Rattle.hub_door.specs.Admissions.{Admissions, LinkDrop, SessionLanes}
+use Rattle.hub_door.specs.Admissions.{Admissions, SessionLanes}
 use Rattle.hub_promise.specs.declared.ends.DeviceEnd.{DeviceEnd}
 use Rattle.hub_promise.specs.Parts.{AreAdmitted}
 use Rattle.report_book.specs.BookView.{BookView}
@@ -16,8 +15,8 @@ use Rattle.serve_threads.specs.declared.session.LinkDone.{LinkDone}
 use Rattle.serve_threads.specs.Sessions.{SessionRuns}
 use Rattle.gps_serve.specs.AtEnd.{HaveQueue}
 use Rattle.gps_serve.specs.Facts.{WorldFacts}
-use Rattle.gps_serve.specs.Served.{GateServed, ServesLink}
-use Rattle.serve_door.specs.Doors.{Dealt, DoorNow, IsNewLink, Tended, Way, door_now, lanes_of, way_of}
+use Rattle.gps_serve.specs.Served.{GateServed}
+use Rattle.serve_door.specs.Doors.{IsNewLink, Tended, Way, door_now, lanes_of, way_of}
 use Rattle.gps_serve.specs.Lost.{IsNotClosedOutOfMemory, IsNotLostOutOfMemory, LinkIsUncounted, NoneLost}
 use Rattle.gps_serve.specs.Readies.{IsLeftOfLink}
 use Rattle.gps_serve.proofs.Devices.{zip_length}
@@ -27,16 +26,6 @@ map_length : {A B : Type 0} (f : A → B) (xs : List A) → length (map f xs) �
 map_length f [] = refl
 map_length f (x ∷ xs) = let same = map_length f xs in omega (arith, same)
 
--- before 64 sessions were admitted no link is dropped for a bound
-none_dropped : {X : Type 0} (admitted : ℕ) (taken sessions : List X) (drops : List LinkDrop) → admitted + length sessions < most_live → Dealt admitted taken sessions drops
-    → length drops ≡ 0
-none_dropped admitted [] sessions drops few dealt = ap length dealt.1
-none_dropped admitted (way ∷ taken) sessions drops few dealt = elim dealt [
-  | inl seated ↦ let n = ap length seated.1 in none_dropped (suc admitted) taken seated.0 drops (omega (arith, few, n)) seated.2
-  | inr (inl dropped) ↦ let some = dropped.3.some in absurd (omega (arith, few, some))
-  | inr (inr was_out_of_memory) ↦ none_dropped admitted taken sessions drops few was_out_of_memory
-]
-
 pub gate_served : {G S K R : Type 0} (facts : WorldFacts G S K) (queue : ℕ) (told : Option (List (Way S K))) (gate : G) (full : ℕ)
     (no_memory is_out_of_memory : Bool) (seat : Admissions) (runs : List (LinkDone S K R)) (sessions : List (SessionDone S K R))
     → Tended (IsNewLink facts.sources.content facts.sources.faults facts.sources.quiets facts.sinks.written facts.sinks.faults)
@@ -44,35 +33,14 @@ pub gate_served : {G S K R : Type 0} (facts : WorldFacts G S K) (queue : ℕ) (t
     (door_now (facts.gates.links gate) (facts.gates.faults gate) (facts.gates.quiets gate) seat.drops full no_memory) seat runs
     → AllZip (IsLeftOfLink facts.sources facts.sinks) runs sessions → (is_out_of_memory ≡ false → no_memory ≡ false)
     → GateServed facts told full is_out_of_memory seat.done sessions gate
-gate_served {G} {S} {K} {R} facts queue told gate full no_memory is_out_of_memory seat runs sessions tended are so =
-    let sources = facts.sources in
-    let sinks = facts.sinks in
-    let ran = zip_length (SessionRuns sources.content sources.faults sources.quiets sinks.written sinks.faults) tended.links runs tended.ran in
-    let left = zip_length (IsLeftOfLink sources sinks) runs sessions are in
-    let ways = map_length way_of tended.links in
-    let same : length (map way_of tended.links) ≡ length sessions = omega (arith, ran, left, ways) in
-    let takes = tended.tends.takes in
-    let full_is : full ≡ min (length seat.drops) (2 ^ 64 - 1) = takes.full in
-    let served = links_served sources sinks tended.links runs sessions tended.seated.unused tended.seated.each tended.ran are in
-    record {
-      taken = tended.tends.taken;
-      passed = takes.passed;
-      few = let few = takes.few in omega (arith, few, full_is, same);
-      count = λ (e : is_out_of_memory ≡ false) (f : full < 2 ^ 64 - 1). let all = takes.count (so e) in omega (arith, all, full_is, same, f);
-      none_early = λ (f : length sessions < most_live).
-          let none = none_dropped 0 tended.tends.taken (map way_of tended.links) seat.drops (omega (arith, same, f)) takes.dealt in
-          omega (arith, none, full_is);
-      drops = seat.drops;
-      counted = full_is;
-      served = map way_of tended.links;
-      order = takes.order;
-      dealt = takes.dealt;
-      links_are = served;
-      each = λ (e : length tended.tends.taken ≡ length sessions).
-          subst (λ (l : List (Way S K)). AllZip (ServesLink sources sinks) l sessions) (takes.each (e ∙ sym same)) served;
-      asked = elim tended.tends.asked [ inl never ↦ absurd (cc never) | inr was ↦ was ];
-      closed = tended.tends.closed;
-    }
+gate_served facts queue told gate full no_memory is_out_of_memory seat runs sessions tended are so = record {
+  drops = seat.drops;
+  out_of_memory = no_memory;
+  served = map way_of tended.links;
+  tends = tended.tends;
+  links_are = links_served facts.sources facts.sinks tended.links runs sessions tended.seated.unused tended.seated.each tended.ran are;
+  has_memory = so;
+}
 
 -- the door was out of memory as a link was dropped
 pub link_uncounted : {G S K R : Type 0} (facts : WorldFacts G S K) (queue : ℕ) (told : Option (List (Way S K))) (gate : G) (full : ℕ) (no_memory : Bool) (seat : Admissions)

@@ -19,10 +19,10 @@ use Rattle.shm_segment.specs.declared.view.Load.{Load}
 use Rattle.shm_segment.specs.declared.view.Numbered.{Numbered}
 use Rattle.shm_segment.specs.Seats.{SegmentId}
 use Rattle.gps_serve.specs.Lost.{MissesSample}
-use Rattle.gps_serve.specs.Served.{MonitorServed, watched_units}
+use Rattle.gps_serve.specs.Served.{MonitorServed, monitored}
 use Rattle.gps_serve.specs.Readies.{IsLeftOfWatch, MonitorReady, MonitorsSoFar}
 use Rattle.gps_serve.specs.Statuses.{EachWhole}
-use Rattle.gps_serve.specs.Works.{WatchedBy, monitored}
+use Rattle.gps_serve.specs.Works.{WatchedBy}
 use Rattle.gps_serve.proofs.Devices.{zip_length}
 use Rattle.gps_serve.proofs.Lost.{one_false}
 use Rattle.gps_serve.proofs.Sessions.{range_more}
@@ -69,14 +69,14 @@ segments_if : (none : Bool) (units : List UnitView) → (if none then [] else ma
 segments_if true units = refl
 segments_if false units = refl
 
-units_if : (tries : ℕ) (units : List UnitView) → monitored tries (map segment_of units) ≡ map segment_of (watched_units tries units)
+units_if : (tries : ℕ) (units : List UnitView) → monitored tries (map segment_of units) ≡ map segment_of (monitored tries units)
 units_if tries units = segments_if (tries == 0) units
 
 pub monitors_ready : (tries : ℕ) (no_memory : Bool) (units : List UnitView) (monitor_starts : List MonitorStart) (watched : List ReadingsDone)
     → segments_of monitor_starts ≡ monitored tries (map segment_of units) → AllZip (WatchedBy tries) monitor_starts watched → (no_memory ≡ false → EachWhole watched)
-    → AllZip (MonitorReady tries no_memory) (watched_units tries units) watched
+    → AllZip (MonitorReady tries no_memory) (monitored tries units) watched
 monitors_ready tries no_memory units monitor_starts watched segments by whole =
-    ready_of tries no_memory (watched_units tries units) monitor_starts watched (segments ∙ units_if tries units) by whole
+    ready_of tries no_memory (monitored tries units) monitor_starts watched (segments ∙ units_if tries units) by whole
 
 pub monitor_served : (tries : ℕ) (no_memory : Bool) (u : UnitView) (watch : ReadingsDone) (done : MonitorDone) → MonitorReady tries no_memory u watch
     → done.taken ≡ watch.taken → Confirms u watch.monitor done.monitor done.taken.items → MonitorServed tries no_memory u done
@@ -201,11 +201,11 @@ some_units : (none : Bool) (units : List UnitView) → length (if none then [] e
 some_units true units = omega arith
 some_units false units = omega arith
 
-pub monitors_count : (tries : ℕ) (no_memory : Bool) (units : List UnitView) (watched : List ReadingsDone) → AllZip (MonitorReady tries no_memory) (watched_units tries units) watched
-    → length watched ≡ length (watched_units tries units)
-monitors_count tries no_memory units watched ready = sym (zip_length (MonitorReady tries no_memory) (watched_units tries units) watched ready)
+pub monitors_count : (tries : ℕ) (no_memory : Bool) (units : List UnitView) (watched : List ReadingsDone) → AllZip (MonitorReady tries no_memory) (monitored tries units) watched
+    → length watched ≡ length (monitored tries units)
+monitors_count tries no_memory units watched ready = sym (zip_length (MonitorReady tries no_memory) (monitored tries units) watched ready)
 
-pub few_monitors : (tries : ℕ) (no_memory : Bool) (units : List UnitView) (watched : List ReadingsDone) → AllZip (MonitorReady tries no_memory) (watched_units tries units) watched
+pub few_monitors : (tries : ℕ) (no_memory : Bool) (units : List UnitView) (watched : List ReadingsDone) → AllZip (MonitorReady tries no_memory) (monitored tries units) watched
     → length watched ≤ length units
 few_monitors tries no_memory units watched ready =
     let same = monitors_count tries no_memory units watched ready in
@@ -235,10 +235,10 @@ next_if false tries no_memory units unit watch next = next
 
 -- the monitor of the next unit, which was taken
 pub next_monitor : (tries : ℕ) (no_memory : Bool) (units : List UnitView) (watched watched' : List ReadingsDone) (watch : ReadingsDone) (unit : ℕ) (done : List MonitorDone)
-    → MonitorsSoFar tries no_memory (watched_units tries units) watched unit done → watched ≡ watch ∷ watched' → IsNextMonitor tries no_memory units unit watch
+    → MonitorsSoFar tries no_memory (monitored tries units) watched unit done → watched ≡ watch ∷ watched' → IsNextMonitor tries no_memory units unit watch
 next_monitor tries no_memory units watched watched' watch unit done so are =
     next_if (tries == 0) tries no_memory units unit watch
-    (is_next tries no_memory (watched_units tries units) watch watched' unit done (subst (λ l. MonitorsSoFar tries no_memory (watched_units tries units) l unit done) are so))
+    (is_next tries no_memory (monitored tries units) watch watched' unit done (subst (λ l. MonitorsSoFar tries no_memory (monitored tries units) l unit done) are so))
 
 at_if : (none : Bool) (units : List UnitView) (unit : ℕ) (free : UnitView) → unit < length (if none then [] else units)
     → get_or units unit free ≡ get_or (if none then [] else units) unit free
@@ -247,22 +247,22 @@ at_if false units unit free there = refl
 
 -- and what is left of it
 pub next_served : (tries : ℕ) (no_memory : Bool) (units : List UnitView) (watched watched' : List ReadingsDone) (watch : ReadingsDone) (unit : ℕ) (done done' : List MonitorDone) (monitor : MonitorDone)
-    → MonitorsSoFar tries no_memory (watched_units tries units) watched unit done → watched ≡ watch ∷ watched'
+    → MonitorsSoFar tries no_memory (monitored tries units) watched unit done → watched ≡ watch ∷ watched'
     → ((free : UnitView) → MonitorServed tries no_memory (get_or units unit free) monitor) → done' ≡ done ++ monitor ∷ []
-    → MonitorsSoFar tries no_memory (watched_units tries units) watched' (unit + 1) done'
+    → MonitorsSoFar tries no_memory (monitored tries units) watched' (unit + 1) done'
 next_served tries no_memory units watched watched' watch unit done done' monitor so are served more =
-    let here : MonitorsSoFar tries no_memory (watched_units tries units) (watch ∷ watched') unit done =
-    subst (λ l. MonitorsSoFar tries no_memory (watched_units tries units) l unit done) are so in
-    let next = is_next tries no_memory (watched_units tries units) watch watched' unit done here in
-    subst (MonitorsSoFar tries no_memory (watched_units tries units) watched' (unit + 1)) (sym more)
-    (monitors_more tries no_memory (watched_units tries units) watch watched' unit done monitor here
+    let here : MonitorsSoFar tries no_memory (monitored tries units) (watch ∷ watched') unit done =
+    subst (λ l. MonitorsSoFar tries no_memory (monitored tries units) l unit done) are so in
+    let next = is_next tries no_memory (monitored tries units) watch watched' unit done here in
+    subst (MonitorsSoFar tries no_memory (monitored tries units) watched' (unit + 1)) (sym more)
+    (monitors_more tries no_memory (monitored tries units) watch watched' unit done monitor here
     (λ free. subst (λ v. MonitorServed tries no_memory v monitor) (at_if (tries == 0) units unit free next.there) (served free)))
 
 -- the same of a book that did not change
 pub same_book : (tries : ℕ) (no_memory : Bool) (b b' : BookView) (watched : List ReadingsDone) (unit : ℕ) (done : List MonitorDone) → b' ≡ b
-    → MonitorsSoFar tries no_memory (watched_units tries b.units) watched unit done → MonitorsSoFar tries no_memory (watched_units tries b'.units) watched unit done
+    → MonitorsSoFar tries no_memory (monitored tries b.units) watched unit done → MonitorsSoFar tries no_memory (monitored tries b'.units) watched unit done
 same_book tries no_memory b b' watched unit done same so =
-    subst (λ (c : BookView). MonitorsSoFar tries no_memory (watched_units tries c.units) watched unit done) (sym same) so
+    subst (λ (c : BookView). MonitorsSoFar tries no_memory (monitored tries c.units) watched unit done) (sym same) so
 
 -- the monitors have the numbers of their units
 pub numbers_more : (done done' : List MonitorDone) (monitor : MonitorDone) (unit : ℕ) → map (λ (m : MonitorDone). m.unit) done ≡ range_with_len 0 unit → monitor.unit ≡ unit

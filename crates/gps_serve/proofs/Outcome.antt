@@ -15,10 +15,10 @@ use Rattle.world_opening.specs.Opening.{OpeningHasCause, world_faults}
 use Rattle.gps_serve.specs.declared.daemon_end.DaemonEnd.{DaemonEnd}
 use Rattle.gps_serve.specs.declared.status.DaemonOutcome.{DaemonOutcome}
 use Rattle.gps_serve.specs.AtEnd.{back_with}
-use Rattle.gps_serve.specs.HandingBack.{EndHasCause, lacks_by}
+use Rattle.gps_serve.specs.HandingBack.{EndHasCause, out_of_memory_by}
 use Rattle.gps_serve.specs.Lost.{NoneLost, ReadersHadMemory}
 use Rattle.gps_serve.specs.Outcome.{OutcomeHasCause, status_of}
-use Rattle.gps_serve.specs.Statuses.{AllEnded, TellsNoFault, WasLostByFault, lacks_memory, outcome_status}
+use Rattle.gps_serve.specs.Statuses.{AllEnded, TellsNoFault, WasLostByFault, daemon_out_of_memory, outcome_status}
 use Rattle.gps_serve.proofs.Causes.{no_gate}
 use Rattle.gps_serve.proofs.First.{no_devices, none_tell}
 use Rattle.gps_serve.proofs.HadMemory.{none_read}
@@ -117,14 +117,14 @@ not_zero Input status is e = let three : status ≡ 3 = is in omega (arith, thre
 not_zero Listen status is e = let eight : status ≡ 8 = is in omega (arith, eight, e)
 not_zero NoMemory status is e = let seven : status ≡ 7 = is in omega (arith, seven, e)
 
-seven_of : (stop : Stop) (status : ℕ) → status ≡ status_of stop → status ≡ 7 → lacks_by stop ≡ true
+seven_of : (stop : Stop) (status : ℕ) → status ≡ status_of stop → status ≡ 7 → out_of_memory_by stop ≡ true
 seven_of Input status is e = let three : status ≡ 3 = is in absurd (omega (arith, three, e))
 seven_of Listen status is e = let eight : status ≡ 8 = is in absurd (omega (arith, eight, e))
 seven_of NoMemory status is e = refl
 
 -- Nothing was served, for this.
 pub stopped_has_cause : {W R S K C G : Type 0} (faults : S → ℕ) (gate_faults : G → ℕ) (A B : Type 0) (stop : Stop) (served : Served W R S K C G) → served.book ≡ None
-    → served.devices.items ≡ [] → served.sessions.items ≡ [] → served.gate ≡ None → served.status ≡ status_of stop → served.no_memory ≡ lacks_by stop
+    → served.devices.items ≡ [] → served.sessions.items ≡ [] → served.gate ≡ None → served.status ≡ status_of stop → served.no_memory ≡ out_of_memory_by stop
     → (stop ≡ Input → A) → (stop ≡ Listen → B) → OutcomeHasCause faults gate_faults A B served
 stopped_has_cause faults gate_faults A B stop served book devices sessions gate status no_memory opens hears =
     nothing_served faults gate_faults A B served book devices sessions gate
@@ -186,16 +186,16 @@ range_by false false true status is = inr (inr (inl is))
 range_by false false false status is = inl is
 
 pub outcome_range : (o : DaemonOutcome) (status : ℕ) → status ≡ outcome_status o → (status ≡ 0) ⊎ (status ≡ 3) ⊎ (status ≡ 7) ⊎ (status ≡ 8)
-outcome_range o status is = range_by o.read_fault o.door_fault (lacks_memory o) status is
+outcome_range o status is = range_by o.read_fault o.door_fault (daemon_out_of_memory o) status is
 
 -- The status of a daemon that served has its cause.
 pub end_has_cause : {W R S K C G : Type 0} (faults : S → ℕ) (gate_faults : G → ℕ) (A B : Type 0) (end : DaemonEnd S K G R) (served : Served W R S K C G)
-    → EndHasCause faults gate_faults end → served.status ≡ outcome_status end.outcome → served.no_memory ≡ lacks_memory end.outcome
+    → EndHasCause faults gate_faults end → served.status ≡ outcome_status end.outcome → served.no_memory ≡ daemon_out_of_memory end.outcome
     → served.book ≡ Some end.book → served.gate ≡ Some end.gate → served.devices.items ≡ end.devices.items → served.sessions.items ≡ end.sessions.items
     → OutcomeHasCause faults gate_faults A B served
 end_has_cause {W} {R} {S} {K} {C} {G} faults gate_faults A B end served cause status no_memory book gate devices sessions =
     let o = end.outcome in
-    let lacks = lacks_memory o in
+    let lacks = daemon_out_of_memory o in
     record {
       three = λ e. inl (subst (AnyOf (DeviceFailed faults)) (sym devices) (cause.read (read_by o.read_fault o.door_fault lacks (sym status ∙ e))));
       met = λ some. status ∙ three_by o.read_fault o.door_fault lacks cause.met (subst (AnyOf (DeviceFailed faults)) devices some);

@@ -25,7 +25,7 @@ use Rattle.serve_workers.specs.Writing.{Writes}
 use Rattle.session_core.specs.Naming.{table_of}
 use Rattle.gps_serve.specs.Facts.{SinkFacts}
 use Rattle.gps_serve.specs.Served.{IsOneLane, OutletServed}
-use Rattle.serve_door.specs.Doors.{DoorNow, EachLink, IsNewLink, IsUnused, Tended, Way, lanes_of}
+use Rattle.serve_door.specs.Doors.{DoorNow, EachLink, IsNewLink, HasNewLanes, Tended, Way, lanes_of}
 use Rattle.gps_serve.specs.Readies.{AllServed, AreReady, InputLeft, SessionReady, SessionsSoFar}
 use Rattle.serve_end_settling.specs.Runs.{SourceFacts}
 use Rattle.serve_threads.proofs.Zips.{zip_more}
@@ -40,7 +40,7 @@ module _ {S K R : Type 0} (sources : SourceFacts S) (sinks : SinkFacts K) where
   all_ready : (queue : ℕ) (links : List (SessionLink S K R)) (sessions : List MemberView) (inputs : List (Taking Piece)) (runs : List (LinkDone S K R))
       → map (λ (a : MemberView). table_of a.session.name) sessions ≡ map (λ (l : SessionLanes). Some l.outlet) (map (lanes_of queue) links)
       → map (λ (x : Taking Piece). x.lane) inputs ≡ map (λ (l : SessionLanes). l.input) (map (lanes_of queue) links)
-      → EachLink IsUnused links → EachLink New links → AllZip Runs links runs → AreReady sources sinks sessions inputs runs
+      → EachLink HasNewLanes links → EachLink New links → AllZip Runs links runs → AreReady sources sinks sessions inputs runs
   all_ready queue [] [] [] [] names lanes unused new ran = tt
   all_ready queue [] [] [] (run ∷ runs) names lanes unused new ran = absurd ran
   all_ready queue [] [] (x ∷ inputs) runs names lanes unused new ran = absurd cc

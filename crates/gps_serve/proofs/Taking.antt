@@ -4,7 +4,8 @@ use Rattle.std.proofs.lemmas.List.{append-nil}
 use Rattle.std.specs.List.{All, AllZip, flat_map}
 use Rattle.gps_fixed.specs.Moment.{Moment}
 use Rattle.gps_lane.specs.Ends.{Putting, Taking}
-use Rattle.gps_outside.specs.Told.{Goes, IsPrefix, Stream}
+use Rattle.gps_outside.specs.Told.{Goes, Stream}
+use Rattle.gps_fixed.specs.Lists.{IsPrefix}
 use Rattle.gps_outside.specs.ReadSteps.{TakesAll, TakesSome}
 use Rattle.gps_outside.proofs.Going.{goes_as}
 use Rattle.gps_world.specs.Opening.{IsAllLeft}
@@ -38,7 +39,7 @@ use Rattle.gps_serve.specs.declared.starts.EdgeStart.{EdgeStart}
 use Rattle.gps_serve.specs.AtEnd.{HandedBack}
 use Rattle.gps_serve.specs.Facts.{SinkFacts}
 use Rattle.gps_serve.specs.Served.{BytesHeld, EdgesHeld, IsFirstOf, ServesLink, SourceHeld, TakesFirst}
-use Rattle.serve_door.specs.Doors.{EachLink, IsNewLink, IsUnused, way_of}
+use Rattle.serve_door.specs.Doors.{EachLink, IsNewLink, HasNewLanes, way_of}
 use Rattle.gps_serve.specs.Readies.{IsLeftOfLink}
 use Rattle.gps_serve.specs.Runs.{DeviceReads, EdgesRead, IsLeftOf, RanOn, TakesBy}
 use Rattle.gps_serve.specs.Starts.{IsFreshDevice, IsFreshEdge, edge_source_of, edge_start_of, edges_at, sources_at}
@@ -211,7 +212,7 @@ module _ {S R : Type 0} (facts : SourceFacts S) where
 
 -- the same of sessions, and what was written to their sinks
 pub links_served : {S K R : Type 0} (sources : SourceFacts S) (sinks : SinkFacts K) (links : List (SessionLink S K R)) (runs : List (LinkDone S K R)) (sessions : List (SessionDone S K R))
-    → EachLink IsUnused links → EachLink (IsNewLink sources.content sources.faults sources.quiets sinks.written sinks.faults) links → AllZip (SessionRuns sources.content sources.faults sources.quiets sinks.written sinks.faults) links runs
+    → EachLink HasNewLanes links → EachLink (IsNewLink sources.content sources.faults sources.quiets sinks.written sinks.faults) links → AllZip (SessionRuns sources.content sources.faults sources.quiets sinks.written sinks.faults) links runs
     → AllZip (IsLeftOfLink sources sinks) runs sessions → AllZip (ServesLink sources sinks) (map way_of links) sessions
 links_served sources sinks [] [] [] unused new ran are = tt
 links_served sources sinks [] [] (s ∷ sessions) unused new ran are = absurd are

@@ -22,7 +22,7 @@ use Rattle.gps_serve.specs.Facts.{WorldFacts}
 use Rattle.serve_end_parts.specs.declared.served.Served.{Served}
 use Rattle.gps_world.specs.declared.world.World.{Ghosts as WorldGhosts}
 use Rattle.world_opening.specs.Opening.{dial_of}
-use Rattle.gps_serve.specs.Served.{DeviceServed, GateServed, InputServed, MonitorServed, OutletServed, watched_units}
+use Rattle.gps_serve.specs.Served.{DeviceServed, GateServed, InputServed, MonitorServed, OutletServed, monitored}
 
 -- what a daemon was told to serve, but for the places
 pub record DaemonSettings : Type 0 where
@@ -84,8 +84,8 @@ abbrev pub HaveQueue : ℕ → List MemberView → Type 0
 HaveQueue queue sessions = All (λ (a : MemberView). a.session.cap ≡ queue) sessions
 
 -- what the hub knows of its parts, by the lanes that are handed back
-abbrev pub parts_of : {G S K R : Type 0} → BookView → List InletsView → HandedBack G S K R → Bool → ℕ → Parts
-parts_of {G} {S} {K} {R} book inlets back done wait = record {
+abbrev pub parts_at_end : {G S K R : Type 0} → BookView → List InletsView → HandedBack G S K R → Bool → ℕ → Parts
+parts_at_end {G} {S} {K} {R} book inlets back done wait = record {
   book = book;
   devices = devices_of inlets (map (λ (d : DeviceDone S R). d.end) back.devices);
   inputs = map (λ (s : SessionDone S K R). s.input_rx) back.sessions;
@@ -93,8 +93,9 @@ parts_of {G} {S} {K} {R} book inlets back done wait = record {
   wait = wait;
 }
 
--- What is handed back at the end fits together. `inlets` and `done` are the devices' lanes and the door's state as the hub left them; the lanes of the
--- devices and sessions that are handed back (`back`) may have one more piece received.
+-- What is handed back at the end fits together. `inlets` and `done` are the devices' lanes and the door's state as the hub left them. The lanes that are
+-- handed back (`back`) may have one more piece received, for which no call of the hub was made. So `hub` names the devices' lanes as the hub left them; it
+-- names the sessions' lanes as they are handed back, since a closed session answers nothing.
 pub record AtEnd {G S K R : Type 0} (start : DaemonStart S K) (facts : WorldFacts G S K) (back : HandedBack G S K R) (book : BookView) : Type 0 where
   -- the book is that of the daemon's settings
   pub names : book.names ≡ start.told.names
@@ -103,7 +104,7 @@ pub record AtEnd {G S K R : Type 0} (start : DaemonStart S K) (facts : WorldFact
   -- what holds of the hub holds of the book, the lanes and the devices' ends
   pub inlets : List InletsView
   pub done : Bool
-  pub hub : DaemonHub (parts_of book inlets back done start.told.wait)
+  pub hub : DaemonHub (parts_at_end book inlets back done start.told.wait)
   -- what came into each device's lane is what was read from its source, with the stamps that the clock gave for it
   pub devices_are : AllZip (DeviceServed start.may facts.sources) inlets back.devices
   pub stamps : StampsAreGiven start.clock (map (λ (d : DeviceDone S R). d.bytes_tx.put) back.devices)
@@ -117,7 +118,7 @@ pub record AtEnd {G S K R : Type 0} (start : DaemonStart S K) (facts : WorldFact
   -- each unit's samples are all published, unless its count is spent; each monitor took published samples
   pub units : All UnitServed book.units
   pub monitor_numbers : map (λ (m : MonitorDone). m.unit) back.monitors ≡ range_with_len 0 (length back.monitors)
-  pub monitors_are : AllZip (MonitorServed start.told.tries back.no_memory) (watched_units start.told.tries book.units) back.monitors
+  pub monitors_are : AllZip (MonitorServed start.told.tries back.no_memory) (monitored start.told.tries book.units) back.monitors
   -- what became of each link of the door
   pub gate : G
   pub gate_is : back.gate ≡ Some gate

@@ -9,7 +9,7 @@ use Rattle.gps_serve.specs.declared.daemon_end.DaemonEnd.{DaemonEnd}
 use Rattle.gps_serve.specs.AtEnd.{HandedBack, back_with}
 use Rattle.gps_serve.specs.Lost.{NoneLost, ReadersHadMemory}
 use Rattle.gps_serve.specs.Outcome.{status_of}
-use Rattle.gps_serve.specs.Statuses.{AllEnded, TellsNoFault, WasLostByFault, lacks_memory, outcome_status}
+use Rattle.gps_serve.specs.Statuses.{AllEnded, TellsNoFault, WasLostByFault, daemon_out_of_memory, outcome_status}
 
 -- Why the work of a daemon ended so: a source of a device failed exactly if that was met, the door failed exactly if that was met, and each device has ended
 -- if that is said. Unless it was out of memory, no device was lost, no session closed and no reader ended for that.
@@ -21,18 +21,18 @@ pub record EndHasCause {S K G R : Type 0} (faults : S → ℕ) (gate_faults : G 
   pub door : end.outcome.door_fault ≡ true → 0 < gate_faults end.gate
   pub sound : end.outcome.door_fault ≡ false → gate_faults end.gate ≡ 0
   pub ended : end.outcome.ended ≡ true → AllEnded end.devices.items
-  pub kept : lacks_memory end.outcome ≡ false → NoneLost end.book end.devices.items
-  pub readers : lacks_memory end.outcome ≡ false → ReadersHadMemory end.devices.items end.sessions.items
+  pub kept : daemon_out_of_memory end.outcome ≡ false → NoneLost end.book end.devices.items
+  pub readers : daemon_out_of_memory end.outcome ≡ false → ReadersHadMemory end.devices.items end.sessions.items
 
 -- all that is left, beside the book
 abbrev pub back_of : {S K G R : Type 0} → DaemonEnd S K G R → HandedBack G S K R
-back_of end = back_with end.devices.items end.sessions.items end.monitors.items (Some end.gate) end.full (lacks_memory end.outcome)
+back_of end = back_with end.devices.items end.sessions.items end.monitors.items (Some end.gate) end.full (daemon_out_of_memory end.outcome)
 
 -- whether a daemon that served nothing was out of memory
-abbrev pub lacks_by : Stop → Bool
-lacks_by Input = false
-lacks_by Listen = false
-lacks_by NoMemory = true
+abbrev pub out_of_memory_by : Stop → Bool
+out_of_memory_by Input = false
+out_of_memory_by Listen = false
+out_of_memory_by NoMemory = true
 
 -- it served nothing, for this
 abbrev pub StoppedFor : {S K G R : Type 0} → Stop → Result (DaemonEnd S K G R) Stop → Type 0
@@ -50,4 +50,4 @@ book_by (Err stop) = None
 
 abbrev pub back_by : {S K G R : Type 0} → Result (DaemonEnd S K G R) Stop → HandedBack G S K R
 back_by (Ok end) = back_of end
-back_by (Err stop) = back_with [] [] [] None 0 (lacks_by stop)
+back_by (Err stop) = back_with [] [] [] None 0 (out_of_memory_by stop)

@@ -17,7 +17,7 @@ use Rattle.serve_threads.specs.Monitors.{MonitorRan}
 use Rattle.serve_threads.specs.Sessions.{SessionRuns, Wrote}
 use Rattle.gps_serve.specs.Facts.{SinkFacts}
 use Rattle.gps_serve.specs.Served.{InputServed, MonitorServed, OutletServed}
-use Rattle.serve_door.specs.Doors.{IsUnused}
+use Rattle.serve_door.specs.Doors.{HasNewLanes}
 use Rattle.serve_end_settling.specs.Lanes.{OneMoreAtMost}
 use Rattle.serve_end_settling.specs.Outlets.{writer_end}
 use Rattle.serve_end_settling.specs.Runs.{SourceFacts}
@@ -28,7 +28,7 @@ pub record SessionReady {S K R : Type 0} (sources : SourceFacts S) (sinks : Sink
   pub link : SessionLink S K R
   pub unread : IsUnreadBy sources link.source
   pub unwritten : IsUnwritten (sinks.written link.sink) (sinks.faults link.sink)
-  pub unused : IsUnused link
+  pub unused : HasNewLanes link
   pub ran : SessionRuns sources.content sources.faults sources.quiets sinks.written sinks.faults link run
   pub input : x.lane ≡ link.pieces.lane
   pub outlet : Some link.items.lane ≡ table_of a.session.name

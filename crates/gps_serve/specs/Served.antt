@@ -1,15 +1,14 @@
 -- What is left of a device, a session, a monitor and the door.
-use Rattle.std.specs.Prelude.{◌≡◌, ◌+◌, ◌*◌, ◌^◌, ◌-◌, ◌<◌, ◌≤◌, ◌⊎◌, ℕ, Bool, true, false, List, [], ◌++◌, length, min, Option, Some, None, ◌==◌, if◌then◌else◌}
+use Rattle.std.specs.Prelude.{◌≡◌, ◌+◌, ◌*◌, ◌<◌, ◌≤◌, ℕ, Bool, false, List, [], ◌++◌, length, Option, Some, None, ◌==◌, if◌then◌else◌}
 use Rattle.std.specs.List.{AllZip}
 use Rattle.gps_fixed.specs.Moment.{Moment}
 use Rattle.gps_lane.specs.Ends.{Putting, Taking}
-use Rattle.gps_lane.specs.Lane.{BeginsWith}
+use Rattle.gps_fixed.specs.Lists.{IsPrefix}
 use Rattle.gps_outside.specs.Counts.{Rose}
-use Rattle.gps_outside.specs.Links.{IsUnwritten, PassLinks}
-use Rattle.gps_outside.specs.Told.{Goes, IsPrefix, Stream}
+use Rattle.gps_outside.specs.Links.{IsUnwritten}
+use Rattle.gps_outside.specs.Told.{Goes, Stream}
 use Rattle.gps_world.specs.declared.place.Place.{Place}
 use Rattle.book_sessions.specs.MemberView.{MemberView}
-use Rattle.book_sessions.specs.Roster.{most_live}
 use Rattle.hub_door.specs.Admissions.{LinkDrop}
 use Rattle.book_units.specs.Units.{UnitView, segment_of}
 use Rattle.output_lines.specs.declared.closing.SessionEnd.TheVariants.{Drained, WriteFault}
@@ -32,14 +31,14 @@ use Rattle.hub_promise.specs.declared.ends.DeviceEnd.{DeviceEnd}
 use Rattle.hub_promise.specs.declared.ends.DeviceEnd.TheVariants.{Ended}
 use Rattle.hub_promise.specs.Parts.{InletsView}
 use Rattle.serve_end_settling.specs.Runs.{SourceFacts}
-use Rattle.serve_door.specs.Doors.{Dealt, IsSublist, NoneLeft, Way}
+use Rattle.serve_door.specs.Doors.{Tends, Way, door_now}
 use Rattle.gps_serve.specs.Starts.{IsUnreadBy}
 use Rattle.gps_serve.specs.Facts.{SinkFacts, WorldFacts}
 
 -- Both ends are of one lane, and what was received from it is a prefix of what was put.
 pub record IsOneLane (tx : Putting Piece) (rx : Taking Piece) : Type 0 where
   pub one : rx.lane ≡ tx.lane
-  pub begins : BeginsWith rx.got tx.put
+  pub begins : IsPrefix rx.got tx.put
 
 -- What a reader put into its lane is what it took from its source, which was unread before. `Hands` says which pieces are put of what is taken. The reader
 -- says that the source failed only if its faults are above 0.
@@ -76,15 +75,15 @@ pub record OutletServed {S K R : Type 0} (facts : SinkFacts K) (a : MemberView) 
   pub first : K
   pub unwritten : IsUnwritten (facts.written first) (facts.faults first)
   pub outlet : Some done.items_rx.lane ≡ table_of a.session.name
-  pub begins : BeginsWith done.items_rx.got a.session.kept
+  pub begins : IsPrefix done.items_rx.got a.session.kept
   pub all : done.end ≡ Drained → done.items_rx.got ≡ a.session.kept
   pub writes : Writes (writer_end done.end) [] done.items_rx.got (facts.written first) (facts.written done.sink)
   pub failed : done.end ≡ WriteFault → Rose (facts.faults first) (facts.faults done.sink)
   pub sound : done.end ≡ Drained → facts.faults done.sink ≡ 0
 
--- the units that have a monitor
-abbrev pub watched_units : ℕ → List UnitView → List UnitView
-watched_units tries units = if tries == 0 then [] else units
+-- those of these units, or of their segments, that have a monitor: all of them, or none if no reading is asked for
+abbrev pub monitored : {X : Type 0} → ℕ → List X → List X
+monitored tries units = if tries == 0 then [] else units
 
 -- What is left of a unit's monitor: the pairs that it kept, each the unit's published sample of its number, with rising numbers. Unless
 -- the daemon was out of memory, these are all that it took, each number once, and it made all its readings.
@@ -111,27 +110,17 @@ pub record ServesLink {S K R : Type 0} (sources : SourceFacts S) (sinks : SinkFa
   pub writes : Writes (writer_end done.end) [] done.items_rx.got (sinks.written way.1) (sinks.written done.sink)
   pub failed : done.end ≡ WriteFault → Rose (sinks.faults way.1) (sinks.faults done.sink)
 
--- What is left of the door. The links that were taken are the next of those that it told. Each became a session, or was dropped for a bound or for lack of
--- memory (`dealt`). `full` counts those that were dropped for a bound, and is 0 before 64 sessions were admitted. The links are at least as many as
--- the sessions and `full` together, and exactly as many unless the daemon was out of memory or `full` is at its greatest value. Each session has the source
--- and the sink of a link that was taken, in order; if none was dropped, session k has those of the k-th. The door was asked; and it is said to have closed
--- or failed only if no link is left or its faults rose.
+-- What is left of the door: what became of each link that was taken from it, in order (`Tends`). `drops` are the links that were dropped for a bound,
+-- which `full` counts, and `served` those that became sessions: session k has the source and the sink of the k-th of them. A link was dropped for lack of
+-- memory (`out_of_memory`) only if the daemon says that it was out of memory.
 pub record GateServed {G S K R : Type 0} (facts : WorldFacts G S K) (told : Option (List (Way S K))) (full : ℕ) (no_memory done : Bool)
     (sessions : List (SessionDone S K R)) (gate : G) : Type 0 where
-  pub taken : List (Way S K)
-  pub passed : Goes (PassLinks taken) told (facts.gates.links gate)
-  pub few : length sessions + full ≤ length taken
-  pub count : no_memory ≡ false → full < 2 ^ 64 - 1 → length taken ≡ length sessions + full
-  pub none_early : length sessions < most_live → full ≡ 0
   pub drops : List LinkDrop
-  pub counted : full ≡ min (length drops) (2 ^ 64 - 1)
+  pub out_of_memory : Bool
   pub served : List (Way S K)
-  pub order : IsSublist served taken
-  pub dealt : Dealt 0 taken served drops
+  pub tends : Tends told (door_now (facts.gates.links gate) (facts.gates.faults gate) (facts.gates.quiets gate) drops full out_of_memory) served done false
   pub links_are : AllZip (ServesLink facts.sources facts.sinks) served sessions
-  pub each : length taken ≡ length sessions → AllZip (ServesLink facts.sources facts.sinks) taken sessions
-  pub asked : (0 < length taken) ⊎ (0 < facts.gates.quiets gate) ⊎ (0 < facts.gates.faults gate) ⊎ NoneLeft told (facts.gates.links gate)
-  pub closed : done ≡ true → NoneLeft told (facts.gates.links gate) ⊎ (0 < facts.gates.faults gate)
+  pub has_memory : no_memory ≡ false → out_of_memory ≡ false
 
 -- The bytes taken from a device's source are the first of those that it held. If the device has ended, they are all of them, and nothing is left.
 pub record IsTakenOf (end : Option DeviceEnd) (held : List ℕ) (stream : Stream) : Type 0 where

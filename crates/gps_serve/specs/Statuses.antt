@@ -11,12 +11,12 @@ use Rattle.serve_threads.specs.declared.monitors.ReadingsDone.{ReadingsDone}
 use Rattle.gps_serve.specs.declared.status.DaemonOutcome.{DaemonOutcome}
 
 -- it was seen; or a device was lost, and no source failed
-abbrev pub lacks_memory : DaemonOutcome → Bool
-lacks_memory o = o.no_memory || (not o.read_fault && not o.ended)
+abbrev pub daemon_out_of_memory : DaemonOutcome → Bool
+daemon_out_of_memory o = o.no_memory || (not o.read_fault && not o.ended)
 
 -- the status: of the faults that were met the first of these
 abbrev pub outcome_status : DaemonOutcome → ℕ
-outcome_status o = if o.read_fault then 3 else (if o.door_fault then 8 else (if lacks_memory o then 7 else 0))
+outcome_status o = if o.read_fault then 3 else (if o.door_fault then 8 else (if daemon_out_of_memory o then 7 else 0))
 
 -- each monitor made all its readings
 abbrev pub EachWhole : List ReadingsDone → Type 0

@@ -1,5 +1,5 @@
 -- The readers of the devices at work.
-use Rattle.std.specs.Prelude.{◌≡◌, ℕ, List, [], Option, ◌==◌, if◌then◌else◌}
+use Rattle.std.specs.Prelude.{◌≡◌, ℕ, List, Option}
 use Rattle.std.specs.Arc.{arc_value}
 use Rattle.std.specs.List.{AllZip}
 use Rattle.serve_threads.specs.declared.reading.DeviceReading.{DeviceReading}
@@ -18,6 +18,7 @@ use Rattle.serve_end_settling.specs.Lanes.{ZipOption}
 use Rattle.serve_end_settling.specs.Runs.{SourceFacts}
 use Rattle.gps_serve.specs.declared.readers.DeviceWork.{DeviceWork}
 use Rattle.gps_serve.specs.Runs.{RanOn}
+use Rattle.gps_serve.specs.Served.{monitored}
 
 -- a device's reader works on its source and its lane
 pub record BytesAre {S R D : Type 0} (start : DeviceStart S R) (work : DeviceReading S R D) : Type 0 where
@@ -48,10 +49,6 @@ JoinsDevice {S} {R} may facts work run = (start : DeviceStart S R) → ReadersAr
 
 abbrev pub JoinsMonitor : MonitorPromise → ReadingsDone → Type 0
 JoinsMonitor work done = (tries : ℕ) (monitor_start : MonitorStart) → WatchesFor tries monitor_start work → WatchedBy tries monitor_start done
-
--- the segments that are monitored: all of them, or none if no reading is asked for
-abbrev pub monitored : ℕ → List SegmentId → List SegmentId
-monitored tries segments = if tries == 0 then [] else segments
 
 -- the monitors of these segments did their work
 pub record MonitorsRan (tries : ℕ) (segments : List SegmentId) (watched : List ReadingsDone) : Type 0 where

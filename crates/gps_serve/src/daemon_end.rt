@@ -1,6 +1,6 @@
 ghost use Rattle.std.specs.Prelude.{◌≡◌, ◌⊎◌, IfOk};
 ghost use Rattle.gps_serve.specs.AtEnd.{handed_back};
-ghost use Rattle.gps_serve.specs.HandingBack.{EndHasCause, StoppedFor, back_by, book_by, lacks_by, status_by};
+ghost use Rattle.gps_serve.specs.HandingBack.{EndHasCause, StoppedFor, back_by, book_by, out_of_memory_by, status_by};
 ghost use Rattle.gps_serve.specs.Outcome.{OutcomeHasCause, status_of};
 
 use crate::status::DaemonOutcome;
@@ -40,7 +40,7 @@ fn stopped_status(stop: Stop) -> u8
 
 /// Whether it served nothing because it was out of memory.
 fn stopped_out_of_memory(stop: Stop) -> bool
-    ensures { result ≡ lacks_by stop }
+    ensures { result ≡ out_of_memory_by stop }
 {
     match stop {
         Stop::Input | Stop::Listen => false,

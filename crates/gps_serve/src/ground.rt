@@ -3,12 +3,12 @@ ghost use Rattle.std.specs.List.{All, AllZip};
 ghost use Rattle.gps_fixed.specs.Limits.{most_history};
 ghost use Rattle.book_units.specs.Units.{segment_of};
 ghost use Rattle.serve_threads.specs.Segments.{segments_of};
-ghost use Rattle.gps_serve.specs.Works.{monitored};
 ghost use Rattle.hub_promise.specs.Keeping.{IsUnused, NothingGot};
 ghost use Rattle.world_opening.specs.Opening.{AreUnread, sources_in};
 ghost use Rattle.serve_end_settling.specs.Runs.{source_facts};
 ghost use Rattle.gps_serve.specs.Starts.{IsFreshDevice, edges_at, sources_at};
 ghost use Rattle.gps_serve.specs.Units.{CountFromZero};
+ghost use Rattle.gps_serve.specs.Served.{monitored};
 
 use crate::lanes::{DeviceLanes, lay};
 use gps_fixed::NoMemory;
@@ -75,6 +75,37 @@ fn monitor_starts_if<R: Wait + Copy>(
     }
 }
 
+/// The tables of the door and of the clock's stamps, the monitors, and the bells.
+#[derive(Drop)]
+struct Tables {
+    doors: DoorTable,
+    stamps: StampTable,
+    monitor_starts: Vec<MonitorStart>,
+    bells: Bells,
+}
+
+fn make_tables<R: Wait + Copy>(
+    alloc: Global,
+    book: &mut Book<Tx<Item, R>>,
+    tries: u32,
+    devices: usize,
+) -> Result<Tables, NoMemory>
+    requires few { length book.old.units ≤ 16 }
+    ensures book { book.new ≡ book.old }
+    ensures segments { IfOk result (λ tables. segments_of tables.monitor_starts.items ≡ monitored tries (map segment_of book.old.units)) }
+{
+    let doors = DoorTable::new(alloc)?;
+    let stamps = StampTable::new(alloc)?;
+    let monitor_starts = monitor_starts_if(alloc, book, tries)?;
+    let bells = Bells::new(alloc, devices)?;
+    Ok(Tables {
+        doors,
+        stamps,
+        monitor_starts,
+        bells,
+    })
+}
+
 /// Makes all that the hub and the threads need.
 #[tactic(auto, using(crate::proofs::Starting::nothing_got))]
 pub(crate) fn prepare<S: Source, R: Wait + Copy>(
@@ -118,10 +149,12 @@ pub(crate) fn prepare<S: Source, R: Wait + Copy>(
     let count = names.len();
     let mut book = new_book(alloc, names, limit)?;
     let lanes = lay(rt, alloc, inputs, edges)?;
-    let doors = DoorTable::new(alloc)?;
-    let stamps = StampTable::new(alloc)?;
-    let monitor_starts = monitor_starts_if(alloc, &mut book, tries)?;
-    let bells = Bells::new(alloc, count)?;
+    let Tables {
+        doors,
+        stamps,
+        monitor_starts,
+        bells,
+    } = make_tables(alloc, &mut book, tries, count)?;
     Ok(Ground {
         book,
         lanes,

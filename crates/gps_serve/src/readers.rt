@@ -9,14 +9,13 @@ use gps_lane::Bell;
 use gps_outside::{Clock, Source};
 use serve_end_settling::DeviceRun;
 use serve_threads::{
-    DeviceBells, DeviceReaderDone, DeviceReading, EdgeReading, ReaderDone, Work, start_device,
-    start_edges,
+    DeviceBells, DeviceReaderDone, DeviceReading, EdgeReading, ReaderBells, ReaderDone, Spawner,
+    Work, start_device, start_edges,
 };
 use serve_workers::{Dials, SharedClock};
 use stamp_shares::StampShare;
-use std::alloc::Global;
 use std::sync::{Mutex, Wait};
-use std::thread::{Scope, Threads};
+use std::thread::Threads;
 
 /// The readers of a device at work.
 #[derive(Drop)]
@@ -33,9 +32,7 @@ pub(crate) struct JoinedDevice<S: Source, D: Dials, R: Wait + Copy> {
 }
 
 fn start_edge_work<'s, E, S: Source + Send + 's, R: Wait + Copy + Send + Sync + 's>(
-    rt: R,
-    alloc: Global,
-    scope: &'s Scope<'s, E>,
+    spawner: &Spawner<'s, E, R>,
     start: Option<EdgeStart<S, R>>,
     own: &'s DeviceBells,
     pump: &'s Bell,
@@ -46,9 +43,12 @@ fn start_edge_work<'s, E, S: Source + Send + 's, R: Wait + Copy + Send + Sync + 
     match start {
         Some(start) => {
             let EdgeStart { source, lines } = start;
-            Some(start_edges(
-                rt, alloc, scope, source, lines, &own.edges, &own.alone, pump,
-            ))
+            let bells = ReaderBells {
+                own: &own.edges,
+                alone: &own.alone,
+                pump,
+            };
+            Some(start_edges(spawner, source, lines, bells))
         }
         None => None,
     }
@@ -63,9 +63,7 @@ pub(crate) fn start_readers<
     D: Dials + Send + Sync + 's,
     R: Wait + Copy + Send + Sync + 's,
 >(
-    rt: R,
-    alloc: Global,
-    scope: &'s Scope<'s, E>,
+    spawner: &Spawner<'s, E, R>,
     start: DeviceStart<S, R>,
     clock: &'s Mutex<SharedClock<C, D>>,
     share: StampShare<D>,
@@ -81,10 +79,13 @@ pub(crate) fn start_readers<
         bytes,
         edges,
     } = start;
-    let bytes = start_device(
-        rt, alloc, scope, source, clock, share, bytes, &own.bytes, &own.alone, pump,
-    );
-    let edges = start_edge_work(rt, alloc, scope, edges, own, pump);
+    let bells = ReaderBells {
+        own: &own.bytes,
+        alone: &own.alone,
+        pump,
+    };
+    let bytes = start_device(spawner, source, clock, share, bytes, bells);
+    let edges = start_edge_work(spawner, edges, own, pump);
     DeviceWork { bytes, edges }
 }
 

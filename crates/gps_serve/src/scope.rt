@@ -13,20 +13,22 @@ ghost use Rattle.gps_serve.specs.Works.{JoinsDevice, JoinsMonitor, ReadersAre, W
 
 use crate::readers::{DeviceWork, JoinedDevice, join_readers, start_readers};
 use crate::starts::DeviceStart;
-use crate::status::{are_whole, device_lacks, either, session_lacks};
+use crate::status::{any_link_out_of_memory, any_run_out_of_memory, are_whole, either};
 use gps_fixed::NoMemory;
 use gps_hub::HubNaming;
 use gps_outside::{ClientSink, Clock, Door, Source};
-use serve_door::{DoorBegin, DoorDone, start_door};
+use serve_door::{DoorBegin, DoorContext, DoorDone, start_door};
 use serve_end_settling::DeviceRun;
 use serve_floor::{Floor, Waker, publish, pump, wake_readers};
-use serve_threads::{Bells, MonitorPromise, MonitorStart, ReadingsDone, Work, start_monitor};
+use serve_threads::{
+    Bells, MonitorPromise, MonitorStart, ReadingsDone, Spawner, Work, start_monitor,
+};
 use serve_workers::{Dials, SharedClock};
 use stamp_shares::StampRoll;
 use std::alloc::Global;
 use std::sync::{Mutex, Wait};
 use std::thread;
-use std::thread::{Scope, Threads};
+use std::thread::Threads;
 
 /// What the threads begin with, and room for what they do and hand back, made before the first of them starts.
 #[derive(Drop)]
@@ -62,6 +64,14 @@ pub(crate) struct Setup<
     ghost watched_room: { vec_len monitor_starts ≤ vec_capacity watched },
 }
 
+/// What the daemon's threads share.
+#[derive(Drop)]
+pub(crate) struct Shared<'s, C: Clock, J: HubNaming, D: Dials, R: Wait + Copy> {
+    pub(crate) floor: &'s Mutex<Floor<J, R>>,
+    pub(crate) clock: &'s Mutex<SharedClock<C, D>>,
+    pub(crate) bells: &'s Bells,
+}
+
 /// What the threads handed back.
 #[derive(Drop)]
 pub(crate) struct Ended<
@@ -84,7 +94,7 @@ impl<S: Source, K: ClientSink, G: Door<In = S, Out = K>, J: HubNaming, R: Wait +
     R,
 > {
     /// Whether a thread was out of memory: the door's at an admission, a reader, or a monitor, which then misses a sample that it took.
-    pub(crate) fn threads_lack(&self) -> bool
+    pub(crate) fn threads_out_of_memory(&self) -> bool
         ensures whole { result ≡ false → EachWhole self.now.watched.items }
         ensures door { result ≡ false → self.now.door.no_memory ≡ false }
         ensures runs { result ≡ false → list_any run_out_of_memory self.now.runs.items ≡ false }
@@ -93,8 +103,8 @@ impl<S: Source, K: ClientSink, G: Door<In = S, Out = K>, J: HubNaming, R: Wait +
             ⊎ (list_any link_out_of_memory self.now.door.runs.items ≡ true) ⊎ (list_all (λ watch. watch.whole) self.now.watched.items ≡ false) }
     {
         let readers = either(
-            device_lacks(self.runs.as_slice()),
-            session_lacks(self.door.runs.as_slice()),
+            any_run_out_of_memory(self.runs.as_slice()),
+            any_link_out_of_memory(self.door.runs.as_slice()),
         );
         let threads = either(readers, !are_whole(self.watched.as_slice()));
         either(self.door.no_memory, threads)
@@ -154,9 +164,7 @@ pub(crate) fn set_up<
 /// Starts the monitors.
 #[tactic(auto, using(serve_threads::proofs::Zips::ran_none, serve_threads::proofs::Zips::ran_more, serve_threads::proofs::Zips::ran_all))]
 fn start_monitors<'s, E, R: Threads + Wait + Copy + Send + Sync + 's>(
-    rt: R,
-    alloc: Global,
-    scope: &'s Scope<'s, E>,
+    spawner: &Spawner<'s, E, R>,
     monitor_starts: Vec<MonitorStart>,
     tries: u32,
     bells: &'s Bells,
@@ -171,7 +179,7 @@ fn start_monitors<'s, E, R: Threads + Wait + Copy + Send + Sync + 's>(
     let mut works = room;
     'monitor_starts: for monitor_start in monitor_starts {
         let own = bells.monitor(works.len());
-        works.push_reserved(start_monitor(rt, alloc, scope, monitor_start, tries, own));
+        works.push_reserved(start_monitor(spawner, monitor_start, tries, own));
     }
     works
 }
@@ -186,9 +194,7 @@ fn start_devices<
     D: Dials + Send + Sync + 's,
     R: Wait + Copy + Send + Sync + 's,
 >(
-    rt: R,
-    alloc: Global,
-    scope: &'s Scope<'s, E>,
+    spawner: &Spawner<'s, E, R>,
     starts: Vec<DeviceStart<S, R>>,
     clock: &'s Mutex<SharedClock<C, D>>,
     roll: &mut StampRoll<D>,
@@ -212,8 +218,8 @@ fn start_devices<
     let mut works = room;
     'starts: for start in starts {
         let own = bells.device(works.len());
-        let share = clock.lock(&rt).begin(roll);
-        works.push_reserved(start_readers(rt, alloc, scope, start, clock, share, own, &bells.pump));
+        let share = clock.lock(&spawner.rt).begin(roll);
+        works.push_reserved(start_readers(spawner, start, clock, share, own, &bells.pump));
     }
     works
 }
@@ -285,12 +291,8 @@ fn work<
     R: Threads + Wait + Copy + Send + Sync + 's,
     V: Waker,
 >(
-    rt: R,
-    alloc: Global,
-    scope: &'s Scope<'s, E>,
-    floor: &'s Mutex<Floor<J, R>>,
-    clock: &'s Mutex<SharedClock<C, D>>,
-    bells: &'s Bells,
+    spawner: &Spawner<'s, E, R>,
+    shared: Shared<'s, C, J, D, R>,
     waker: &V,
     tries: u32,
     setup: Setup<S, K, G, D, J, R>,
@@ -309,6 +311,12 @@ fn work<
     ensures watched { WatchedIf tries setup.monitor_starts.items result }
     ensures counts { CountsIf (vec_len setup.starts) (vec_len setup.monitor_starts) result }
 {
+    let (rt, alloc, scope) = (spawner.rt, spawner.alloc, spawner.scope);
+    let Shared {
+        floor,
+        clock,
+        bells,
+    } = shared;
     let Setup {
         starts,
         monitor_starts,
@@ -324,13 +332,18 @@ fn work<
     };
     let closer = door.gate.closer();
     let queue = door.queue;
-    let Some(door) = start_door(rt, alloc, scope, floor, bells, door) else {
+    let context = DoorContext {
+        spawner: Spawner { rt, alloc, scope },
+        floor,
+        bells,
+    };
+    let Some(door) = start_door(context, door) else {
         bells.close();
         publisher.join(&rt);
         return None;
     };
-    let watching = start_monitors(rt, alloc, scope, monitor_starts, tries, bells, watching);
-    let works = start_devices(rt, alloc, scope, starts, clock, &mut roll, bells, works);
+    let watching = start_monitors(spawner, monitor_starts, tries, bells, watching);
+    let works = start_devices(spawner, starts, clock, &mut roll, bells, works);
     pump(&rt, alloc, floor, bells, queue);
     // The door worker finds its bell closed, once its call returns.
     if let Some(closer) = closer {
@@ -364,9 +377,7 @@ pub(crate) fn in_scope<
 >(
     rt: R,
     alloc: Global,
-    floor: &'e Mutex<Floor<J, R>>,
-    clock: &'e Mutex<SharedClock<C, D>>,
-    bells: &'e Bells,
+    shared: Shared<'e, C, J, D, R>,
     waker: &V,
     tries: u32,
     setup: Setup<S, K, G, D, J, R>,
@@ -388,6 +399,6 @@ pub(crate) fn in_scope<
     thread::scope(
         thread::scope_env(),
         &rt,
-        move |scope| work(rt, alloc, scope, floor, clock, bells, waker, tries, setup),
+        move |scope| work(&Spawner { rt, alloc, scope }, shared, waker, tries, setup),
     )
 }

@@ -19,7 +19,7 @@ ghost use Rattle.gps_serve.specs.AtEnd.{AtEnd, handed_back, settings_in, setting
 ghost use Rattle.gps_serve.specs.Facts.{world_facts};
 ghost use Rattle.gps_serve.specs.HandingBack.{EndHasCause, back_of};
 ghost use Rattle.gps_serve.specs.Outcome.{OutcomeHasCause};
-ghost use Rattle.gps_serve.specs.Served.{BytesHeld, EdgesHeld};
+ghost use Rattle.gps_serve.specs.Served.{BytesHeld, EdgesHeld, monitored};
 ghost use Rattle.serve_door.specs.Doors.{IsNewLink, Tended, door_now};
 ghost use Rattle.serve_floor.specs.Bursts.{AreAtRest, HasStopped};
 ghost use Rattle.gps_serve.specs.Dealt.{puts_of};
@@ -28,12 +28,12 @@ ghost use Rattle.gps_serve.specs.Stamps.{StampsAreGiven};
 ghost use Rattle.gps_serve.specs.Starts.{IsFreshDevice};
 ghost use Rattle.gps_serve.specs.Units.{CountFromZero};
 ghost use Rattle.gps_serve.specs.Whole.{IsWhole};
-ghost use Rattle.gps_serve.specs.Works.{MonitorsRan, monitored};
+ghost use Rattle.gps_serve.specs.Works.{MonitorsRan};
 
 use crate::daemon_end::{DaemonEnd, hand_back};
 use crate::ground::{Ground, prepare};
 use crate::lanes::DeviceLanes;
-use crate::scope::{Ended, in_scope, room, set_up};
+use crate::scope::{Ended, Shared, in_scope, room, set_up};
 use crate::settling::{DevicesDone, devices_done, monitors_done, sessions_done};
 use crate::status::{DaemonOutcome, all_ended, was_out_of_memory};
 use gps_fixed::NoMemory;
@@ -168,7 +168,7 @@ fn gather<W: World, J: HubNaming, D: Dials, R: Wait + Copy>(
         (world_facts W.In.Source W.Out.ClientSink W.Gate.Door) (back_of result) result.book }
     ensures cause { EndHasCause W.In.faults W.Gate.faults result }
 {
-    let by_threads = ended.threads_lack();
+    let by_threads = ended.threads_out_of_memory();
     let Ended {
         runs,
         watched,
@@ -326,16 +326,12 @@ fn run<
         door,
         roll,
     )?;
-    let Some(ended) = in_scope(
-        rt,
-        alloc,
-        &floor,
-        &clock,
-        &bells,
-        world,
-        numbers.tries,
-        setup,
-    ) else {
+    let shared = Shared {
+        floor: &floor,
+        clock: &clock,
+        bells: &bells,
+    };
+    let Some(ended) = in_scope(rt, alloc, shared, world, numbers.tries, setup) else {
         return Err(NoMemory);
     };
     let hub = shut(&rt, alloc, floor.into_inner());
@@ -357,8 +353,8 @@ pub fn serve<W: World, R: Threads + Wait + Copy + Send + Sync>(
     requires plan { IsPlan plan }
     requires asked { W.asked world ≡ asked_nothing }
 
-    // Whatever a sink of a client allows follows from this: with what was written before, what is written begins what the client is due. So each
-    // write that ever happens is one that begins what is due, also if this never returns.
+    // A sink of a client allows each write that `MayWrite` admits: one that, with what was written before, begins what the client is due. It need not
+    // allow any other. So each write that ever happens is such a write, also if this never returns.
     requires writes { (sink : W.Out) (piece : List ℕ)
         → MayWrite (record { source = W.Out.asks sink; devices = devices_in plan (W.behind world) }) (W.Out.written sink) piece
         → W.Out.allows sink piece }
@@ -367,6 +363,8 @@ pub fn serve<W: World, R: Threads + Wait + Copy + Send + Sync>(
     ensures range { (result.status ≡ 0) ⊎ (result.status ≡ 3) ⊎ (result.status ≡ 7) ⊎ (result.status ≡ 8) }
     ensures cause { OutcomeHasCause W.In.faults W.Gate.faults (Rose (W.input_faults world) (W.input_faults result.world))
         (Rose (W.listen_faults world) (W.listen_faults result.world)) result }
+
+    // There is no book only if a source or the door could not be opened, or memory was short.
     ensures none { result.book ≡ None → ((result.status ≡ 3) × Rose (W.input_faults world) (W.input_faults result.world))
         ⊎ ((result.status ≡ 8) × Rose (W.listen_faults world) (W.listen_faults result.world)) ⊎ (result.status ≡ 7) }
 
@@ -382,6 +380,8 @@ pub fn serve<W: World, R: Threads + Wait + Copy + Send + Sync>(
     ensures held_edges { IsSome result.book
         → AllZip (EdgesHeld (behind_once (plan.inputs.items ++ places_in plan.edges.items) (W.behind world)) (source_facts W.In.Source))
         plan.edges.items result.devices.items }
+
+    // A device has a source of edges exactly if the plan gives it one.
     ensures edges { IsSome result.book → map (λ device. is_some device.edges) result.devices.items ≡ map is_some plan.edges.items }
 
     // What the world was asked for.

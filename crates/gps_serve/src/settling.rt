@@ -8,7 +8,7 @@ ghost use Rattle.serve_end_settling.specs.Failing.{DeviceFailed, AnyOf, source_o
 ghost use Rattle.serve_end_settling.specs.Lanes.{tx_of};
 ghost use Rattle.serve_end_settling.specs.Runs.{RunCause, EachRun, source_facts};
 ghost use Rattle.gps_serve.specs.Facts.{sink_facts};
-ghost use Rattle.gps_serve.specs.Served.{DeviceServed, MonitorServed, OutletServed, watched_units};
+ghost use Rattle.gps_serve.specs.Served.{DeviceServed, MonitorServed, OutletServed, monitored};
 ghost use Rattle.gps_serve.specs.Readies.{AllServed, AreReady, InputLeft, IsLeftOfLink, IsLeftOfWatch, MonitorReady, SessionReady};
 ghost use Rattle.gps_serve.specs.Runs.{DeviceReady, IsLeftOf};
 ghost use Rattle.gps_serve.specs.Statuses.{TellsNoFault};
@@ -212,7 +212,7 @@ pub(crate) fn monitors_done<R: Wait + Copy>(
     room: Vec<MonitorDone>,
 ) -> Vec<MonitorDone>
     // Each monitor did its work.
-    requires ready { AllZip (MonitorReady tries no_memory) (watched_units tries book.old.units) watched.items }
+    requires ready { AllZip (MonitorReady tries no_memory) (monitored tries book.old.units) watched.items }
 
     // The room is empty, and large enough. There are at most 16 units.
     requires none { room.items ≡ [] }
@@ -223,7 +223,7 @@ pub(crate) fn monitors_done<R: Wait + Copy>(
     // The book stays, and there is one result for each unit that has a monitor.
     ensures book { book.new ≡ book.old }
     ensures numbers { map (λ monitor. monitor.unit) result.items ≡ range_with_len 0 (length result.items) }
-    ensures served { AllZip (MonitorServed tries no_memory) (watched_units tries book.old.units) result.items }
+    ensures served { AllZip (MonitorServed tries no_memory) (monitored tries book.old.units) result.items }
     ensures left { AllZip IsLeftOfWatch watched.items result.items }
 {
     let mut done = room;

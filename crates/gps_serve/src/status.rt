@@ -3,7 +3,7 @@ ghost use Rattle.std.specs.List.{All, list_all, list_any};
 ghost use Rattle.hub_promise.specs.Given.{is_end};
 ghost use Rattle.serve_end_settling.specs.Failing.{AnyOf};
 ghost use Rattle.gps_serve.specs.Lost.{IsNotClosedOutOfMemory, IsNotLostOutOfMemory, WasClosedOutOfMemory, closed_out_of_memory, lost_out_of_memory, ended_out_of_memory, lines_out_of_memory, link_out_of_memory, run_out_of_memory};
-ghost use Rattle.gps_serve.specs.Statuses.{lacks_memory, outcome_status};
+ghost use Rattle.gps_serve.specs.Statuses.{daemon_out_of_memory, outcome_status};
 
 use gps_hub::{DeviceEnd, Ending};
 use gps_lane::Tx;
@@ -37,7 +37,7 @@ impl DaemonOutcome {
     /// Whether the daemon was out of memory: that was seen, or a device was lost though no source failed. If one failed, only what was
     /// seen counts: it includes each device that was lost for lack of memory.
     pub(crate) fn is_out_of_memory(&self) -> bool
-        ensures { result ≡ lacks_memory self.now }
+        ensures { result ≡ daemon_out_of_memory self.now }
     {
         self.no_memory || (!self.read_fault && !self.ended)
     }
@@ -89,7 +89,7 @@ fn run_out_of_memory<S: Source, R: Wait + Copy>(run: &DeviceRun<S, R>) -> bool
 }
 
 /// Whether a reader of any device did so.
-pub(crate) fn device_lacks<S: Source, R: Wait + Copy>(runs: &[DeviceRun<S, R>]) -> bool
+pub(crate) fn any_run_out_of_memory<S: Source, R: Wait + Copy>(runs: &[DeviceRun<S, R>]) -> bool
     ensures { result ≡ list_any run_out_of_memory runs.now }
 {
     runs.iter().any(|run| run_out_of_memory(run))
@@ -110,14 +110,14 @@ fn lost_out_of_memory(end: Option<DeviceEnd>) -> bool
 }
 
 /// Whether any device was lost because it was out of memory.
-fn ends_lack(ends: &[Option<DeviceEnd>]) -> bool
+fn any_end_out_of_memory(ends: &[Option<DeviceEnd>]) -> bool
     ensures { result ≡ list_any lost_out_of_memory ends.now }
 {
     ends.iter().any(|end| lost_out_of_memory(*end))
 }
 
 /// Whether the reader of any session ended because it was out of memory.
-pub(crate) fn session_lacks<S: Source, K: ClientSink, R: Wait + Copy>(
+pub(crate) fn any_link_out_of_memory<S: Source, K: ClientSink, R: Wait + Copy>(
     runs: &[LinkDone<S, K, R>],
 ) -> bool
     ensures { result ≡ list_any link_out_of_memory runs.now }
@@ -137,7 +137,7 @@ fn closed_out_of_memory(closing: Option<(u64, Close)>) -> bool
 }
 
 /// Whether the book closed a session because it was out of memory.
-fn book_lacks<R: Wait + Copy>(book: &Book<Tx<Item, R>>) -> bool
+fn book_out_of_memory<R: Wait + Copy>(book: &Book<Tx<Item, R>>) -> bool
     ensures kept { result ≡ false → All (λ session. IsNotClosedOutOfMemory session.session.closing) book.now.sessions }
     ensures cut { result ≡ true → AnyOf WasClosedOutOfMemory book.now.sessions }
 {
@@ -169,6 +169,6 @@ pub(crate) fn was_out_of_memory<R: Wait + Copy>(
     ensures sessions { result ≡ false → All (λ session. IsNotClosedOutOfMemory session.session.closing) book.now.sessions }
     ensures cause { result ≡ true → (by_threads ≡ true) ⊎ (list_any lost_out_of_memory ends.now ≡ true) ⊎ AnyOf WasClosedOutOfMemory book.now.sessions }
 {
-    let by_book = either(ends_lack(ends), book_lacks(book));
+    let by_book = either(any_end_out_of_memory(ends), book_out_of_memory(book));
     either(by_threads, by_book)
 }

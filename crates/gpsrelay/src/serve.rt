@@ -149,8 +149,8 @@ pub fn serve_main<W: World, R: Threads + Wait + Copy + Send + Sync>(
 ) -> Served<W, R>
     requires asked { W.asked world ≡ asked_nothing }
 
-    // Whatever a sink of a client allows follows from this: with what was written before, what is written begins what the client is due. So each
-    // write that ever happens is one that begins what is due, also if this never returns.
+    // A sink of a client allows each write that `MayWrite` admits: one that, with what was written before, begins what the client is due. It need not
+    // allow any other. So each write that ever happens is such a write, also if this never returns.
     requires writes { IfSome (serve_asked_of (map string_bytes words.now))
         (λ s. AllowsClients W.Out.asks W.Out.written W.Out.allows (devices_asked (W.behind world) s)) }
 

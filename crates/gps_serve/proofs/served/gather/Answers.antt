@@ -42,7 +42,7 @@ sessions_done-sessions-requires-clause-enough g c = c.args.ended.door.enough
 pub monitors_done-monitors-requires-clause-ready : goal.monitors_done-monitors-requires-clause-ready
 monitors_done-monitors-requires-clause-ready g c =
     monitors_by _ _ g.J.HubNaming.terms c.part-book.result.book _ c.part-book.result.inlets.items _ c.part-book.ensures.terms c.requires.watched
-    (λ e. c.threads_lack-by_threads.ensures.whole (c.was_out_of_memory-no_memory.ensures.threads e))
+    (λ e. c.threads_out_of_memory-by_threads.ensures.whole (c.was_out_of_memory-no_memory.ensures.threads e))
     c.sessions_done-sessions.ensures.book
 
 pub monitors_done-monitors-requires-clause-few : goal.monitors_done-monitors-requires-clause-few
@@ -63,7 +63,7 @@ returns-clause-at_end g c =
     let short : lacks ≡ true → ShowsOutOfMemory links (facts.gates.links door.gate) back c.part-book.result.book =
     λ e. elim (some_lacks c.was_out_of_memory-no_memory.result c.devices_done-devices.result.failed c.all_ended-ended.result lacks refl e) [
       | inl seen ↦ elim (c.was_out_of_memory-no_memory.ensures.cause seen) [
-        | inl threads ↦ elim (c.threads_lack-by_threads.ensures.cause threads) [
+        | inl threads ↦ elim (c.threads_out_of_memory-by_threads.ensures.cause threads) [
           | inl link ↦
               inr (inr (inr (inr (inr (link_uncounted facts c.args.numbers.queue links door.gate door.full door.no_memory door.seat _ _
               c.requires.tended c.sessions_done-sessions.ensures.links link)))))
@@ -99,7 +99,7 @@ returns-clause-at_end g c =
     c.devices_done-devices.ensures.served ends_are c.sessions_done-sessions.ensures.book
     c.sessions_done-sessions.ensures.served c.monitors_done-monitors.ensures.book c.monitors_done-monitors.ensures.served c.monitors_done-monitors.ensures.numbers whole refl
     (gate_served facts c.args.numbers.queue links door.gate door.full door.no_memory lacks door.seat _ _
-    c.requires.tended c.sessions_done-sessions.ensures.links (λ e. c.threads_lack-by_threads.ensures.door (c.was_out_of_memory-no_memory.ensures.threads (whole e))))
+    c.requires.tended c.sessions_done-sessions.ensures.links (λ e. c.threads_out_of_memory-by_threads.ensures.door (c.was_out_of_memory-no_memory.ensures.threads (whole e))))
     short
     (stamps_left g.D.Dials.first _ devices c.devices_done-devices.ensures.left c.requires.stamped)
 
@@ -128,10 +128,10 @@ returns-clause-cause g c =
       readers = λ e. record {
         devices_had = devices_had may sources _ _ _
             (devices_by _ _ g.J.HubNaming.terms c.part-book.result.book _ _ c.part-book.ensures.terms c.requires.ran) c.devices_done-devices.ensures.left
-            (c.threads_lack-by_threads.ensures.runs (c.was_out_of_memory-no_memory.ensures.threads (none e)));
+            (c.threads_out_of_memory-by_threads.ensures.runs (c.was_out_of_memory-no_memory.ensures.threads (none e)));
         sessions_had = sessions_had sources sinks _ _ _ _
             (sessions_ready _ _ c.args.numbers.queue _ _ c.args.ended.door.seat _ _ _ c.requires.tended c.part-book.ensures.sessions)
             c.sessions_done-sessions.ensures.links
-            (c.threads_lack-by_threads.ensures.links (c.was_out_of_memory-no_memory.ensures.threads (none e)));
+            (c.threads_out_of_memory-by_threads.ensures.links (c.was_out_of_memory-no_memory.ensures.threads (none e)));
       };
     }

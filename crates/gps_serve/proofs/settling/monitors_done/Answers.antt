@@ -2,7 +2,7 @@ use Rattle.std.proofs.Common.{refl, ◌∙◌, length, map, sym, ap, subst, arit
 use Rattle.std.specs.List.{AllZip}
 use Rattle.report_book.specs.BookView.{BookView}
 use Rattle.serve_end_parts.specs.declared.done.MonitorDone.{MonitorDone}
-use Rattle.gps_serve.specs.Served.{MonitorServed, watched_units}
+use Rattle.gps_serve.specs.Served.{MonitorServed, monitored}
 use Rattle.gps_serve.specs.Readies.{IsLeftOfWatch}
 use Rattle.serve_threads.proofs.Zips.{ran_begin, ran_end, ran_next}
 use Rattle.gps_serve.proofs.Monitors.{few_monitors, monitors_all, monitors_begin, monitors_count, next_monitor, next_served, none_left, numbers_all, numbers_more, same_book, some_left}
@@ -51,7 +51,7 @@ units-preserved g c = record {
   left_of = ran_next IsLeftOfWatch _ _ _ _ _ _ _ c.units.invariant.left_of c.next_of-watch.ensures c.compared.ensures.left c.push_reserved.ensures.items;
   numbers = numbers_more _ _ _ _ c.units.invariant.numbers c.compared.ensures.unit c.push_reserved.ensures.items;
   book = c.compared.ensures.book ∙ c.units.invariant.book;
-  all = c.units.invariant.all ∙ ap (λ (b : BookView). length (watched_units c.args.tries b.units)) (sym c.compared.ensures.book);
+  all = c.units.invariant.all ∙ ap (λ (b : BookView). length (monitored c.args.tries b.units)) (sym c.compared.ensures.book);
   count = omega (arith, c.push_reserved.ensures.len, c.units.invariant.count, ap length c.next_of-watch.ensures);
   room = omega (arith, c.push_reserved.ensures.capacity, c.units.invariant.room);
 }
@@ -61,7 +61,7 @@ returns-clause-book g c = c.units.invariant.book
 
 pub returns-clause-served : goal.returns-clause-served
 returns-clause-served g c =
-    let P : BookView → Type 0 = λ b. AllZip (MonitorServed c.args.tries c.args.no_memory) (watched_units c.args.tries b.units) c.units.done.items in
+    let P : BookView → Type 0 = λ b. AllZip (MonitorServed c.args.tries c.args.no_memory) (monitored c.args.tries b.units) c.units.done.items in
     let test = c.units-test.false in
     subst P c.units.invariant.book (monitors_all _ _ _ _ _ _ c.units.invariant.so_far (omega (arith, test, c.units.invariant.all)))
 

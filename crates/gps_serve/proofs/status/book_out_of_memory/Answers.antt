@@ -1,7 +1,7 @@
 use Rattle.std.proofs.Common.{◌∙◌, ◌≡◌, inl, inr, true, false, ap, sym, arith, rules}
 use Rattle.gps_serve.specs.Lost.{closed_out_of_memory}
 use Rattle.gps_serve.proofs.Lost.{cut_at, either, neither, none_before, none_cut, none_more}
-use Rattle.gps_serve.proofs.status.book_lacks.Goals as goal
+use Rattle.gps_serve.proofs.status.book_out_of_memory.Goals as goal
 
 pub sessions-init : goal.sessions-init
 sessions-init g c = record { all = search rules; kept = λ e. none_before _; cut = λ (e : false ≡ true). absurd cc }

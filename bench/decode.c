@@ -2,7 +2,8 @@
  *
  * It cuts sentences of NMEA 0183 and u-blox frames with right checksums out of standard input, reads GGA, RMC, GLL, GSA, GSV, VTG, ZDA,
  * NAV-PVT, NAV-SAT, NAV-DOP and NAV-EOE, groups them into epochs, and writes the same lines for the fixes and skies. Left out: the limit
- * of the history, and any care for hostile input (an epoch with many satellites takes quadratic time).
+ * of the history, and any care for hostile input (an epoch with many satellites takes quadratic time). At a failed read it writes the
+ * epoch that is open, too. tests/rows_c.py runs the rows of `decode` over it.
  */
 #include "decode_epochs.h"
 

@@ -16,7 +16,7 @@ In Markdown a block is marked by its info string `console`:
     ```
 
 A line `$ COMMAND` is run by bash, and what follows, up to the next one, is all that it must write on standard output and standard error
-(a carriage return at the end of a line is not shown). `...` alone on a line stands for any lines, also for none. A line `> REST` behind
+(a carriage return at the end of a line is not shown). `...` alone on a line stands for any lines, also for none. A line `> REST` after
 a command is its next row. The commands of a block run one after another in one shell, in a folder of their own with `samples/`, `tools/` and
 `examples/` of the repository and `gpsrelay` on PATH; what they leave in the background is ended with the block. Each must end with
 status 0. The comment before the block is not needed; it says, separated by blanks:
@@ -28,7 +28,7 @@ status 0. The comment before the block is not needed; it says, separated by blan
     serve="WORDS"           a daemon with these options and devices runs beside the block; a 2947 in a command is its port. The device word
                             NAME=feed:PATH is a FIFO that is given the bytes of PATH and stays open to the end of the block
 
-In a manual page (mdoc) a block is a `.Bd -literal` or a `.Dl` behind a comment `.\\" run` or `.\\" run: needs=jq`. A line there without `$ ` is
+In a manual page (mdoc) a block is a `.Bd -literal` or a `.Dl` after a comment `.\\" run` or `.\\" run: needs=jq`. A line there without `$ ` is
 a command too, whose status counts and whose output is not compared.
 """
 import glob
@@ -54,7 +54,7 @@ ESCAPES = {"\\e": "\\", "\\-": "-", "\\&": "", "\\(aq": "'", "\\(dq": '"', "\\(h
 
 
 class Block:
-    """A marked block: where it stands, what its comment says, and its commands, each with the lines that are shown of it (None if
+    """A marked block: where it is, what its comment says, and its commands, each with the lines that are shown of it (None if
     nothing is compared)."""
 
     def __init__(self, place, words):

@@ -98,7 +98,7 @@ def no_input():
 
 
 class Served:
-    """A daemon with one device behind TCP, and a client that watches in JSON from the beginning."""
+    """A daemon with one device over TCP, and a client that watches in JSON from the beginning."""
 
     def __init__(self):
         self.device = TcpDevice("g")
@@ -220,7 +220,7 @@ def is_read(path):
 
 def lose(daemon, device, readers):
     """Loses a device for lack of memory. Its sentences come one by one until only the threads of this number of readers, that of the
-    messages and the calling one are left, and nothing comes behind the last."""
+    messages and the calling one are left, and nothing comes after the last."""
     daemon.starve()
     for t in range(100):
         device.send(rmc(t))

@@ -11,7 +11,7 @@
     device.end()
     status, out = daemon.wait()
 
-`checks` counts the checks, `packets` makes what a receiver sends; both stand here too, so that one import does.
+`checks` counts the checks, `packets` makes what a receiver sends; both are here too, so that one import does.
 """
 import atexit
 import json
@@ -114,7 +114,7 @@ def reset_at_close(link):
 
 
 class TcpDevice:
-    """A receiver behind TCP: it accepts one connection and sends what it is given."""
+    """A receiver over TCP: it accepts one connection and sends what it is given."""
 
     def __init__(self, name="gps0"):
         self.name, self.link = name, None

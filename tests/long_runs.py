@@ -109,7 +109,7 @@ def sessions():
     reach(SESSIONS)
     check("100,000 clients are greeted", SESSIONS, greeted)
     print(f"        {greeted} clients within {time.monotonic() - begun:.0f} s, {tries + 1 - greeted} turned away before; "
-          f"{before / 1024:.1f} MB of memory before and {daemon.memory() / 1024:.1f} behind them", flush=True)
+          f"{before / 1024:.1f} MB of memory before and {daemon.memory() / 1024:.1f} after them", flush=True)
     check("the next is not", False, come_and_go(daemon, tries) or come_and_go(daemon, tries))
     check("it says that the last session is used", True, until(lambda: LAST in daemon.said(), 5))
     check("and that a client was turned away", True, until(lambda: come_and_go(daemon, tries) or AWAY in daemon.said(), 5))

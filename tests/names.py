@@ -27,7 +27,7 @@ PROOF_LINES = 500  # a file of lemmas, which nobody reads from its beginning to 
 ROWS = {}
 # Definitions with `get_or`, and functions of more than six arguments, by crate. These numbers only shrink.
 DEFAULTS = {"book_log": 3, "replay_monitors": 4, "replay_player": 1, "report_book": 4, "serve_door": 2, "serve_end_settling": 3, "session_runs": 1}
-ARGUMENTS = {"book_log": 3, "book_sessions": 2, "gps_decode": 1, "gps_serve": 7, "serve_door": 5, "serve_threads": 7, "serve_workers": 11}
+ARGUMENTS = {"book_log": 3, "book_sessions": 2, "gps_decode": 1, "gps_serve": 2, "serve_threads": 1, "serve_workers": 11}
 MOST_ARGUMENTS = 6
 # Words that these crates do not use in names, and what they say in their place: each word has another meaning somewhere else.
 RETIRED = [
@@ -220,7 +220,7 @@ class Words:
         return any({kind, call} <= words and any(meant.search(found[0]) for found in block.finditer(text)) for words, text in self.sources)
 
     def has(self, word):
-        """Whether what stands in backticks is there. What is no name at all (a command, a line of output, a number) is."""
+        """Whether what is in backticks is there. What is no name at all (a command, a line of output, a number) is."""
         if found := re.fullmatch(r"([A-Z]\w*)::(\w+)(?:\(\))?", word):
             return self.has_call(*found.groups())
         if IN_CRATE.fullmatch(word):

@@ -192,6 +192,7 @@ class Shell:
         self.pid, self.terminal = pty.fork()
         if self.pid == 0:
             os.chdir(place.home)
+            signal.signal(signal.SIGINT, signal.SIG_DFL)  # a shell in the background has it ignored, and Ctrl-C would end nothing
             os.execvpe("bash", ["bash", "--norc", "--noprofile", "--noediting", "-i"], environment)
         self.type("stty -echo; PS1= PS2= PROMPT_COMMAND='echo \"==status $?==\"'; echo rea''dy")
         if not self.shows(b"ready\r\n==status 0==", 0, WAIT):

@@ -61,7 +61,7 @@ frame() {
     bytes 181 98 "${inner[@]}" $a $b
 }
 
-# pvt SECOND LONGITUDE LATITUDE HEIGHT SPEED TRACK FIX: a NAV-PVT of 2024-06-01, 12 h, its NAV-EOE behind it
+# pvt SECOND LONGITUDE LATITUDE HEIGHT SPEED TRACK FIX: a NAV-PVT of 2024-06-01, 12 h, its NAV-EOE after it
 pvt() {
     frame 1 7 $(word 4 $((1000 * $1))) $(word 2 2024) 6 1 12 $(($1 / 60)) $(($1 % 60)) 3 $(word 4 0) $(word 4 0) "$7" $(($7 > 1)) 0 8 \
         $(word 4 "$2") $(word 4 "$3") $(word 4 $(($4 + 47000))) $(word 4 "$4") $(word 8 0) $(word 4 0) $(word 4 0) $(word 4 -300) \

@@ -31,7 +31,7 @@ same 'two devices, the last line without its end' "$wanted"
 status=$?
 same 'two devices, in pieces through a pipe' "$wanted"
 
-# What a script did before a refused line stays, and nothing comes behind it.
+# What a script did before a refused line stays, and nothing comes after it.
 refused() {
     run replay
     check "$1: status" 6 "$status"
@@ -49,7 +49,7 @@ version='s0 {"class":"VERSION","release":"gpsrelay-1","rev":"1","proto_major":3,
 # many N TEXT: the text N times
 many() { local all; printf -v all '%*s' "$1" ''; printf '%s' "${all// /$2}"; }
 
-# Each of these lines, behind four good ones, of which the last takes an item, is refused.
+# Each of these lines, after four good ones, of which the last takes an item, is refused.
 wrong=''
 while IFS= read -r line; do
     printf '%s\n' 'device g' 'monitor 0 0' 'open 0' 'take 0 1' "$line" 'take 0 1' >"$place/in"
@@ -120,7 +120,7 @@ $(many 4097 x)
 END
 check 'lines that are refused' '' "$wrong"
 
-# Each of these is refused behind an event that ended what it speaks of.
+# Each of these is refused after an event that ended what it speaks of.
 wrong=''
 while IFS=/ read -r event line; do
     printf '%s\n' 'device g' 'open 0' "$event" "$line" >"$place/in"
@@ -138,7 +138,7 @@ hang 0/hang 0
 END
 check 'lines on what has ended' '' "$wrong"
 
-# Declarations that are refused: each line is one script, / stands for its line ends.
+# Declarations that are refused: each line is one script, / is written for its line ends.
 wrong=''
 while IFS= read -r declared; do
     tr / '\n' <<<"$declared" >"$place/in"

@@ -128,7 +128,7 @@ VIEWS = [decoded(sentence(body), sky("", [f'"PRN":{prn},"el":40,"az":83,"ss":46,
 
 
 def pvt(at_byte, data, line):
-    """A NAV-PVT in which these bytes stand at this place, and its line."""
+    """A NAV-PVT that has these bytes at this place, and its line."""
     return decoded(frame(1, 7, PVT[:at_byte] + data + PVT[at_byte + len(data):]), line)
 
 
@@ -233,7 +233,7 @@ EPOCHS = [
             height_fix(None)),
 ]
 
-# What is broken gives nothing, and what stands in it or behind it is found, or is waited for.
+# What is broken gives nothing, and what is in it or after it is found, or is waited for.
 BROKEN = [
     decoded(RMC[:-3] + b"B\r\n"),
     decoded(RMC[:-1]),

@@ -1,4 +1,4 @@
-"""Reads and writes that fail behind an exact count of bytes, and reads that bring nothing, over the built program."""
+"""Reads and writes that fail after an exact count of bytes, and reads that bring nothing, over the built program."""
 import fcntl
 import os
 import resource
@@ -54,8 +54,8 @@ FIRST = shown(0, VERSION)
 DRAINED = b"s0 drained daemonend 1\n"
 
 
-def rows(program):
-    """Each row: its name, what is wanted, and what was found."""
+def rows(program, commands=("decode", "pseudo", "lines", "replay")):
+    """Each row of these commands: its name, what is wanted, and what was found."""
     for name, words, given, wanted in (
             # The epoch that is open at a failed read is not written; one that a NAV-EOE closed was.
             ("decode, a sentence", ["decode"], RMC, (3, b"")),
@@ -64,23 +64,24 @@ def rows(program):
             ("decode, an epoch of frames", ["decode"], PVT_FRAME + EOE_FRAME, (3, PVT_LINE)),
             ("decode, nothing", ["decode"], b"", (3, b"")),
             ("pseudo, a sentence", ["pseudo"], RMC, (3, b"")),
-            # A line that is refused comes before the failed read behind it; one that has not ended does not.
+            # A line that is refused comes before the failed read after it; one that has not ended does not.
             ("lines, a bad line", ["lines"], FIX + b"{\n" + FIX, (6, b"bad line 2\n")),
             ("lines, a line that has not ended", ["lines"], FIX + b"{", (3, b"")),
             ("lines, a good line", ["lines"], FIX, (3, b"")),
     ):
-        yield f"a read fails: {name}", wanted, read_fails(program, words, given)
-    for count in range(len(SCRIPT) + 1):
+        if words[0] in commands:
+            yield f"a read fails: {name}", wanted, read_fails(program, words, given)
+    for count in range(len(SCRIPT) + 1) if "replay" in commands else ():
         wanted = (3, b"") if count < 16 else (3, FIRST) if count < len(SCRIPT) else (6, FIRST + b"bad line 3\n")
         found = read_fails(program, ["replay"], SCRIPT[:count])
         if found != wanted or count == len(SCRIPT):
-            yield f"a read fails: replay, behind each of {len(SCRIPT)} bytes", (count, wanted), (count, found)
-    yield "reads bring nothing: decode", (3, FIX), reads_bring_nothing(program, ["decode"], RMC + MIDNIGHT)
-    yield "reads bring nothing: lines", (3, b""), reads_bring_nothing(program, ["lines"], FIX)
-    for name, words, given, whole in (("decode", ["decode"], RMC, FIX), ("replay", ["replay"], SCRIPT[:16], FIRST + DRAINED),
-                                      ("lines", ["lines"], FIX, COUNT)):
-        for most in range(len(whole) + 1):
+            yield f"a read fails: replay, after each of {len(SCRIPT)} bytes", (count, wanted), (count, found)
+    for command, given, wanted in (("decode", RMC + MIDNIGHT, (3, FIX)), ("lines", FIX, (3, b""))):
+        if command in commands:
+            yield f"reads bring nothing: {command}", wanted, reads_bring_nothing(program, [command], given)
+    for command, given, whole in (("decode", RMC, FIX), ("replay", SCRIPT[:16], FIRST + DRAINED), ("lines", FIX, COUNT)):
+        for most in range(len(whole) + 1) if command in commands else ():
             wanted = (0 if most == len(whole) else 4), whole[:most]
-            found = write_fails(program, words, given, most)
+            found = write_fails(program, [command], given, most)
             if found != wanted or most == len(whole):
-                yield f"a write fails: {name}, behind each of {len(whole)} bytes", (most, wanted), (most, found)
+                yield f"a write fails: {command}, after each of {len(whole)} bytes", (most, wanted), (most, found)

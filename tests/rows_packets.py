@@ -47,7 +47,7 @@ STREAMS = (
 
 
 def first(text, length=None):
-    """The packet of this length that a text begins with, if it begins with one; what comes behind it is none."""
+    """The packet of this length that a text begins with, if it begins with one; what comes after it is none."""
     return brought([(0, text)], [] if length is None else [(0, text[:length])])
 
 
@@ -63,7 +63,7 @@ SENTENCES = [
     first(b"$" + 124 * b"A" + b"*00\n"),
 ]
 
-# None of these is the beginning of a sentence, so what stands behind it is found.
+# None of these is the beginning of a sentence, so what comes after it is found.
 OTHERS = [brought([(0, text + RMC)], [(0, RMC)]) for text in (
     b"GPGLL", b"$A*40\r\n", b"$*00\r\n", b"$A$GPGLL", b"$A\x1f*5E\r\n", b"$A\x7f*3E\r\n", b"$A**", b"$A*g", b"$A*4:", b"$A*41\r\r", b"$A*41 ",
     b"$" + 127 * b"A", b"", b"$", b"$GPGLL,49", b"$A*", b"$A*F", b"$A*00", b"$A*00\r")]
@@ -102,7 +102,7 @@ PULSES = (
     + pulses(False, [f"assert 99.000000000#{LAST}"], (100, 0))
     + pulses(True, [f"assert 99.000000000#{LAST}"], (99, 999999999))
     + pulses(False, [f"assert 99.000000000#{LAST}"], (99, 0))
-    # The edge before stands 990,000,000 and 1,010,000,000 ns away, and one beyond each.
+    # The edge before is 990,000,000 and 1,010,000,000 ns away, and one beyond each.
     + pulses(True, [f"assert 99.010000000#{LAST}"], (99, 1)) + pulses(False, [f"assert 99.010000001#{LAST}"], (99, 1))
     + pulses(True, [f"assert 98.990000000#{LAST}"], (99, 1)) + pulses(False, [f"assert 98.989999999#{LAST}"], (99, 1))
     # A clear edge between the two changes nothing.

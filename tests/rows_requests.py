@@ -66,7 +66,7 @@ LENGTHS = [
     sent([b"?WATCH={" + 492 * b" ", 500 * b" ", b";"], MALFORMED),
     sent([500 * b"x", 500 * b"x", 30 * b"x" + b"\n", b"?VERSION;\n"], TOO_LONG, VERSION),
     sent([500 * b"x", 500 * b"x", 30 * b"x", b";\n", b"?VERSION;\n"], TOO_LONG, VERSION),
-    # The line feed that is the 1,025th byte stands in a string.
+    # The line feed that is the 1,025th byte is in a string.
     sent([b'"' + 511 * b"x", 512 * b"x", b"\n?POLL;"], TOO_LONG, NO_POLL),
     sent([512 * b"x", 512 * b"x", b";?DEVICES\n"], UNKNOWN, NO_DEVICES),
     sent([bytes([byte]) for byte in 1030 * b"x" + b"\n?VERSION;\n"], TOO_LONG, VERSION),

@@ -11,7 +11,7 @@ ACTIVE, ENDED = device("g", ONE), device("g")
 
 
 def script(*lines):
-    """Lines as texts, or as a pair: an event's words and the sentence behind them."""
+    """Lines as texts, or as a pair: an event's words and the sentence after them."""
     return b"".join((line[0].encode() + b" " + line[1].rstrip(b"\r\n") if isinstance(line, tuple) else line.encode()) + b"\n" for line in lines)
 
 

@@ -7,7 +7,7 @@ def sentences(*bodies):
 
 
 def fix(mode, members="", device="stdin"):
-    """A TPV line; the members stand behind the mode, each with its comma before it."""
+    """A TPV line; the members come after the mode, each with its comma before it."""
     return f'{{"class":"TPV","device":"{device}","mode":{mode}{members}}}\r\n'.encode()
 
 
@@ -17,7 +17,7 @@ def at(text):
 
 
 def sky(members, satellites=(), used=0, device="stdin"):
-    """A SKY line; each of the members has its comma behind it."""
+    """A SKY line; each of the members has its comma after it."""
     seen = ",".join(f"{{{it}}}" for it in satellites)
     return (f'{{"class":"SKY","device":"{device}",{members}"nSat":{len(satellites)},"uSat":{used},'
             f'"satellites":[{seen}]}}\r\n').encode()

@@ -231,7 +231,7 @@ def devices():
 
 
 def bursts():
-    """Bursts that fill a lane many times over, each with silence behind it: a worker that calls its lanes empty too early leaves the rest."""
+    """Bursts that fill a lane many times over, each with silence after it: a worker that calls its lanes empty too early leaves the rest."""
     daemon, device = started()
     watcher, asker = daemon.client(), daemon.client()
     watcher.watching('{"nmea":true}')

@@ -18,7 +18,7 @@ from service_stops import stop_after_fault, stop_at_once, stop_connecting, stop_
 from service_tools import PROGRAM, SOON, Service, Watched, Watcher, freeze
 
 BURST = 128       # links that are taken at once
-PACE = 10         # links a second behind them
+PACE = 10         # links a second after them
 NONE_LEFT = "has no file descriptor left: raise LimitNOFILE"
 
 

@@ -64,7 +64,7 @@ class Soak:
                 receiver.feed(10)
 
     def feed_slowly(self, receiver):
-        """A pulse at each whole second, and the sentences of that second 0.3 s behind it."""
+        """A pulse at each whole second, and the sentences of that second 0.3 s after it."""
         at = int(time.time()) + 1
         while not self.halt.wait(max(0, at - time.time())):
             number = self.pulses_told + 1
@@ -154,7 +154,7 @@ class Soak:
         within("the history turned", turns > 2, turns)
         print(f"        {[it.fed for it in self.receivers]} seconds fed, {turns:.0f} turns, {self.sessions.opened} sessions, "
               f"{sum(it.changes for it in self.clients)} changes of policy, {sum(it.lines for it in self.clients)} items checked, "
-              f"{closing.pulses} pulses; memory in KB at the beginning, before the guests, behind them, and {seconds} seconds later: {memory}; "
+              f"{closing.pulses} pulses; memory in KB at the beginning, before the guests, after them, and {seconds} seconds later: {memory}; "
               f"{time.monotonic() - self.begun:.1f} s", flush=True)
 
 

@@ -217,10 +217,10 @@ class SoakClient(threading.Thread):
         at, track = (int(found[1]), int(found[2])), self.tracks["gps1"]
         if self.pulse and (at[0] <= self.pulse[0] or at[1] <= self.pulse[1]):
             return "a PPS that does not rise"
-        # Its reference is the second after the last TOFF; between that TOFF and the PPS other items of the device may stand.
+        # Its reference is the second after the last TOFF; between that TOFF and the PPS other items of the device may come.
         if track.last is not None and 3 in track.places:
             k = track.last // 6 - (track.last % 6 < 3)
             if at[0] != BEGIN + k + 1:
-                return f"a PPS of another second than that behind {k}"
+                return f"a PPS of another second than that after {k}"
         self.pulse = at
         return None

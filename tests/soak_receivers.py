@@ -71,7 +71,7 @@ class Receiver(TcpDevice):
 class Sentences(Receiver):
     """The RMC, the TPV and the SKY of the second before, the TOFF, the GGA and the GSV."""
     KINDS, EARLY = ("nmea", "json", "json", "pps", "nmea", "nmea"), (1, 2)
-    LEFT = 2  # the last item that the end gives stands this far behind the seconds that were fed
+    LEFT = 2  # the last item that the end gives is this far behind the seconds that were fed
 
     def __init__(self, name, talker, satellites, system):
         super().__init__(name)

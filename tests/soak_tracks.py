@@ -1,4 +1,4 @@
-"""What a client of a soak has asked for, and where it stands in each device's history: each item is held against what is due."""
+"""What a client of a soak has asked for, and where it is in each device's history: each item is held against what is due."""
 import calendar
 import re
 import time
@@ -48,15 +48,15 @@ class Policy:
 
 
 class Track:
-    """Where a client stands in one device's history. `low` and `high` hold the place of the last change of policy: behind the one,
-    not behind the other."""
+    """Where a client is in one device's history. `low` and `high` hold the place of the last change of policy: after the one,
+    not after the other."""
 
     def __init__(self, receiver):
         self.receiver, self.places, self.raw = receiver, (), 0
         self.last, self.low, self.high, self.clock, self.over = None, -1, FAR, 0, False
 
     def following(self, places, at):
-        """The first selected item at or behind `at`."""
+        """The first selected item at or after `at`."""
         if not places:
             return FAR
         k, n = divmod(at, 6)

@@ -201,7 +201,7 @@ class Fake:
 
 
 def bad_answer(wanted, seconds, port):
-    """A daemon behind what stands at this port must lose that device with this message, and serve its other one on: what is found of both."""
+    """A daemon behind what listens at this port must lose that device with this message, and serve its other one on: what is found of both."""
     other = TcpDevice("own")
     begun = time.monotonic()
     daemon = behind(port, words=[other.word])

@@ -22,7 +22,7 @@ TPV = (b'{"class":"TPV","device":"stdin","mode":2,"time":"1994-03-23T12:35:19.00
 
 NINE = " ".join(f"g{n}=file:/dev/null" for n in range(9))
 
-# Words that are refused, and a text that must stand behind the usage line.
+# Words that are refused, and a text that must come after the usage line.
 REFUSED = [
     ("frob", "frob: no such command"),
     ("decod", "decod: no such command; did you mean decode?"),
@@ -171,7 +171,7 @@ def says(name, text, errors):
 
 
 def refused(words, *texts):
-    """The words are refused: nothing on standard output, the usage line first, and these texts behind it."""
+    """The words are refused: nothing on standard output, the usage line first, and these texts after it."""
     status, out, errors = run(words, RMC)
     first, _, rest = errors.partition("\n")
     check(f"{words!r}: status, output and usage line", (2, b"", USAGE), (status, out, first))

@@ -1,5 +1,5 @@
 #!/usr/bin/env python3
-"""How the program's lines are written: few large writes while input stands ready, and all that is due before the program waits for input.
+"""How the program's lines are written: few large writes while input is ready, and all that is due before the program waits for input.
 
 Use: writes.py PROGRAM. Prints a line for each check, and ends with 1 if one fails. The counts of writes need strace; without it they are
 skipped, with a line that says so.

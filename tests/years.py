@@ -27,7 +27,7 @@ def second(t):
 
 
 class Daemon(harness.Daemon):
-    """A daemon that is started behind the words of a shell, if there are any. It may say nothing, so its clients try until it listens."""
+    """A daemon that is started after the words of a shell, if there are any. It may say nothing, so its clients try until it listens."""
 
     def __init__(self, *words, shell="", **how):
         self.shell = shell

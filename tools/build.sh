@@ -3,9 +3,9 @@
 #
 # Use: tools/build.sh [--unproved]
 #
-# Without an option it proves the program and builds it from what is proved, as crates/gpsrelay/out/gpsrelay. That takes some
-# 40 minutes on four processors and some 75 on two. If it is ended early, the next call goes on where it was. Then the program decodes
-# the recorded drive of samples/, and says how many lines of each class that gave.
+# Without an option it proves the program and builds it from what is proved, as crates/gpsrelay/out/gpsrelay. That takes about an hour
+# on four processors; the gate's whole run is in docs/LESSONS.md. If it is ended early, the next call goes on where it was. Then the
+# program decodes the recorded drive of samples/, and says how many lines of each class that gave.
 #
 # --unproved builds it without any proof, as out/unproved/gpsrelay, in some three minutes. `gpsrelay --version` then says
 # that it is built without proof. It has checks of its own and is slower.
@@ -40,7 +40,7 @@ if [ -n "$unproved" ]; then
     echo "Building without proof: some three minutes ..."
     exec python3 "$top/tools/build_unproved.py" "$top/out/unproved/gpsrelay"
 fi
-echo "Proving and building: some 40 minutes on four processors, some 75 on two; less if parts of it are proved already ..."
+echo "Proving and building: about an hour on four processors (the gate's whole run is in docs/LESSONS.md), less if parts of it are proved already ..."
 cd "$top/crates/gpsrelay"
 rt run -- decode </dev/null
 echo "$PWD/out/gpsrelay: built from what is proved"

@@ -357,7 +357,7 @@ def keep_following(words, targets):
 # The program
 
 def address_of(text):
-    """(host, port) of HOST:PORT; a host with colons stands in brackets."""
+    """(host, port) of HOST:PORT; a host with colons is in brackets."""
     host, colon, port = text.rpartition(":")
     if not colon or not re.fullmatch(r"[0-9]{1,5}", port) or not 0 < int(port) <= 65_535:
         raise argparse.ArgumentTypeError(f"{text} is no HOST:PORT")

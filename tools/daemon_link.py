@@ -4,14 +4,14 @@ import socket
 import time
 
 WATCH = b'?WATCH={"json":true};\n'
-GREETING = b'"class":"VERSION"'  # stands in the line that a daemon sends before it has read anything
+GREETING = b'"class":"VERSION"'  # is in the line that a daemon sends before it has read anything
 LONGEST_LINE = 1_048_576  # bytes; a longer one is passed over
 FIRST_PAUSE, LONGEST_PAUSE = 0.25, 3.0  # seconds before a daemon that is gone is tried again
 SETTLED = 5.0  # seconds after which a link that ends was a good one: the next pause is the first one again
 
 
 def address_of(text):
-    """(host, port) of HOST:PORT; a host with colons stands in brackets."""
+    """(host, port) of HOST:PORT; a host with colons is in brackets."""
     host, colon, port = text.rpartition(":")
     if not colon or not port.isdecimal() or int(port) > 65_535:
         raise argparse.ArgumentTypeError(f"{text} is no HOST:PORT")
@@ -24,7 +24,7 @@ def address_words(host, port):
 
 def daemon_lines(address, tell, over=lambda: False, fails=lambda why: None):
     """The lines of a daemon, which it is asked for by WATCH; from one link after another, until `over()`. `tell` is called with True at the
-    first line of a link behind the greeting, since the daemon has taken the WATCH then and sends all that comes from there on, and with False
+    first line of a link after the greeting, since the daemon has taken the WATCH then and sends all that comes from there on, and with False
     when such a link has ended. `fails` is called once, with the reason, if no link had such a line yet. A daemon that is gone, or takes no
     client, is tried again after a pause, which is doubled each time up to the longest one."""
     pause, told = FIRST_PAUSE, False

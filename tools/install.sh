@@ -108,7 +108,7 @@ choose_program() {
         program=$proved
         if [ ! -e "$program" ]; then
             [ ! -e "$without" ] || say "there is a program that was built without proof: --unproved installs it"
-            refuse 1 "nothing is built yet: tools/build.sh proves and builds (some 40 minutes on four processors), tools/build.sh --unproved only builds (some three minutes)"
+            refuse 1 "nothing is built yet: tools/build.sh proves and builds (about an hour on four processors; the gate's whole run is in docs/LESSONS.md), tools/build.sh --unproved only builds (some three minutes)"
         fi
     fi
     local given=$program

@@ -37,7 +37,7 @@ class Over(Exception):
 
 
 def address_of(text):
-    """(host, port) of HOST:PORT; a host with colons stands in brackets."""
+    """(host, port) of HOST:PORT; a host with colons is in brackets."""
     host, colon, port = text.rpartition(":")
     if not colon or not port.isdecimal() or not 0 < int(port) <= 65_535:
         raise argparse.ArgumentTypeError(f"{text} is no HOST:PORT")

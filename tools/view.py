@@ -3,7 +3,7 @@
 
     view.py [HOST:PORT] [--listen HOST:PORT]
 
-It is a client of the daemon (127.0.0.1:2947 unless told otherwise), and serves the page view.html, which stands beside it,
+It is a client of the daemon (127.0.0.1:2947 unless told otherwise), and serves the page view.html, which is beside it,
 at http://127.0.0.1:8947/. The page asks this program alone, by HTTP and server-sent events; /track.gpx is the track as GPX.
 Whoever can reach the address of --listen sees where the receiver is: there is no password. A daemon that is gone is tried
 again, after a pause of at most 3 seconds. Ctrl-C ends it.

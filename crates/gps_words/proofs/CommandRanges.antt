@@ -2,17 +2,16 @@
 use Rattle.std.proofs.Common.{◌≡◌, ◌≤◌, ◌&&◌, ℕ, Bool, true, false, nat_le, cond, refl, subst, sym, ap, codes, arith, List, [], ◌∷◌, Option, Some, None, inl, inr, option_map, option_and_then}
 use Rattle.std.proofs.lemmas.Bool.{and_parts}
 use Rattle.std.proofs.Common.{leb-true}
-use Rattle.clap.specs.Simple.{App, matches_of}
+use Rattle.clap.specs.Simple.{matches_of}
 use Rattle.clap.specs.Walk.{Row, Text, first_of}
 use Rattle.gps_words.specs.Asked.{asked_of, kind_named, read_as}
 use Rattle.std.specs.Str.{bytes_eq}
-use Rattle.gps_words.specs.Decode.{bytes_in, bytes_or, bytes_within, decode_app, decode_in, decode_of}
-use Rattle.gps_words.specs.Generate.{generate_app, generate_in, generate_of, seed_in, size_in}
-use Rattle.gps_words.specs.Lines.{lines_app, lines_in, lines_of}
+use Rattle.gps_words.specs.Decode.{bytes_in, bytes_or, bytes_within}
+use Rattle.gps_words.specs.Forms.{app_for, line_in}
+use Rattle.gps_words.specs.Generate.{generate_in, seed_in, size_in}
 use Rattle.gps_words.specs.Numbers.{digits_after, is_number_text, number_in}
 use Rattle.gps_words.specs.Options.{are_taken, read_by}
-use Rattle.gps_words.specs.Pseudo.{pseudo_app, pseudo_in, pseudo_of}
-use Rattle.gps_words.specs.Replay.{history_in, queue_in, replay_app, replay_in, replay_of}
+use Rattle.gps_words.specs.Replay.{history_in, queue_in, replay_in}
 use Rattle.gps_words.specs.Within.{IsBytes, IsHistory, IsInRange, IsQueue}
 use Rattle.gps_words.specs.declared.choice.Kind.{Kind}
 use Rattle.gps_words.specs.declared.choice.Kind.TheVariants as kind
@@ -58,39 +57,23 @@ by_two make None p c range is = absurd (cc)
 by_two make (Some n) None c range is = absurd (cc)
 by_two make (Some n) (Some m) c range is = subst (λ d. IsInRange d) (some_is (make n m) c is) (range n m refl refl)
 
-read : (app : App) (reads : List Row → Option CommandLine) (words : List Text) (c : CommandLine) → ((rows : List Row) → reads rows ≡ Some c → IsInRange c)
-    → read_by app reads words ≡ Some c → IsInRange c
-unfolding read_by
-read app reads words c range is = range (matches_of app words) (chosen_some (are_taken app words) (reads (matches_of app words)) c is)
-
-decoded : (words : List Text) (c : CommandLine) → decode_of words ≡ Some c → IsInRange c
-decoded words c is = read decode_app decode_in words c (λ rows at. by_one (λ h. Decode h) (bytes_in rows) c (bytes_range rows) at) is
-
-pseudo_done : (words : List Text) (c : CommandLine) → pseudo_of words ≡ Some c → IsInRange c
-pseudo_done words c is = read pseudo_app pseudo_in words c (λ rows at. by_one (λ h. Pseudo h) (bytes_in rows) c (bytes_range rows) at) is
-
-replayed : (words : List Text) (c : CommandLine) → replay_of words ≡ Some c → IsInRange c
-unfolding replay_in
-replayed words c is =
-    read replay_app replay_in words c
-    (λ rows at. by_two (λ h q. Replay h q) (history_in rows) (queue_in rows) c (λ h q f g. (history_range rows h f, queue_range rows q g)) at) is
-
-generated : (words : List Text) (c : CommandLine) → generate_of words ≡ Some c → IsInRange c
-unfolding generate_in
-generated words c is =
-    read generate_app generate_in words c
-    (λ rows at. by_two (λ s n. Generate s n) (seed_in rows) (size_in rows) c (λ s n f g. size_range (first_of (codes "size") rows) n g) at) is
-
-counted : (words : List Text) (c : CommandLine) → lines_of words ≡ Some c → IsInRange c
-counted words c is = read lines_app lines_in words c (λ rows at. subst (λ d. IsInRange d) (some_is Lines c at) tt) is
+-- what each command's options ask for
+line_range : (k : Kind) (rows : List Row) (c : CommandLine) → line_in k rows ≡ Some c → IsInRange c
+unfolding line_in replay_in generate_in
+line_range kind.Decode rows c is = by_one (λ h. Decode h) (bytes_in rows) c (bytes_range rows) is
+line_range kind.Pseudo rows c is = by_one (λ h. Pseudo h) (bytes_in rows) c (bytes_range rows) is
+line_range kind.Replay rows c is =
+    by_two (λ h q. Replay h q) (history_in rows) (queue_in rows) c (λ h q f g. (history_range rows h f, queue_range rows q g)) is
+line_range kind.Generate rows c is =
+    by_two (λ s n. Generate s n) (seed_in rows) (size_in rows) c (λ s n f g. size_range (first_of (codes "size") rows) n g) is
+line_range kind.Lines rows c is = subst (λ d. IsInRange d) (some_is Lines c is) tt
 
 by_kind : (k : Option Kind) (words : List Text) (c : CommandLine) → read_as k words ≡ Some c → IsInRange c
+unfolding read_by
 by_kind None words c is = absurd (cc)
-by_kind (Some kind.Decode) words c is = decoded words c is
-by_kind (Some kind.Pseudo) words c is = pseudo_done words c is
-by_kind (Some kind.Replay) words c is = replayed words c is
-by_kind (Some kind.Generate) words c is = generated words c is
-by_kind (Some kind.Lines) words c is = counted words c is
+by_kind (Some k) words c is =
+    let rows = matches_of (app_for k) words in
+    line_range k rows c (chosen_some (are_taken (app_for k) words) (line_in k rows) c is)
 
 pub in_range : (words : List Text) (c : CommandLine) → asked_of words ≡ Some c → IsInRange c
 in_range [] c is = absurd (cc)

@@ -7,19 +7,33 @@ use Rattle.clap.specs.Simple.{App, HasMatchesOf, is_simple, matches_of}
 use Rattle.clap.specs.Values.{kind_of}
 use Rattle.clap.specs.Walk.{Row, Text, rows_of}
 use Rattle.clap.specs.declared.error.Error.{Error}
-use Rattle.clap.specs.declared.error.kind.ErrorKind.TheVariants as kind
+use Rattle.clap.specs.declared.error.kind.ErrorKind.TheVariants as error
 use Rattle.clap.specs.declared.parser.matches.ArgMatches.{ArgMatches}
+use Rattle.gps_words.specs.Forms.{app_for}
 use Rattle.gps_words.specs.Options.{are_taken, is_no_kind, read_by}
+use Rattle.gps_words.specs.declared.choice.Kind.{Kind}
+use Rattle.gps_words.specs.declared.choice.Kind.TheVariants as kind
 
 first_true : (a b : Bool) → (a && b) ≡ true → a ≡ true
 first_true true b e = refl
 first_true false b e = e
 
+each_simple : (k : Kind) → is_simple_and_free (app_for k) ≡ true
+unfolding app_for
+each_simple kind.Decode = refl
+each_simple kind.Pseudo = refl
+each_simple kind.Replay = refl
+each_simple kind.Generate = refl
+each_simple kind.Lines = refl
+
+pub form_is_simple : (k : Kind) (app : App) → app ≡ app_for k → is_simple_and_free app ≡ true
+form_is_simple k app is = ap (λ a. is_simple_and_free a) is ∙ each_simple k
+
 pub rows_in : (app : App) (words : List Text) (m : ArgMatches) → is_simple_and_free app ≡ true
     → HasMatchesOf app words m → rows_of (found_of m) ≡ matches_of app words
 rows_in app words m simple has = (has (first_true (is_simple app) _ simple)).0
 
-pub kinds_found : (kinds : Kinds) (e : Error) → (kind_of e ≡ kind.OutOfMemory → ⊥) → HasKind kinds e
+pub kinds_found : (kinds : Kinds) (e : Error) → (kind_of e ≡ error.OutOfMemory → ⊥) → HasKind kinds e
     → is_no_kind kinds ≡ false
 kinds_found [] e other has = elim has [ inl memory ↦ absurd (other memory) | inr among ↦ absurd among ]
 kinds_found (k ∷ kinds) e other has = refl

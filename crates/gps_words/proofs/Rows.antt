@@ -10,6 +10,7 @@ use Rattle.gps_fixed.specs.Scaled.{whole_of}
 use Rattle.gps_fixed.specs.Numeral.{numeral}
 use Rattle.gps_words.specs.Devices.{devices_in, devices_of, edges_end_names, edges_for, halves, is_address, is_port, last_colon, target_in, target_of, word_in, words_in}
 use Rattle.gps_words.specs.Generate.{generate_in}
+use Rattle.gps_words.specs.Forms.{app_for, line_in}
 use Rattle.gps_words.specs.Options.{read_by}
 use Rattle.gps_words.specs.Replay.{replay_in}
 use Rattle.gps_words.specs.Serve.{Serve, numbers_in, serve_asked_of, serve_in}
@@ -17,6 +18,11 @@ use Rattle.gps_words.specs.declared.command.CommandLine.{CommandLine}
 use Rattle.gps_words.specs.declared.command.CommandLine.TheVariants.{Decode, Generate, Lines, Pseudo, Replay}
 use Rattle.gps_words.specs.declared.device.Input.TheVariants.{File, Tcp, Gpsd}
 use Rattle.gps_words.specs.declared.serve.ServeNumbers.{ServeNumbers}
+
+-- what computes the command of words that are written out
+unfoldable asked_on_literals : ⊤
+unfolding kind_named app_for line_in read_by digits_after bytes_within replay_in generate_in
+asked_on_literals = tt
 
 abbrev decode_with : List Text → Option CommandLine
 decode_with words = asked_of (codes "decode" ∷ words)
@@ -33,103 +39,103 @@ unfolding kind_named
 begun_word = refl
 
 alone : decode_with [] ≡ Some (Decode 16_777_216)
-unfolding clap_on_literals kind_named read_by digits_after bytes_within
+unfolding clap_on_literals asked_on_literals
 alone = refl
 
 value_behind : decode_with (codes "--history" ∷ codes "69" ∷ []) ≡ Some (Decode 69)
-unfolding clap_on_literals kind_named read_by digits_after bytes_within
+unfolding clap_on_literals asked_on_literals
 value_behind = refl
 
 value_after_equals : decode_with (codes "--history=5" ∷ []) ≡ Some (Decode 5)
-unfolding clap_on_literals kind_named read_by digits_after bytes_within
+unfolding clap_on_literals asked_on_literals
 value_after_equals = refl
 
 ten_digits : decode_with (codes "--history" ∷ codes "0000000070" ∷ []) ≡ Some (Decode 70)
-unfolding clap_on_literals kind_named read_by digits_after bytes_within
+unfolding clap_on_literals asked_on_literals
 ten_digits = refl
 
 most : decode_with (codes "--history" ∷ codes "33554432" ∷ []) ≡ Some (Decode 33_554_432)
-unfolding clap_on_literals kind_named read_by digits_after bytes_within
+unfolding clap_on_literals asked_on_literals
 most = refl
 
 over_most : decode_with (codes "--history" ∷ codes "33554433" ∷ []) ≡ None
-unfolding clap_on_literals kind_named read_by digits_after bytes_within
+unfolding clap_on_literals asked_on_literals
 over_most = refl
 
 nought : decode_with (codes "--history" ∷ codes "0" ∷ []) ≡ None
-unfolding clap_on_literals kind_named read_by digits_after bytes_within
+unfolding clap_on_literals asked_on_literals
 nought = refl
 
 all : decode_with (codes "--history" ∷ codes "all" ∷ []) ≡ Some (Decode 9_223_372_036_854_775_807)
-unfolding clap_on_literals kind_named read_by digits_after bytes_within
+unfolding clap_on_literals asked_on_literals
 all = refl
 
 all_of_pseudo : asked_of (codes "pseudo" ∷ codes "--history=all" ∷ []) ≡ Some (Pseudo 9_223_372_036_854_775_807)
-unfolding clap_on_literals kind_named read_by digits_after bytes_within
+unfolding clap_on_literals asked_on_literals
 all_of_pseudo = refl
 
 all_of_replay : asked_of (codes "replay" ∷ codes "--history=all" ∷ []) ≡ None
-unfolding clap_on_literals kind_named read_by digits_after replay_in
+unfolding clap_on_literals asked_on_literals
 all_of_replay = refl
 
 eleven_digits : decode_with (codes "--history" ∷ codes "00000000070" ∷ []) ≡ None
-unfolding clap_on_literals kind_named read_by digits_after bytes_within
+unfolding clap_on_literals asked_on_literals
 eleven_digits = refl
 
 with_plus : decode_with (codes "--history" ∷ codes "+5" ∷ []) ≡ None
-unfolding clap_on_literals kind_named read_by digits_after bytes_within
+unfolding clap_on_literals asked_on_literals
 with_plus = refl
 
 with_minus : decode_with (codes "--history" ∷ codes "-5" ∷ []) ≡ None
-unfolding clap_on_literals kind_named read_by digits_after bytes_within
+unfolding clap_on_literals asked_on_literals
 with_minus = refl
 
 no_value : decode_with (codes "--history" ∷ []) ≡ None
-unfolding clap_on_literals kind_named read_by digits_after bytes_within
+unfolding clap_on_literals asked_on_literals
 no_value = refl
 
 empty_value : decode_with (codes "--history=" ∷ []) ≡ None
-unfolding clap_on_literals kind_named read_by digits_after bytes_within
+unfolding clap_on_literals asked_on_literals
 empty_value = refl
 
 twice : decode_with (codes "--history=5" ∷ codes "--history=5" ∷ []) ≡ None
-unfolding clap_on_literals kind_named read_by digits_after bytes_within
+unfolding clap_on_literals asked_on_literals
 twice = refl
 
 begun_option : decode_with (codes "--hist" ∷ codes "5" ∷ []) ≡ None
-unfolding clap_on_literals kind_named read_by digits_after bytes_within
+unfolding clap_on_literals asked_on_literals
 begun_option = refl
 
 help : decode_with (codes "--help" ∷ []) ≡ None
-unfolding clap_on_literals kind_named read_by digits_after bytes_within
+unfolding clap_on_literals asked_on_literals
 help = refl
 
 short_help : decode_with (codes "-h" ∷ []) ≡ None
-unfolding clap_on_literals kind_named read_by digits_after bytes_within
+unfolding clap_on_literals asked_on_literals
 short_help = refl
 
 stray_word : decode_with (codes "stdin" ∷ []) ≡ None
-unfolding clap_on_literals kind_named read_by digits_after bytes_within
+unfolding clap_on_literals asked_on_literals
 stray_word = refl
 
 generated : asked_of (codes "generate" ∷ codes "--seed" ∷ codes "0" ∷ codes "--size=10000" ∷ []) ≡ Some (Generate 0 10_000)
-unfolding clap_on_literals kind_named read_by digits_after generate_in
+unfolding clap_on_literals asked_on_literals
 generated = refl
 
 no_size : asked_of (codes "generate" ∷ codes "--seed" ∷ codes "1" ∷ []) ≡ None
-unfolding clap_on_literals kind_named read_by digits_after generate_in
+unfolding clap_on_literals asked_on_literals
 no_size = refl
 
 replayed : asked_of (codes "replay" ∷ codes "--queue" ∷ codes "65536" ∷ []) ≡ Some (Replay 16_777_216 65_536)
-unfolding clap_on_literals kind_named read_by digits_after replay_in
+unfolding clap_on_literals asked_on_literals
 replayed = refl
 
 option_of_lines : asked_of (codes "lines" ∷ codes "--history=5" ∷ []) ≡ None
-unfolding clap_on_literals kind_named read_by
+unfolding clap_on_literals asked_on_literals
 option_of_lines = refl
 
 lines_alone : asked_of (codes "lines" ∷ []) ≡ Some Lines
-unfolding clap_on_literals kind_named read_by
+unfolding clap_on_literals asked_on_literals
 lines_alone = refl
 
 -- what computes the devices and the numbers of words that are written out

@@ -3,11 +3,8 @@
 use Rattle.std.specs.Prelude.{List, [], ◌∷◌, Option, Some, None, codes, if◌then◌else◌}
 use Rattle.std.specs.Str.{bytes_eq}
 use Rattle.clap.specs.Walk.{Text}
-use Rattle.gps_words.specs.Decode.{decode_of}
-use Rattle.gps_words.specs.Generate.{generate_of}
-use Rattle.gps_words.specs.Lines.{lines_of}
-use Rattle.gps_words.specs.Pseudo.{pseudo_of}
-use Rattle.gps_words.specs.Replay.{replay_of}
+use Rattle.gps_words.specs.Forms.{app_for, line_in}
+use Rattle.gps_words.specs.Options.{read_by}
 use Rattle.gps_words.specs.declared.choice.Kind.{Kind}
 use Rattle.gps_words.specs.declared.choice.Kind.TheVariants as kind
 use Rattle.gps_words.specs.declared.command.CommandLine.{CommandLine}
@@ -24,11 +21,7 @@ kind_named word =
 
 abbrev pub read_as : Option Kind → List Text → Option CommandLine
 read_as None words = None
-read_as (Some kind.Decode) words = decode_of words
-read_as (Some kind.Pseudo) words = pseudo_of words
-read_as (Some kind.Replay) words = replay_of words
-read_as (Some kind.Generate) words = generate_of words
-read_as (Some kind.Lines) words = lines_of words
+read_as (Some kind) words = read_by (app_for kind) (line_in kind) words
 
 abbrev pub asked_of : List Text → Option CommandLine
 asked_of [] = None

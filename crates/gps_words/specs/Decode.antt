@@ -1,15 +1,10 @@
 -- What the words of `decode` ask for: `decode [--history N|all]`.
 use Rattle.std.specs.Prelude.{ℕ, List, Option, Some, None, codes, option_map, if◌then◌else◌}
 use Rattle.std.specs.Str.{bytes_eq}
-use Rattle.clap.specs.Simple.{App, with_rule}
 use Rattle.clap.specs.Walk.{Row, Text, first_of}
 use Rattle.gps_words.specs.Numbers.{number_in}
-use Rattle.gps_words.specs.Options.{bare_app, option_rule, read_by}
 use Rattle.gps_words.specs.declared.command.CommandLine.{CommandLine}
 use Rattle.gps_words.specs.declared.command.CommandLine.TheVariants.{Decode}
-
-abbrev pub decode_app : App
-decode_app = with_rule (bare_app (codes "decode")) (option_rule (codes "history"))
 
 -- how many bytes a text allows: 2 ^ 63 - 1, which no input has, if it is the word `all`, and else its number, from 1 to 33,554,432
 unfoldable pub bytes_within : Text → Option ℕ
@@ -25,6 +20,3 @@ bytes_in rows = bytes_or (first_of (codes "history") rows)
 
 abbrev pub decode_in : List Row → Option CommandLine
 decode_in rows = option_map (λ history. Decode history) (bytes_in rows)
-
-abbrev pub decode_of : List Text → Option CommandLine
-decode_of words = read_by decode_app decode_in words

@@ -1,14 +1,9 @@
 -- What the words of `generate` ask for: `generate --seed N --size N`, both of them.
 use Rattle.std.specs.Prelude.{ℕ, List, Option, codes, option_and_then, option_map}
-use Rattle.clap.specs.Simple.{App, with_rule}
-use Rattle.clap.specs.Walk.{Row, Text, first_of}
+use Rattle.clap.specs.Walk.{Row, first_of}
 use Rattle.gps_words.specs.Numbers.{number_in}
-use Rattle.gps_words.specs.Options.{bare_app, option_rule, read_by}
 use Rattle.gps_words.specs.declared.command.CommandLine.{CommandLine}
 use Rattle.gps_words.specs.declared.command.CommandLine.TheVariants.{Generate}
-
-abbrev pub generate_app : App
-generate_app = with_rule (with_rule (bare_app (codes "generate")) (option_rule (codes "seed"))) (option_rule (codes "size"))
 
 abbrev pub seed_in : List Row → Option ℕ
 seed_in rows = option_and_then (number_in 0 4_294_967_295) (first_of (codes "seed") rows)
@@ -18,6 +13,3 @@ size_in rows = option_and_then (number_in 1 10_000) (first_of (codes "size") row
 
 unfoldable pub generate_in : List Row → Option CommandLine
 generate_in rows = option_and_then (λ seed. option_map (λ size. Generate seed size) (size_in rows)) (seed_in rows)
-
-abbrev pub generate_of : List Text → Option CommandLine
-generate_of words = read_by generate_app generate_in words

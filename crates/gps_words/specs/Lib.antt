@@ -1,6 +1,7 @@
 pub mod Asked
 pub mod Decode
 pub mod Devices
+pub mod Forms
 pub mod Generate
 pub mod Lines
 pub mod Numbers

@@ -1,9 +1,9 @@
 -- What the commands have in common, in clap's own terms: a command without help, an option with one value,
 -- and which words clap takes. A command's words begin with its name, which clap reads as the program's.
-use Rattle.std.specs.Prelude.{Bool, true, false, List, [], ◌∷◌, Option, Some, None, if◌then◌else◌}
+use Rattle.std.specs.Prelude.{Bool, true, false, List, [], ◌∷◌, Option, Some, None, fold, if◌then◌else◌}
 use Rattle.clap.specs.Kinds.{Kinds}
 use Rattle.clap.specs.Faults.{fault_of}
-use Rattle.clap.specs.Simple.{App, matches_of, new_app, new_rule, on_top}
+use Rattle.clap.specs.Simple.{App, matches_of, new_app, new_rule, on_top, with_rule}
 use Rattle.clap.specs.Walk.{Row, Rule, Text}
 use Rattle.clap.specs.declared.builder.action.ArgAction.TheVariants.{Append, Set}
 
@@ -17,6 +17,10 @@ option_rule name = record (new_rule name) {
   long = Some name;
   action = Some Set;
 }
+
+-- a command with these options besides
+abbrev pub with_options : App → List Text → App
+with_options app names = fold (λ a name. with_rule a (option_rule name)) app names
 
 -- positional words, any number of them among the options
 abbrev pub list_rule : Text → Rule

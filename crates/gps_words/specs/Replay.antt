@@ -1,14 +1,9 @@
 -- What the words of `replay` ask for: `replay [--history N] [--queue N]`.
 use Rattle.std.specs.Prelude.{ℕ, List, Option, codes, option_and_then, option_map}
-use Rattle.clap.specs.Simple.{App, with_rule}
-use Rattle.clap.specs.Walk.{Row, Text, first_of}
+use Rattle.clap.specs.Walk.{Row, first_of}
 use Rattle.gps_words.specs.Numbers.{number_or}
-use Rattle.gps_words.specs.Options.{bare_app, option_rule, read_by}
 use Rattle.gps_words.specs.declared.command.CommandLine.{CommandLine}
 use Rattle.gps_words.specs.declared.command.CommandLine.TheVariants.{Replay}
-
-abbrev pub replay_app : App
-replay_app = with_rule (with_rule (bare_app (codes "replay")) (option_rule (codes "history"))) (option_rule (codes "queue"))
 
 -- `--history` of `replay` and `serve`: how many symbols a generation of the history has at most
 abbrev pub history_in : List Row → Option ℕ
@@ -21,6 +16,3 @@ queue_in rows = number_or 4_096 1 65_536 (first_of (codes "queue") rows)
 unfoldable pub replay_in : List Row → Option CommandLine
 replay_in rows =
     option_and_then (λ history. option_map (λ queue. Replay history queue) (queue_in rows)) (history_in rows)
-
-abbrev pub replay_of : List Text → Option CommandLine
-replay_of words = read_by replay_app replay_in words

@@ -6,7 +6,7 @@ use Rattle.clap.specs.Simple.{App, with_rule}
 use Rattle.clap.specs.Walk.{Row, Text, all_of, first_of}
 use Rattle.gps_words.specs.Devices.{Lists, devices_in, is_address, path_in}
 use Rattle.gps_words.specs.Numbers.{number_if, number_or}
-use Rattle.gps_words.specs.Options.{bare_app, list_rule, option_rule, read_by}
+use Rattle.gps_words.specs.Options.{bare_app, list_rule, read_by, with_options}
 use Rattle.gps_words.specs.Replay.{history_in, queue_in}
 use Rattle.gps_words.specs.declared.serve.ServeNumbers.{ServeNumbers}
 use Rattle.gps_words.specs.declared.serve.ServeOptions.{ServeOptions}
@@ -27,13 +27,11 @@ shown options = record {
   stop = options.stop;
 }
 
-abbrev pub with_numbers : App → App
-with_numbers app = with_rule (with_rule (with_rule (with_rule (with_rule app
-    (option_rule (codes "queue"))) (option_rule (codes "history"))) (option_rule (codes "wait"))) (option_rule (codes "monitor"))) (option_rule (codes "reopen"))
-
 abbrev pub serve_app : App
 serve_app =
-    with_rule (with_rule (with_numbers (with_rule (bare_app (codes "serve")) (option_rule (codes "listen")))) (option_rule (codes "stop"))) (list_rule (codes "device"))
+    with_rule (with_options (bare_app (codes "serve"))
+    (codes "listen" ∷ codes "queue" ∷ codes "history" ∷ codes "wait" ∷ codes "monitor" ∷ codes "reopen" ∷ codes "stop" ∷ []))
+    (list_rule (codes "device"))
 
 -- `--wait`: how many sessions devices wait for
 abbrev pub wait_in : List Row → Option ℕ
@@ -72,9 +70,16 @@ abbrev pub if_address : Text → ServeNumbers → Option Text → Lists → Opti
 if_address listen numbers stop devices =
     if is_address listen then Some (record { devices = devices; listen = listen; numbers = numbers; stop = stop }) else None
 
+-- the options with these numbers and this path of `--stop`
+abbrev pub serve_with : List Row → ServeNumbers → Option Text → Option Serve
+serve_with rows numbers stop = option_and_then (if_address (listen_in rows) numbers stop) (devices_among rows)
+
+-- the options with these numbers
+abbrev pub serve_of_numbers : List Row → ServeNumbers → Option Serve
+serve_of_numbers rows numbers = option_and_then (serve_with rows numbers) (stop_in rows)
+
 unfoldable pub serve_in : List Row → Option Serve
-serve_in rows =
-    option_and_then (λ numbers. option_and_then (λ stop. option_and_then (if_address (listen_in rows) numbers stop) (devices_among rows)) (stop_in rows)) (numbers_in rows)
+serve_in rows = option_and_then (serve_of_numbers rows) (numbers_in rows)
 
 abbrev pub serve_of : List Text → Option Serve
 serve_of words = read_by serve_app serve_in words

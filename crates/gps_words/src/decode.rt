@@ -1,13 +1,11 @@
-ghost use Rattle.std.specs.Prelude.{◌≡◌, None, IfOk, map, string_bytes};
-ghost use Rattle.clap.specs.Simple.{app_of};
+ghost use Rattle.std.specs.Prelude.{◌≡◌};
 ghost use Rattle.clap.specs.Words.{found_of, rows_of};
-ghost use Rattle.gps_words.specs.Decode.{bytes_in, bytes_within, decode_app, decode_in, decode_of};
+ghost use Rattle.gps_words.specs.Decode.{bytes_in, bytes_within, decode_in};
+ghost use Rattle.gps_words.specs.Pseudo.{pseudo_in};
 
+use crate::CommandLine;
 use crate::numbers::number_within;
-use crate::options::{bare, matches_in, with_option};
-use crate::{CommandLine, WordsFault};
 use clap::ArgMatches;
-use std::alloc::{AllocError, Global};
 
 /// How many bytes a text allows: `all` is 2^63 - 1 of them, which no input has, and a number is one from 1 to 33,554,432.
 #[tactic(auto, unfolding(crate::specs::Decode::bytes_within))]
@@ -25,7 +23,7 @@ pub fn bytes_within(text: &str) -> Option<u64>
 
 /// How many bytes are read at most.
 #[tactic(auto, using(crate::proofs::Given::first_of_rows))]
-pub(crate) fn bytes(matches: &ArgMatches) -> Option<u64>
+fn bytes(matches: &ArgMatches) -> Option<u64>
     ensures { result ≡ bytes_in (rows_of (found_of matches.now)) }
 {
     match matches.get_str("history") {
@@ -34,28 +32,16 @@ pub(crate) fn bytes(matches: &ArgMatches) -> Option<u64>
     }
 }
 
-fn command<'a>(alloc: Global) -> Result<clap::Command<'a>, AllocError>
-    ensures { IfOk result (λ command. app_of command ≡ decode_app) }
-{
-    let command = with_option(bare(alloc, "decode"), alloc, "history")?;
-    Ok(command)
-}
-
-fn decode_in(matches: &ArgMatches) -> Option<CommandLine>
+pub(crate) fn decode_in(matches: &ArgMatches) -> Option<CommandLine>
     ensures { result ≡ decode_in (rows_of (found_of matches.now)) }
 {
     let history = bytes(matches)?;
     Some(CommandLine::Decode { history })
 }
 
-/// The words of `decode`, its name among them.
-#[tactic(auto, using(crate::proofs::Readings::read_is, crate::proofs::Readings::read_refused))]
-pub(crate) fn decode(alloc: Global, words: &[String]) -> Result<CommandLine, WordsFault>
-    ensures ok { IfOk result (λ command. decode_of (map string_bytes words.now) ≡ Some command) }
-    ensures refused { result ≡ Err WordsFault.Refused → decode_of (map string_bytes words.now) ≡ None }
+pub(crate) fn pseudo_in(matches: &ArgMatches) -> Option<CommandLine>
+    ensures { result ≡ pseudo_in (rows_of (found_of matches.now)) }
 {
-    let command = command(alloc)?;
-    let matches = matches_in(command, words)?;
-    let decode = decode_in(&matches).ok_or(WordsFault::Refused)?;
-    Ok(decode)
+    let history = bytes(matches)?;
+    Some(CommandLine::Pseudo { history })
 }

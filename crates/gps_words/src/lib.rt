@@ -8,10 +8,8 @@ mod decode;
 mod device;
 mod devices;
 mod generate;
-mod lines;
 mod numbers;
 mod options;
-mod pseudo;
 mod replay;
 mod serve;
 

@@ -1,15 +1,16 @@
 ghost use Rattle.std.specs.Prelude.{◌≡◌, true, false, None, Some, IfOk, map, option_map, string_bytes};
-ghost use Rattle.clap.specs.Simple.{app_of};
+ghost use Rattle.clap.specs.Simple.{app_of, matches_of};
+ghost use Rattle.gps_words.specs.Options.{are_taken};
 ghost use Rattle.clap.specs.Words.{found_of, rows_of};
 ghost use Rattle.gps_words.specs.Devices.{shown_devices};
 ghost use Rattle.gps_words.specs.Within.{IsWithin};
-ghost use Rattle.gps_words.specs.Serve.{devices_among, if_address, listen_in, monitor_in, numbers_in, reopen_in, serve_app, serve_asked_of, serve_in, serve_of, shown, stop_in, stop_or, wait_in, with_numbers};
+ghost use Rattle.gps_words.specs.Serve.{devices_among, if_address, listen_in, monitor_in, numbers_in, reopen_in, serve_app, serve_asked_of, serve_in, serve_of, serve_of_numbers, serve_with, shown, stop_in, stop_or, wait_in};
 
 use crate::WordsFault;
 use crate::device::{Input, is_address, path};
 use crate::devices::{Devices, read_devices};
 use crate::numbers::{number_given, number_if_given};
-use crate::options::{bare, matches_in, with_list, with_option};
+use crate::options::{bare, matches_in, with_list, with_options};
 use crate::replay::{history, queue};
 use clap::ArgMatches;
 use gps_fixed::{Bytes, NoMemory};
@@ -116,28 +117,16 @@ fn stop(alloc: Global, matches: &ArgMatches) -> Result<Option<Option<Bytes>>, No
     stop_of(alloc, matches.get_str("stop"))
 }
 
-fn with_numbers<'a>(
-    command: clap::Command<'a>,
-    alloc: Global,
-) -> Result<clap::Command<'a>, AllocError>
-    ensures { IfOk result (λ r. app_of r ≡ with_numbers (app_of command.entry)) }
-{
-    let command = with_option(command, alloc, "queue")?;
-    let command = with_option(command, alloc, "history")?;
-    let command = with_option(command, alloc, "wait")?;
-    let command = with_option(command, alloc, "monitor")?;
-    let command = with_option(command, alloc, "reopen")?;
-    Ok(command)
-}
+/// The options that have a value.
+const OPTIONS: [&str; 7] = [
+    "listen", "queue", "history", "wait", "monitor", "reopen", "stop",
+];
 
 fn command<'a>(alloc: Global) -> Result<clap::Command<'a>, AllocError>
     ensures { IfOk result (λ command. app_of command ≡ serve_app) }
 {
-    let command = with_option(bare(alloc, "serve"), alloc, "listen")?;
-    let command = with_numbers(command, alloc)?;
-    let command = with_option(command, alloc, "stop")?;
-    let command = with_list(command, alloc, "device")?;
-    Ok(command)
+    let command = with_options(bare(alloc, "serve"), alloc, &OPTIONS)?;
+    with_list(command, alloc, "device")
 }
 
 /// The options, if the text of `--listen` is an address.
@@ -179,20 +168,53 @@ fn devices(alloc: Global, matches: &ArgMatches) -> Result<Option<Devices>, NoMem
     }
 }
 
-#[tactic(auto, unfolding(crate::specs::Serve::serve_in))]
-fn serve_in(alloc: Global, matches: &ArgMatches) -> Result<Option<ServeOptions>, NoMemory>
-    ensures { IfOk result (λ options. option_map shown options ≡ serve_in (rows_of (found_of matches.now))) }
+/// The options with these numbers and this path of `--stop`.
+fn options_with(
+    alloc: Global,
+    matches: &ArgMatches,
+    numbers: ServeNumbers,
+    stop: Option<Bytes>,
+) -> Result<Option<ServeOptions>, NoMemory>
+    ensures { IfOk result (λ options. option_map shown options ≡ serve_with (rows_of (found_of matches.now)) numbers stop) }
 {
-    let Some(numbers) = numbers(matches) else {
-        return Ok(None);
-    };
-    let Some(stop) = stop(alloc, matches)? else {
-        return Ok(None);
-    };
     match devices(alloc, matches)? {
         Some(devices) => listening(alloc, listen(matches), numbers, stop, devices),
         None => Ok(None),
     }
+}
+
+/// The options with these numbers.
+fn options_of(
+    alloc: Global,
+    matches: &ArgMatches,
+    numbers: ServeNumbers,
+) -> Result<Option<ServeOptions>, NoMemory>
+    ensures { IfOk result (λ options. option_map shown options ≡ serve_of_numbers (rows_of (found_of matches.now)) numbers) }
+{
+    match stop(alloc, matches)? {
+        Some(stop) => options_with(alloc, matches, numbers, stop),
+        None => Ok(None),
+    }
+}
+
+#[tactic(auto, unfolding(crate::specs::Serve::serve_in))]
+fn serve_in(alloc: Global, matches: &ArgMatches) -> Result<Option<ServeOptions>, NoMemory>
+    ensures { IfOk result (λ options. option_map shown options ≡ serve_in (rows_of (found_of matches.now))) }
+{
+    match numbers(matches) {
+        Some(numbers) => options_of(alloc, matches, numbers),
+        None => Ok(None),
+    }
+}
+
+/// What clap reads from the words of `serve`.
+fn matches<'a>(alloc: Global, words: &'a [String]) -> Result<ArgMatches<'a>, WordsFault>
+    ensures taken { IfOk result (λ _. are_taken serve_app (map string_bytes words.entry.now) ≡ true) }
+    ensures rows { IfOk result (λ m. rows_of (found_of m) ≡ matches_of serve_app (map string_bytes words.entry.now)) }
+    ensures refused { result ≡ Err WordsFault.Refused → are_taken serve_app (map string_bytes words.entry.now) ≡ false }
+{
+    let command = command(alloc)?;
+    matches_in(command, words)
 }
 
 /// The words of `serve`, its name among them.
@@ -201,8 +223,7 @@ fn serve(alloc: Global, words: &[String]) -> Result<ServeOptions, WordsFault>
     ensures ok { IfOk result (λ options. serve_of (map string_bytes words.now) ≡ Some (shown options)) }
     ensures refused { result ≡ Err WordsFault.Refused → serve_of (map string_bytes words.now) ≡ None }
 {
-    let command = command(alloc)?;
-    let matches = matches_in(command, words)?;
+    let matches = matches(alloc, words)?;
     match serve_in(alloc, &matches) {
         Ok(Some(options)) => Ok(options),
         Ok(None) => Err(WordsFault::Refused),

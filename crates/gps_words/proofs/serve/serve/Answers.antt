@@ -1,5 +1,4 @@
-use Rattle.std.proofs.Common.{◌∙◌, ap, map, option_map, string_bytes, sym}
-use Rattle.clap.specs.Simple.{app_of}
+use Rattle.std.proofs.Common.{◌∙◌, ap, map, option_map, refl, string_bytes, sym}
 use Rattle.clap.specs.Words.{found_of, rows_of}
 use Rattle.gps_words.specs.Serve.{serve_app, serve_in, shown}
 use Rattle.gps_words.proofs.Readings.{read_is}
@@ -7,12 +6,12 @@ use Rattle.gps_words.proofs.serve.serve.Goals as goal
 
 pub returns-in-Ok-Some-clause-ok : goal.returns-in-Ok-Some-clause-ok
 returns-in-Ok-Some-clause-ok c =
-    read_is serve_app (app_of c.in_ok-command.command) serve_in (map string_bytes c.args.words.now) (rows_of (found_of c.in_ok-matches.matches))
-    c.in_ok-command.ensures c.in_ok-matches.ensures.taken c.in_ok-matches.ensures.rows
+    read_is serve_app serve_app serve_in (map string_bytes c.args.words.now) (rows_of (found_of c.in_ok-matches.matches))
+    refl c.in_ok-matches.ensures.taken c.in_ok-matches.ensures.rows
     ∙ sym c.in-Ok-Some.ensures ∙ ap (λ o. option_map shown o) c.in-Ok-Some.field-0-is
 
 pub returns-in-Ok-None-clause-refused : goal.returns-in-Ok-None-clause-refused
 returns-in-Ok-None-clause-refused c = λ _.
-    read_is serve_app (app_of c.in_ok-command.command) serve_in (map string_bytes c.args.words.now) (rows_of (found_of c.in_ok-matches.matches))
-    c.in_ok-command.ensures c.in_ok-matches.ensures.taken c.in_ok-matches.ensures.rows
+    read_is serve_app serve_app serve_in (map string_bytes c.args.words.now) (rows_of (found_of c.in_ok-matches.matches))
+    refl c.in_ok-matches.ensures.taken c.in_ok-matches.ensures.rows
     ∙ sym c.in-Ok-None.ensures ∙ ap (λ o. option_map shown o) c.in-Ok-None.field-0-is

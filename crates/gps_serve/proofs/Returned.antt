@@ -68,6 +68,7 @@ module _ {S K R : Type 0} (sources : SourceFacts S) where
       waits = hub.1.waits;
     },
     hub.2,
+    hub.3,
   )
 
   pub all_read : (inputs : List (Taking Piece)) (done : List (SessionDone S K R)) → AllZip (InputLeft sources) inputs done → All (λ (s : SessionDone S K R). InputServed sources s) done

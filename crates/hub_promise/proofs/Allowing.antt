@@ -47,7 +47,7 @@ use Rattle.hub_promise.proofs.Devices.{bytes_taken, edges_taken, running, told_b
 use Rattle.hub_promise.proofs.Dues.{IsSentBy, opening_due, replies_due, reports_due}
 use Rattle.hub_promise.proofs.Going.{device_now, no_lanes}
 use Rattle.hub_promise.proofs.Lists.{devices_on, zip_at}
-use Rattle.hub_promise.proofs.Reading.{logs_read}
+use Rattle.hub_promise.proofs.Reading.{log_is, logs_read}
 use Rattle.book_log.proofs.SummarySteps.{goes-append, goes_got}
 use Rattle.book_log.specs.Standing.{StandsFor}
 use Rattle.report_book.specs.BookView.{BookView}
@@ -115,10 +115,6 @@ about_count : (terms : Terms) (h : HubView) (lasts : List Lasts) (source : Optio
     → length h.book.names ≡ length (subject_of terms source).devices
 about_count terms h lasts source k =
     sym (held_length h.book.names (map names_of h.inlets) (lanes_count h.inlets ∙ k.count)) ∙ ap (λ (t : Terms). length (subject_of t source).devices) k.terms_are
-
--- the book's log is one of its devices
-log_is : (b : BookView) (before : List Entry) → BookHolds b → StandsFor b.log.opening before → IsLog (length b.names) (before ++ b.log.log)
-log_is b before holds stands = subst (λ (n : ℕ). IsLog n (before ++ b.log.log)) (sym holds.names) (holds.log.over before stands).present.is_log
 
 -- a log that the devices fit, whose lanes have the hub's names, was read from their sources
 read_for : (terms : Terms) (h : HubView) (lasts : List Lasts) (log : List Entry) (inlets : List InletsView) (ends : List (Option DeviceEnd)) (source : Option (List ℕ))

@@ -33,7 +33,7 @@ use Rattle.hub_promise.specs.DaemonHub.{DaemonHub, DeviceFits, MayGoOn, SessionF
 use Rattle.hub_promise.specs.Given.{edge_ending, ending_of}
 use Rattle.hub_promise.specs.Keeping.{HubKeeps, IsUnused, Lasts, NothingGot, fresh_lasts, no_end, told_of, ServesClient}
 use Rattle.hub_promise.specs.Parts.{HubView, InletsView, Terms, device_of, devices_of, names_of, parts_of, terms_of, subject_of}
-use Rattle.hub_promise.proofs.Reading.{logs_read, none_read, none_held}
+use Rattle.hub_promise.proofs.Reading.{log_is, logs_read, none_read, none_held}
 use Rattle.hub_promise.proofs.Hubs.{map_length}
 use Rattle.hub_promise.proofs.Lists.{numbered_at, numbered_set, push_watched}
 
@@ -224,5 +224,9 @@ hub_new terms book inlets wait held unused is count none =
 
 pub hub_agrees : (terms : Terms) (h : HubView) (lasts : List Lasts) → HubKeeps terms h lasts → DaemonHub (parts_of h)
 hub_agrees terms h lasts k =
-    let log : List Entry = whole_log k.over.0 h.book in
-    (k.over.0, k.over.1.hub, logs_read log (range_with_len 0 (length h.book.names)) h.inlets h.ends k.over.1.hub.devices k.read)
+    let log : List Entry = whole_log k.over.0 h.book in (
+      k.over.0,
+      k.over.1.hub,
+      logs_read log (range_with_len 0 (length h.book.names)) h.inlets h.ends k.over.1.hub.devices k.read,
+      log_is h.book k.over.0 k.holds k.over.1.hub.opening,
+    )

@@ -1,10 +1,11 @@
 -- The log has only what the sources of the devices held, since what was received of their lanes is that.
-use Rattle.std.proofs.Common.{◌≡◌, ◌<◌, inl, ℕ, List, [], ◌∷◌, ◌++◌, map, Option, Some, None, get_or, refl, sym, ap, ◌∙◌, subst, append_assoc}
+use Rattle.std.proofs.Common.{◌≡◌, ◌<◌, inl, ℕ, List, [], ◌∷◌, ◌++◌, length, map, Option, Some, None, get_or, refl, sym, ap, ◌∙◌, subst, append_assoc}
 use Rattle.std.specs.Prelude.{IfSome, option_to_list}
 use Rattle.std.specs.List.{All, AllZip}
 use Rattle.std.proofs.lemmas.List.Elements.{All-head, All-tail}
 use Rattle.std.proofs.lemmas.List.Concat.{flat_map-append}
-use Rattle.book_log.specs.Entries.{Entry, stream}
+use Rattle.book_log.specs.Entries.{Entry, IsLog, stream}
+use Rattle.book_log.specs.Standing.{StandsFor}
 use Rattle.device_core.specs.Stream.{bytes_in, edges_in}
 use Rattle.gps_lane.specs.Ends.{Taking}
 use Rattle.gps_fixed.specs.Lists.{IsPrefix}
@@ -12,6 +13,8 @@ use Rattle.gps_report.specs.declared.edge.Edge.{Edge}
 use Rattle.packet_cut.specs.Packets.{bytes_of, stamped}
 use Rattle.packet_cut.proofs.StreamLaws.{bytes_of-append, bytes_of-stamped}
 use Rattle.pps_edges.specs.Scan.{edge_in}
+use Rattle.report_book.specs.BookView.{BookView}
+use Rattle.report_book.specs.Standing.{BookHolds}
 use Rattle.serve_pieces.specs.declared.piece.Piece.{Piece}
 use Rattle.serve_pieces.specs.declared.piece.Piece.TheVariants.{Bytes, Line, Input, Last}
 use Rattle.serve_pieces.specs.Carried.{device_part, line_part, device_bytes, lines_of}
@@ -100,3 +103,7 @@ pub none_read : (inlets : List InletsView) → All NothingGot inlets → All Lan
 none_read inlets none d x lt =
     let one : InletsView = get_or inlets d x in
     (none_held one.bytes (none d x lt).0, no_edges_held one.edges (none d x lt).1)
+
+-- the book's log is one of its devices
+pub log_is : (b : BookView) (before : List Entry) → BookHolds b → StandsFor b.log.opening before → IsLog (length b.names) (before ++ b.log.log)
+log_is b before holds stands = subst (λ (n : ℕ). IsLog n (before ++ b.log.log)) (sym holds.names) (holds.log.over before stands).present.is_log

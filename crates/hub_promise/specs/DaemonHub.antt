@@ -2,7 +2,7 @@
 -- log of the run. The book keeps the last part of this log; the earlier part was forgotten.
 use Rattle.std.specs.Prelude.{◌≡◌, ◌<◌, ◌≤◌, ◌⊎◌, ℕ, Bool, true, false, List, [], ◌∷◌, ◌++◌, length, count_by, Option, Some, None, IfSome}
 use Rattle.std.specs.List.{AllZip, range_with_len}
-use Rattle.book_log.specs.Entries.{Entry, stream, has_end, has_lost, stops_in}
+use Rattle.book_log.specs.Entries.{Entry, IsLog, has_end, has_lost, stops_in, stream}
 use Rattle.book_log.specs.History.{history}
 use Rattle.book_log.specs.Standing.{StandsFor}
 use Rattle.book_sessions.specs.Answering.{most_requests}
@@ -102,7 +102,7 @@ pub record SessionFits (names : List (List ℕ)) (forgotten recent : List Entry)
   pub account : Account names forgotten recent a run [] (input_bytes x.got)
   pub cause : ClosesFor (length names) (forgotten ++ recent) x a.session run.closing
 
--- a unit's samples: the published ones, the one that is begun and not published, and the waiting ones
+-- A unit's samples are those that the history gives it: the published ones, the one that is begun and not published, and the waiting ones.
 abbrev pub UnitFits : List Entry → ℕ → UnitView → Type 0
 UnitFits log u x = all_of x ≡ samples_of u (history log)
 
@@ -119,7 +119,7 @@ abbrev pub whole_log : List Entry → BookView → List Entry
 whole_log forgotten book = forgotten ++ book.log.log
 
 -- If the book has forgotten these entries: it has a summary of them (`opening`), and each device, session and unit fits the log of the whole run.
--- There is one device for each name of the book, and they have its numbers. While devices wait, the log is empty.
+-- There is one device for each name of the book: device d is that of name d. While devices wait, the log is empty.
 pub record DaemonHubOver (forgotten : List Entry) (p : Parts) : Type 0 where
   pub opening : StandsFor p.book.log.opening forgotten
   pub devices : AllZip (DeviceFits (whole_log forgotten p.book)) (numbers_of p.book.names) p.devices
@@ -138,6 +138,8 @@ pub record LogIsRead (log : List Entry) (d : ℕ) (x : HubDevice) : Type 0 where
 abbrev pub LogsAreRead : List Entry → Parts → Type 0
 LogsAreRead forgotten p = AllZip (LogIsRead (whole_log forgotten p.book)) (numbers_of p.book.names) p.devices
 
--- The book has forgotten some entries, perhaps none. The log has only what the sources of the devices held, in order.
+-- The book has forgotten some entries, perhaps none. Of each device, the log has only what its sources held, in order; it has nothing of any other device,
+-- and nothing of a device that has stopped before.
 abbrev pub DaemonHub : Parts → Type 0
 DaemonHub p = (forgotten : List Entry) × DaemonHubOver forgotten p × LogsAreRead forgotten p
+    × IsLog (length p.book.names) (whole_log forgotten p.book)

@@ -336,21 +336,6 @@ impl<J: HubNaming, R: Wait + Copy> Hub<J, R> {
         empty_and_show(pieces, &mut self.inputs[s as usize]);
     }
 
-    /// How many devices there are.
-    pub fn devices(&self) -> u8
-        ensures { result ≡ length self.now.inlets }
-    {
-        self.inlets.len() as u8
-    }
-
-    /// How many units there are.
-    pub fn units(&self) -> u8
-        ensures { result ≡ length self.now.book.units }
-    {
-        let devices = self.inlets.len() as u8;
-        2 * devices
-    }
-
     /// What always holds of the hub, whenever the lock is taken. It includes that the log has only what the sources of the devices held, in order.
     pub fn show(&self)
         ensures { DaemonHub (parts_of self.now) }

@@ -85,14 +85,16 @@ pub record Puts (place : ℕ) (old new : MemberView) (answers : List Answer) : T
   pub name : new.session.name ≡ old.session.name
   pub cap : new.session.cap ≡ old.session.cap
   pub gains : (lines : Selection) (history : List Report) (stretches : List Stretch) → length history ≡ place → Holding lines history old.session stretches
-      → SessionGains lines history history old.session new.session stretches (stretches ++ map (stretch_at place) answers) (map (λ answer. answer.reply) answers)
+      → SessionGains lines history history old.session new.session stretches (stretches ++ map (stretch_at place) answers)
+      (map (λ answer. answer.reply) answers)
 
 -- the requests that a piece ends after all input of the session before it, and its cutter after that piece
 abbrev pub IsCut : List ℕ → MemberView → List RawCommand → CommandCutterView → Type 0
 IsCut piece a requests cutter = (bytes : List ℕ) → input.StandsFor a.cutter bytes → input.Gains bytes piece requests × input.StandsFor cutter (bytes ++ piece)
 
 -- requests are answered at one place by what is known, until the session is closed; while it is open, this is its cutter
-pub record AnswersCut (exact : Bool) (known : ReplyDataView) (names : List (List ℕ)) (place : ℕ) (requests : List RawCommand) (cutter : CommandCutterView) (old new : MemberView) : Type 0 where
+pub record AnswersCut (exact : Bool) (known : ReplyDataView) (names : List (List ℕ)) (place : ℕ) (requests : List RawCommand)
+    (cutter : CommandCutterView) (old new : MemberView) : Type 0 where
   pub goes_on : new.session.closing ≡ None → new.cutter ≡ cutter
   -- how many are answered
   pub count : ℕ

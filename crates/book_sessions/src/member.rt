@@ -252,11 +252,15 @@ impl<O: Outlet> Member<O> {
         row: Row,
         names: &Names,
     )
+        // The reports come after all that the session has, and the row has their items.
         requires after { last_place 0 self.old.session.marks ≤ first }
         requires few { first + length reports.now < 2 ^ 63 }
         requires named { AreNamed names.now reports.now }
         requires row { row ≡ row_of names.now reports.now }
+
+        // Each item that the policy selects is due to its client.
         requires may { MayReport O.may (line_for names.now) reports.now self.old.session }
+
         ensures spreads { Spreads O.exact (line_for names.now) first reports.now self.old self.new }
         ensures marks { self.new.session.marks ≡ self.old.session.marks }
     {

@@ -39,10 +39,14 @@ pub(crate) fn report_all<O: Outlet>(
     names: &Names,
 )
     requires open { session.old.closing ≡ None }
+
+    // The reports come after all that the session has, and the row has their items.
     requires after { last_place 0 session.old.marks ≤ first }
     requires few { first + length reports.now < 2 ^ 63 }
     requires named { AreNamed names.now reports.now }
     requires row { row ≡ row_of names.now reports.now }
+
+    // Each item that the policy selects is due to its client.
     requires may { AllowsAll O.may session.old (selected (line_for names.now) session.old.policy reports.now) }
     ensures { TakesDue O.exact (due (line_for names.now) session.old.policy first reports.now) session.old session.new }
 {
@@ -83,11 +87,14 @@ fn report_row<O: Outlet>(session: &mut Session<O>, first: u64, batch: &mut Batch
 /// Reports to each open session, in order, each item of the batch that the session's policy selects, at the place `first`
 /// plus the report's index, until a full outlet closes that session. Takes no memory.
 pub fn spread<O: Outlet>(sessions: &mut [Session<O>], first: u64, mut batch: Batch, names: &Names)
+    // The batch has a share for each live session and its reports' lines; they come after all that the sessions have.
     requires shares { count_by is_live sessions.old ≤ shares_of batch }
     requires after { All (λ s. last_place 0 s.marks ≤ first) sessions.old }
     requires few { first + length batch.reports < 2 ^ 63 }
     requires named { AreNamed names.now batch.reports }
     requires lines { SharesLines names.now batch }
+
+    // Each item that a session's policy selects is due to its client.
     requires may { All (MayReport O.may (line_for names.now) batch.reports) sessions.old }
     ensures { AllZip (Reports O.exact (line_for names.now) first batch.reports) sessions.old sessions.new }
 {

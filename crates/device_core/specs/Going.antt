@@ -14,14 +14,16 @@ use Rattle.device_core.specs.Drafts.{is_low}
 pub record TookOne (old now : EpochsKept) (toff next : Option Pair) (packet : Packet) (bodies more : List Body) : Type 0 where
   pub told_it : (before : List Packet) → NotesStand old (notes_of before) → more ≡ bodies ++ told before packet
   pub stands : (before : List Packet) → NotesStand old (notes_of before) → NotesStand now (notes_of (before ++ packet ∷ []))
-  pub toff_is : (before : List Packet) → NotesStand old (notes_of before) → toff ≡ last_toff (reports (notes_of before)) → next ≡ last_toff (reports (notes_of (before ++ packet ∷ [])))
+  pub toff_is : (before : List Packet) → NotesStand old (notes_of before) → toff ≡ last_toff (reports (notes_of before))
+      → next ≡ last_toff (reports (notes_of (before ++ packet ∷ [])))
   pub low : is_low toff ≡ true → is_low next ≡ true
 
 -- these packets were taken, one after another
 pub record TookAll (old now : EpochsKept) (toff next : Option Pair) (packets : List Packet) (bodies : List Body) : Type 0 where
   pub told_all : (before : List Packet) → NotesStand old (notes_of before) → bodies ≡ all_told before packets
   pub stands : (before : List Packet) → NotesStand old (notes_of before) → NotesStand now (notes_of (before ++ packets))
-  pub toff_is : (before : List Packet) → NotesStand old (notes_of before) → toff ≡ last_toff (reports (notes_of before)) → next ≡ last_toff (reports (notes_of (before ++ packets)))
+  pub toff_is : (before : List Packet) → NotesStand old (notes_of before) → toff ≡ last_toff (reports (notes_of before))
+      → next ≡ last_toff (reports (notes_of (before ++ packets)))
   pub low : is_low toff ≡ true → is_low next ≡ true
 
 -- one packet was taken, and only what it caused was made

@@ -29,7 +29,8 @@ AreReads NoMemory readings = ArePieces readings ⊎ PassHistory readings
 
 -- There are readings such that their bytes were read, the clock gave one stamp for each of them, in order, and what is said of their stream's reports was
 -- written. Of an object whose contents are not modelled nothing is said here: then the readings may be any.
-pub record Decoded (says : Texts) (outcome : CommandOutcome) (history : ℕ) (source source' : Option Stream) (clock clock' : Option Dial) (sink sink' : Option (List ℕ)) : Type 0 where
+pub record Decoded (says : Texts) (outcome : CommandOutcome) (history : ℕ) (source source' : Option Stream) (clock clock' : Option Dial)
+    (sink sink' : Option (List ℕ)) : Type 0 where
   pub readings : List Reading
   pub reads : AreReads outcome readings
   pub stamps : Goes (GivesAll (stamps_of readings)) clock clock'
@@ -59,7 +60,8 @@ WriteCause (Err NoMemoryFault) before after = after ≡ before
 
 -- the lines of what a stream gains by more of it were written or wait, after what waited, and what is kept then is a summary of the longer stream;
 -- or the sink failed, and a prefix of them was written; or, out of memory, what waited was written
-abbrev pub HandsOn : {X : Type 0} → Texts → Result X Fault → List Symbol → List Symbol → DeviceKept → List ℕ → List ℕ → Option (List ℕ) → Option (List ℕ) → Type 0
+abbrev pub HandsOn : {X : Type 0} → Texts → Result X Fault → List Symbol → List Symbol → DeviceKept → List ℕ → List ℕ → Option (List ℕ)
+    → Option (List ℕ) → Type 0
 HandsOn says (Ok _) stream more kept waited waits before after =
     StandsFor kept (stream ++ more) × ((out : List Body) × (Gains stream more out × Waits (waited ++ texts_of says out) waits before after))
 HandsOn says (Err Sink) stream more kept waited waits before after =

@@ -75,7 +75,8 @@ StepCountsQuiet Failed before after = after ≡ before
 StepCountsQuiet TooQuiet before after = after ≡ one_more before
 
 -- So far these bytes were returned, no read failed, and as many reads were quiet as the budget says.
-pub record HasTaken (limit : ℕ) (bytes : List ℕ) (budget : Budget) (before now : Option Stream) (faults_before faults_now quiets_before quiets_now : ℕ) : Type 0 where
+pub record HasTaken (limit : ℕ) (bytes : List ℕ) (budget : Budget) (before now : Option Stream)
+    (faults_before faults_now quiets_before quiets_now : ℕ) : Type 0 where
   pub passed : Goes (Passes bytes) before now
   pub room : length bytes + budget.room ≡ limit
   pub no_fault : faults_now ≡ faults_before

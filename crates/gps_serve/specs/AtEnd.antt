@@ -76,7 +76,8 @@ handed_back served =
 -- still has.
 abbrev pub ShowsOutOfMemory : {G S K R : Type 0} → Option (List (Way S K)) → Option (List (Way S K)) → HandedBack G S K R → BookView → Type 0
 ShowsOutOfMemory told left back book =
-    AnyOf WasLostOutOfMemory back.devices ⊎ AnyOf DeviceTellsOutOfMemory back.devices ⊎ AnyOf WasClosedOutOfMemory book.sessions ⊎ AnyOf SessionTellsOutOfMemory back.sessions
+    AnyOf WasLostOutOfMemory back.devices ⊎ AnyOf DeviceTellsOutOfMemory back.devices ⊎ AnyOf WasClosedOutOfMemory book.sessions
+    ⊎ AnyOf SessionTellsOutOfMemory back.sessions
     ⊎ AnyOf MissesSample back.monitors ⊎ LinkIsUncounted told left (length back.sessions) back.full
 
 -- how many items may wait for each session
@@ -105,7 +106,8 @@ pub record AtEnd {G S K R : Type 0} (start : DaemonStart S K) (facts : WorldFact
   pub inlets : List InletsView
   pub done : Bool
   pub hub : DaemonHub (parts_at_end book inlets back done start.told.wait)
-  -- what came into each device's lane is what was read from its source, with the stamps that the clock gave for it
+  -- What came into each device's lane is what was read from its source, with the stamps that the clock gave for it. A reader that was out of memory, or
+  -- told to end, may have read up to 512 bytes more; of edges, more lines.
   pub devices_are : AllZip (DeviceServed start.may facts.sources) inlets back.devices
   pub stamps : StampsAreGiven start.clock (map (λ (d : DeviceDone S R). d.bytes_tx.put) back.devices)
   -- the same for each session's input; what was written to its client is a prefix of what the book gave it; session k has the number k

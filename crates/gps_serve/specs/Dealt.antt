@@ -58,6 +58,7 @@ pub record UsedSoFar {S R D : Type 0} (works left : List (DeviceWork S D R)) (ru
   pub used : RanSoFar UsesItsShare works left pairs
 
 -- the pieces of the devices have the stamps that this clock gave, if nothing was put before
-abbrev pub StampedIf : {S K G J R : Type 0} {s : SourceGhosts S} {k : SinkGhosts K} {g : DoorGhosts G S K} {j : HubGhosts J} {d : DoorNamingGhosts J} → Option Dial → List (DeviceStart S R) → Option (Ended S K G J R s k g j d) → Type 0
+abbrev pub StampedIf : {S K G J R : Type 0} {s : SourceGhosts S} {k : SinkGhosts K} {g : DoorGhosts G S K} {j : HubGhosts J} {d : DoorNamingGhosts J}
+    → Option Dial → List (DeviceStart S R) → Option (Ended S K G J R s k g j d) → Type 0
 StampedIf clock starts None = Unit {0}
 StampedIf clock starts (Some ended) = AreEmpty starts → StampsAreGiven clock (puts_of ended.runs.items)

@@ -39,7 +39,8 @@ AreModelled {S} facts = (source : S) → IsSome (facts.content source)
 
 -- What the log has of device d, by its place and what is left of it. If it has ended, its bytes in the log are all that its source gave; and if contents
 -- are modelled, they are what is known to be at its place.
-pub record IsLoggedAt {S R : Type 0} (facts : SourceFacts S) (behind : Place → Option (List ℕ)) (log : List Entry) (d : ℕ) (left : Place × DeviceDone S R) : Type 0 where
+pub record IsLoggedAt {S R : Type 0} (facts : SourceFacts S) (behind : Place → Option (List ℕ)) (log : List Entry) (d : ℕ)
+    (left : Place × DeviceDone S R) : Type 0 where
   pub given : left.1.end ≡ Some Ended → IsLogged facts (logged_bytes d log) left.1
   pub held : (held : List ℕ) → left.1.end ≡ Some Ended → AreModelled facts → behind left.0 ≡ Some held → logged_bytes d log ≡ held
 

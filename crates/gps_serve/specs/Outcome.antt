@@ -20,7 +20,8 @@ status_of NoMemory = 7
 -- 8: the daemon could not listen, or its door failed. If the door failed, it is 8, or 3.
 -- 7: the daemon was out of memory. 0: it was not, and each device has ended.
 -- If it was not out of memory, no device was lost, no session was closed and no reader ended for that.
-pub record OutcomeHasCause {W R S K C G : Type 0} (faults : S → ℕ) (gate_faults : G → ℕ) (unopened unheard : Type 0) (served : Served W R S K C G) : Type 0 where
+pub record OutcomeHasCause {W R S K C G : Type 0} (faults : S → ℕ) (gate_faults : G → ℕ) (unopened unheard : Type 0)
+    (served : Served W R S K C G) : Type 0 where
   pub three : served.status ≡ 3 → AnyOf (DeviceFailed faults) served.devices.items ⊎ unopened
   pub met : AnyOf (DeviceFailed faults) served.devices.items → served.status ≡ 3
   pub lost : AnyOf WasLostByFault served.devices.items → served.status ≡ 3

@@ -24,7 +24,8 @@ use Rattle.serve_end_settling.specs.Runs.{SourceFacts}
 use Rattle.gps_serve.specs.Starts.{IsUnreadBy}
 
 -- the threads of a session worked on a new link, whose lanes are those of its admission
-pub record SessionReady {S K R : Type 0} (sources : SourceFacts S) (sinks : SinkFacts K) (a : MemberView) (x : Taking Piece) (run : LinkDone S K R) : Type 0 where
+pub record SessionReady {S K R : Type 0} (sources : SourceFacts S) (sinks : SinkFacts K) (a : MemberView) (x : Taking Piece)
+    (run : LinkDone S K R) : Type 0 where
   pub link : SessionLink S K R
   pub unread : IsUnreadBy sources link.source
   pub unwritten : IsUnwritten (sinks.written link.sink) (sinks.faults link.sink)
@@ -52,7 +53,8 @@ pub record IsLeftOfLink {S K R : Type 0} (sources : SourceFacts S) (sinks : Sink
   pub source : done.source ≡ run.reader.source
   pub input : done.input_tx ≡ run.reader.pieces
   pub sink : (link : SessionLink S K R) → SessionRuns sources.content sources.faults sources.quiets sinks.written sinks.faults link run
-      → Wrote (writer_end done.end) link.items done.items_rx (sinks.written link.sink) (sinks.written done.sink) (sinks.faults link.sink) (sinks.faults done.sink)
+      → Wrote (writer_end done.end) link.items done.items_rx (sinks.written link.sink) (sinks.written done.sink) (sinks.faults link.sink)
+      (sinks.faults done.sink)
 
 -- these sessions are put together, and those are left
 pub record SessionsSoFar {S K R : Type 0} (sources : SourceFacts S) (sinks : SinkFacts K) (sessions : List MemberView) (inputs left : List (Taking Piece))
@@ -69,7 +71,8 @@ pub record SessionsSoFar {S K R : Type 0} (sources : SourceFacts S) (sinks : Sin
   pub ready : AreReady sources sinks rest left runs
 
 -- all of them
-pub record AllServed {S K R : Type 0} (sources : SourceFacts S) (sinks : SinkFacts K) (sessions : List MemberView) (inputs : List (Taking Piece)) (done : List (SessionDone S K R)) : Type 0 where
+pub record AllServed {S K R : Type 0} (sources : SourceFacts S) (sinks : SinkFacts K) (sessions : List MemberView) (inputs : List (Taking Piece))
+    (done : List (SessionDone S K R)) : Type 0 where
   pub inputs_are : AllZip (InputLeft sources) inputs done
   pub outlets_are : AllZip (OutletServed sinks) sessions done
   pub numbers : map (λ (s : SessionDone S K R). s.number) done ≡ range_with_len 0 (length sessions)
@@ -85,7 +88,8 @@ pub record IsLeftOfWatch (watch : ReadingsDone) (done : MonitorDone) : Type 0 wh
   pub kept : done.taken ≡ watch.taken
   pub taken : done.monitor.taken ≡ watch.monitor.taken
 
-pub record MonitorsSoFar (tries : ℕ) (no_memory : Bool) (units : List UnitView) (watched : List ReadingsDone) (unit : ℕ) (done : List MonitorDone) : Type 0 where
+pub record MonitorsSoFar (tries : ℕ) (no_memory : Bool) (units : List UnitView) (watched : List ReadingsDone) (unit : ℕ)
+    (done : List MonitorDone) : Type 0 where
   pub gone : List UnitView
   pub rest : List UnitView
   pub split : units ≡ gone ++ rest

@@ -45,7 +45,8 @@ pub record DeviceReady {S R : Type 0} (may : Option (List Moment)) (facts : Sour
   pub ran : RanOn may facts start run
 
 -- these devices are put together, and those are left
-pub record DevicesSoFar {S R : Type 0} (may : Option (List Moment)) (facts : SourceFacts S) (inlets left : List InletsView) (runs : List (DeviceRun S R)) (devices : List (DeviceDone S R)) : Type 0 where
+pub record DevicesSoFar {S R : Type 0} (may : Option (List Moment)) (facts : SourceFacts S) (inlets left : List InletsView)
+    (runs : List (DeviceRun S R)) (devices : List (DeviceDone S R)) : Type 0 where
   pub done : List InletsView
   pub split : inlets ≡ done ++ left
   pub served : AllZip (DeviceServed may facts) done devices

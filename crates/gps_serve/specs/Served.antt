@@ -70,7 +70,7 @@ pub record InputServed {S K R : Type 0} (facts : SourceFacts S) (done : SessionD
 
 -- What is left of a session's outlet: its receiving end, which has the name that the book knows. The items received are a prefix of those that the
 -- book gave it, and are all of them if the session was drained. Their bytes were written to its sink, to which nothing was written before; all
--- of them, unless the sink failed. The sink of a session that was drained has no fault: it wrote and delivered all.
+-- of them, unless the sink failed. The sink of a session that was drained has no fault; whether it delivered what it was written is not said.
 pub record OutletServed {S K R : Type 0} (facts : SinkFacts K) (a : MemberView) (done : SessionDone S K R) : Type 0 where
   pub first : K
   pub unwritten : IsUnwritten (facts.written first) (facts.faults first)
@@ -86,7 +86,7 @@ abbrev pub monitored : {X : Type 0} → ℕ → List X → List X
 monitored tries units = if tries == 0 then [] else units
 
 -- What is left of a unit's monitor: the pairs that it kept, each the unit's published sample of its number, with rising numbers. Unless
--- the daemon was out of memory, these are all that it took, each number once, and it made all its readings.
+-- the daemon was out of memory, these are all that it took, each number once, and it made at least two loads for each reading.
 pub record MonitorServed (tries : ℕ) (no_memory : Bool) (u : UnitView) (done : MonitorDone) : Type 0 where
   pub segment : done.monitor.segment ≡ segment_of u
   pub published : ArePublished u done.taken.items
@@ -98,9 +98,9 @@ pub record MonitorServed (tries : ℕ) (no_memory : Bool) (u : UnitView) (done :
 abbrev pub TakesFirst : Stream → Stream → Type 0
 TakesFirst before after = IsPrefix after.taken (before.taken ++ before.left)
 
--- A session's source and sink are those of the link. Nothing was taken from the link's source before; it was read, and what was put into the session's
--- input lane is what was taken from it, with the ending that it had. The bytes of the items that were received from the session's outlet were written
--- after what the link's sink had before.
+-- A session's source and sink go on from those of the link, by their contents and counts. Nothing was taken from the link's source before; it
+-- was read, and what was put into the session's input lane is what was taken from it, with the ending that it had. The bytes of the items that
+-- were received from the session's outlet were written after what the link's sink had before.
 pub record ServesLink {S K R : Type 0} (sources : SourceFacts S) (sinks : SinkFacts K) (way : Way S K) (done : SessionDone S K R) : Type 0 where
   pub unread : IsUnreadBy sources way.0
   pub ending : Option Ending

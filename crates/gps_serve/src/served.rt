@@ -338,7 +338,7 @@ fn run<
     Ok(gather::<W, J, D, R>(&rt, hub, ended, rooms, numbers, first))
 }
 
-/// Serves a plan until all its devices have ended.
+/// Serves a plan until each of its devices has ended or was lost.
 ///
 /// The status is 0 if every device has ended, 3 if a source failed or could not be opened, 8 if the door failed or could not be opened, and 7 if
 /// the daemon was out of memory or could start no thread. If several hold, it is the first of 3, 8 and 7.
@@ -353,8 +353,8 @@ pub fn serve<W: World, R: Threads + Wait + Copy + Send + Sync>(
     requires plan { IsPlan plan }
     requires asked { W.asked world ≡ asked_nothing }
 
-    // A sink of a client allows each write that `MayWrite` admits: one that, with what was written before, begins what the client is due. It need not
-    // allow any other. So each write that ever happens is such a write, also if this never returns.
+    // A sink of a client allows each write that `MayWrite` admits: one that, with what was written before, begins items that the client may be due. It
+    // need not allow any other. So each write that ever happens is such a write, also if this never returns.
     requires writes { (sink : W.Out) (piece : List ℕ)
         → MayWrite (record { source = W.Out.asks sink; devices = devices_in plan (W.behind world) }) (W.Out.written sink) piece
         → W.Out.allows sink piece }

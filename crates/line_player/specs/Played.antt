@@ -32,7 +32,8 @@ EndsPlay outcome rules most bytes source source' sink sink' =
 
 -- There are bytes that were read, and what is due of them was written. Of an object whose contents are not modelled nothing is said here:
 -- then the bytes may be any.
-pub record HasPlayed {X : Type 0} (outcome : CommandOutcome) (rules : Rules X) (most : ℕ) (source source' : Option Stream) (sink sink' : Option (List ℕ)) : Type 0 where
+pub record HasPlayed {X : Type 0} (outcome : CommandOutcome) (rules : Rules X) (most : ℕ) (source source' : Option Stream)
+    (sink sink' : Option (List ℕ)) : Type 0 where
   pub bytes : List ℕ
   pub ends : EndsPlay outcome rules most bytes source source' sink sink'
 

@@ -52,7 +52,8 @@ pub record Watches (b : BookView) (w : UnitMonitorView) (t : MonitorState) : Typ
   pub of : IsOf w b
 
 -- the stage over a log whose first part, this one, is forgotten
-pub record Standing (s : ReplayBookView) (before : List Entry) (firsts : List ℕ) (clients : List Client) (stores : List ℕ) (watches : List MonitorState) : Type 0 where
+pub record Standing (s : ReplayBookView) (before : List Entry) (firsts : List ℕ) (clients : List Client) (stores : List ℕ)
+    (watches : List MonitorState) : Type 0 where
   pub stands : StandsFor s.book.log.opening before
   pub clients_are : AllZip (Attends s.book.names before s.book.log.log) s.book.sessions clients
   pub units_are : (u : ℕ) → u < length s.book.units
@@ -110,14 +111,16 @@ AdmitsTo (Err refusal) round = RefusesTo refusal.1 round
 -- The first item that a session's outlet keeps is taken, and its line follows what was written; or it keeps none.
 abbrev pub TakesOne : ℕ → Result Bool NoMemory → ReplayBookView → List ℕ → List ℕ → State → Client → Type 0
 TakesOne s (Ok true) new out out' state c =
-    (item : List ℕ) × (slice_get (kept_of state.names state.log c) 0 ≡ Some item) × BookStandsFor new (with_client s (record c { taken = c.taken + 1 }) state) × (out' ≡ out ++ item_line s item)
+    (item : List ℕ) × (slice_get (kept_of state.names state.log c) 0 ≡ Some item)
+    × BookStandsFor new (with_client s (record c { taken = c.taken + 1 }) state) × (out' ≡ out ++ item_line s item)
 TakesOne s (Ok false) new out out' state c = (kept_of state.names state.log c ≡ []) × BookStandsFor new state × (out' ≡ out)
 TakesOne s (Err _) new out out' state c = Unit {0}
 
 -- A monitor makes one load, and the line of a reading that it ends follows what was written.
 abbrev pub LoadsOne : ℕ → ReplayBookView → List ℕ → List ℕ → State → MonitorState → Type 0
 LoadsOne m new out out' state t =
-    BookStandsFor new (with_watch m (reading_after (words_at t.unit state) t.reading) t state) × (out' ≡ out ++ step_line m (step_of (words_at t.unit state) t.reading))
+    BookStandsFor new (with_watch m (reading_after (words_at t.unit state) t.reading) t state)
+    × (out' ≡ out ++ step_line m (step_of (words_at t.unit state) t.reading))
 
 -- devices and units are declared, and no event has come
 pub record DeclaredView : Type 0 where

@@ -71,7 +71,8 @@ pub record Admits (name : OutletName) (cap : ℕ) (old new : BookView) : Type 0 
   pub same : SameButSessions old new
   pub sessions : new.sessions ≡ old.sessions ++ opened name cap old.log.length ∷ []
   pub holding : (before : List Entry) → StandsFor old.log.opening before
-      → Holding (line_for old.names) (history_of old before) (opened name cap old.log.length).session (answer_stretch old.log.length opening_policy opening_reply ∷ [])
+      → Holding (line_for old.names) (history_of old before)
+      (opened name cap old.log.length).session (answer_stretch old.log.length opening_policy opening_reply ∷ [])
 
 -- the requests that this piece ends are answered by what is known at this moment, whatever log the opening stands for
 pub record AnswersRequests (exact : Bool) (s : ℕ) (piece : List ℕ) (old new : BookView) : Type 0 where

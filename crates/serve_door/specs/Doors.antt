@@ -148,7 +148,8 @@ Deals held way old new was now =
     ⊎ ((new ≡ old) × (now.drops ≡ was.drops) × (now.full ≡ was.full) × (now.no_memory ≡ true))
 
 -- what became of the links that the door gave
-pub record Tended {S K R Run : Type 0} (P : SessionLink S K R → Type 0) (Runs : SessionLink S K R → Run → Type 0) (queue : ℕ) (told : Option (List (Way S K))) (now : DoorNow S K)
+pub record Tended {S K R Run : Type 0} (P : SessionLink S K R → Type 0) (Runs : SessionLink S K R → Run → Type 0) (queue : ℕ)
+    (told : Option (List (Way S K))) (now : DoorNow S K)
     (seat : Admissions) (runs : List Run) : Type 0 where
   pub links : List (SessionLink S K R)
   pub seated : AreSeated P queue links seat

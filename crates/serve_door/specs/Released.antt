@@ -29,4 +29,5 @@ pub record WritesItem (item : List ℕ) (end end' : WriterEnd) (between after : 
 pub record WritesOn {K : Type 0} (written : K → Option (List ℕ)) (faults : K → ℕ) (was now : WriterView K) : Type 0 where
   pub lane : now.items.lane ≡ was.items.lane
   pub wrote : (rx : Taking (List ℕ)) (before : Option (List ℕ)) (first : ℕ)
-      → Wrote was.end rx was.items before (written was.sink) first (faults was.sink) → Wrote now.end rx now.items before (written now.sink) first (faults now.sink)
+      → Wrote was.end rx was.items before (written was.sink) first (faults was.sink)
+      → Wrote now.end rx now.items before (written now.sink) first (faults now.sink)

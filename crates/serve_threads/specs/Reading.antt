@@ -12,7 +12,8 @@ abbrev pub counts : ℕ → ℕ → Tally
 counts faults quiets = record { faults = faults; quiets = quiets }
 
 -- It put what it took into its lane, and met a fault exactly if the source's faults rose.
-pub record Reads (part : Piece → List ℕ) (P : Piece → Type 0) (failed : Bool) (ending : Option Ending) (tx tx' : Putting Piece) (before after : Option Stream) (old new : Tally) : Type 0 where
+pub record Reads (part : Piece → List ℕ) (P : Piece → Type 0) (failed : Bool) (ending : Option Ending) (tx tx' : Putting Piece)
+    (before after : Option Stream) (old new : Tally) : Type 0 where
   pub hands : HandsOn part P ending tx.put tx'.put before after
   pub lane : tx' ≡ record tx { put = tx'.put; is_open = tx'.is_open }
   pub faults_stay : old.faults ≤ new.faults

@@ -21,8 +21,10 @@ pub record Wrote (end : WriterEnd) (rx rx' : Taking (List ℕ)) (before after : 
   pub sound : end ≡ Drained → faults' ≡ faults
 
 -- both threads did their work on this link, whose source was read at least once
-pub record SessionRuns {S K R : Type 0} (content : S → Option Stream) (faults quiets : S → ℕ) (written : K → Option (List ℕ)) (sink_faults : K → ℕ) (link : SessionLink S K R) (run : LinkDone S K R) : Type 0 where
+pub record SessionRuns {S K R : Type 0} (content : S → Option Stream) (faults quiets : S → ℕ) (written : K → Option (List ℕ)) (sink_faults : K → ℕ)
+    (link : SessionLink S K R) (run : LinkDone S K R) : Type 0 where
   pub reads : Reads input_part IsInputPiece run.reader.failed run.reader.ending link.pieces run.reader.pieces (content link.source) (content run.reader.source)
       (counts (faults link.source) (quiets link.source)) (counts (faults run.reader.source) (quiets run.reader.source))
   pub read : Goes (WasRead (faults run.reader.source) (quiets run.reader.source)) (content link.source) (content run.reader.source)
-  pub wrote : Wrote run.writer.end link.items run.writer.items (written link.sink) (written run.writer.sink) (sink_faults link.sink) (sink_faults run.writer.sink)
+  pub wrote : Wrote run.writer.end link.items run.writer.items (written link.sink) (written run.writer.sink) (sink_faults link.sink)
+      (sink_faults run.writer.sink)

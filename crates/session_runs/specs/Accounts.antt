@@ -67,7 +67,8 @@ InputsExtendAccounts = (exact : Bool) (names : List (List ℕ)) (before log : Li
     (r : SessionRun) (taken : List (List ℕ)) (bytes : List ℕ)
     → length (history_after before log) ≡ place → old.session.closing ≡ None
     → (heard : Inputs exact (known_in (length names) (before ++ log)) names place piece old new) → Account names before log old r taken bytes
-    → Account names before log new (answered_run (before ++ log) (put_of exact names (before ++ log) place piece old new heard) new.session.closing r) taken (bytes ++ piece)
+    → Account names before log new (answered_run (before ++ log)
+    (put_of exact names (before ++ log) place piece old new heard) new.session.closing r) taken (bytes ++ piece)
 
 abbrev pub ClosingsEndAccounts : Type 0
 ClosingsEndAccounts = (names : List (List ℕ)) (before log : List Entry) (place : ℕ) (why : Close) (old new : MemberView)

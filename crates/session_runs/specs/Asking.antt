@@ -35,7 +35,8 @@ abbrev pub AnswersFirst : List (List ℕ) → List Entry → List RawCommand →
 AnswersFirst names log done from [] asked = Unit {0}
 AnswersFirst names log done from (stretch ∷ stretches) [] = ⊥
 AnswersFirst names log done from (stretch ∷ stretches) (request ∷ asked) =
-    (moment : ℕ) × BeginsAt log from moment stretch × IsAnswer names log moment done request stretch × AnswersFirst names log (done ++ request ∷ []) moment stretches asked
+    (moment : ℕ) × BeginsAt log from moment stretch × IsAnswer names log moment done request stretch
+    × AnswersFirst names log (done ++ request ∷ []) moment stretches asked
 
 abbrev pub IsOpening : Stretch → Type 0
 IsOpening stretch = (stretch.policy ≡ opening_policy) × (stretch.reply ≡ Some opening_reply)
@@ -43,7 +44,8 @@ IsOpening stretch = (stretch.policy ≡ opening_policy) × (stretch.reply ≡ So
 -- the first stretch is the opening
 abbrev pub Asked : List (List ℕ) → List Entry → List Stretch → List RawCommand → Type 0
 Asked names log [] asked = ⊥
-Asked names log (opening ∷ stretches) asked = (moment : ℕ) × BeginsAt log 0 moment opening × IsOpening opening × AnswersFirst names log [] moment stretches asked
+Asked names log (opening ∷ stretches) asked = (moment : ℕ) × BeginsAt log 0 moment opening × IsOpening opening
+    × AnswersFirst names log [] moment stretches asked
 
 abbrev pub is_enabled : Stretch → Bool
 is_enabled stretch = stretch.policy.enable

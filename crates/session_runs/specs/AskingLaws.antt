@@ -30,7 +30,8 @@ SentOnward = (names : List (List ℕ)) (log entries : List Entry) (old new : Mem
 
 -- a piece is heard after this whole log
 abbrev pub SentMore : Type 0
-SentMore = (exact : Bool) (names : List (List ℕ)) (log : List Entry) (place : ℕ) (piece : List ℕ) (old new : MemberView) (stretches : List Stretch) (bytes : List ℕ)
+SentMore = (exact : Bool) (names : List (List ℕ)) (log : List Entry) (place : ℕ) (piece : List ℕ) (old new : MemberView) (stretches : List Stretch)
+    (bytes : List ℕ)
     → (heard : Inputs exact (known_in (length names) log) names place piece old new) → old.session.closing ≡ None → HasSent names log old stretches bytes
     → HasSent names log new
     (stretches ++ map (stretch_at (length (history log))) (take heard.count (answered (known_in (length names) log) names old.session.policy heard.requests)))
@@ -43,7 +44,8 @@ SentInVain = (names : List (List ℕ)) (log : List Entry) (a : MemberView) (stre
 
 -- entries, closings and turns are not heard
 abbrev pub EntriesAreNotHeard : Type 0
-EntriesAreNotHeard = (exact turns : Bool) (old new : BookView) (entries : List Entry) → Moves exact turns old new entries → AllZip HearsNothing old.sessions new.sessions
+EntriesAreNotHeard = (exact turns : Bool) (old new : BookView) (entries : List Entry) → Moves exact turns old new entries
+    → AllZip HearsNothing old.sessions new.sessions
 
 abbrev pub ClosingsAreNotHeard : Type 0
 ClosingsAreNotHeard = (place : ℕ) (why : Close) (old new : MemberView) → Closes place why old new → HearsNothing old new

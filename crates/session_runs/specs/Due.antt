@@ -1,5 +1,5 @@
--- What may be sent to a client at any moment: what its requests so far select of the history so far. Each device's part of the log is a prefix of
--- what its sources hold.
+-- What may be sent to a client at any moment: what the first of its requests select of a history that fits the devices' sources. It need not be the
+-- history that the daemon has: each device's part of its log is a prefix of what its sources hold, perhaps a longer one than was read.
 use Rattle.std.specs.Prelude.{◌≡◌, ℕ, List, ◌++◌, length, map, Option, Some, None, IfSome}
 use Rattle.std.specs.List.{AllZip, concat, range_with_len}
 use Rattle.gps_command.specs.Requests.{requests}
@@ -27,8 +27,8 @@ pub record IsLogFor (about : Subject) (log : List Entry) : Type 0 where
 abbrev pub device_names : Subject → List (List ℕ)
 device_names about = map (λ (device : DeviceHeld). device.name) about.devices
 
--- These items are all that a client is due at a moment: those that its requests so far select of a history so far. The run says when each request
--- was answered.
+-- These items are all that a client may be due at a moment: those that the first of its requests select of such a history. The run says when each
+-- request was answered.
 pub record IsDue (about : Subject) (items : List (List ℕ)) : Type 0 where
   pub log : List Entry
   pub run : SessionRun

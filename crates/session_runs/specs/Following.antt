@@ -24,7 +24,8 @@ abbrev pub run_after : ℕ → SessionView → SessionView → SessionRun → Se
 run_after base old new r = record { stretches = r.stretches; closing = closing_after base old.closing new.closing r.closing }
 
 -- From one log to another: what its outlet keeps and its items of the whole run gained the same.
-pub record Extends (names : List (List ℕ)) (before log onward longer : List Entry) (old new : SessionView) (more : List (List ℕ)) (r next : SessionRun) : Type 0 where
+pub record Extends (names : List (List ℕ)) (before log onward longer : List Entry) (old new : SessionView) (more : List (List ℕ))
+    (r next : SessionRun) : Type 0 where
   pub run : IsRunOf names onward longer new next
   pub kept : new.kept ≡ old.kept ++ more
   pub items : items_over names (onward ++ longer) next ≡ items_over names (before ++ log) r ++ more
@@ -50,7 +51,8 @@ pub record BookGoesOn (turns : Bool) (old new : BookView) (entries before : List
   pub names : new.names ≡ old.names
   pub sessions : AllZip (λ (a b : MemberView). Follows old.names before old.log.log (forgotten_if turns before old.log.log) new.log.log a.session b.session) old.sessions new.sessions
   pub runs : (runs : List SessionRun) → RunsOf old before runs
-      → (nexts : List SessionRun) × RunsOf new (forgotten_if turns before old.log.log) nexts × AllZip (λ (r next : SessionRun). next.stretches ≡ r.stretches) runs nexts
+      → (nexts : List SessionRun) × RunsOf new (forgotten_if turns before old.log.log) nexts
+      × AllZip (λ (r next : SessionRun). next.stretches ≡ r.stretches) runs nexts
 
 -- a new session, after this whole log: it was sent its opening reply
 abbrev pub opened_run : List Entry → SessionRun

@@ -116,16 +116,19 @@ abbrev pub HasOneMore : {X : Type 0} → (X → Type 0) → List X → List X �
 HasOneMore {X} P old new = (x : X) × (new ≡ old ++ x ∷ []) × P x
 
 -- So far all but those left were opened. What is at other places is as it was, and each source is as R says.
-pub record IsOpening {A X : Type 0} (places_of : List A → List Place) (R : A → X → Type 0) (behind behind' : Place → Option (List ℕ)) (given left : List A) (sources : List X) : Type 0 where
+pub record IsOpening {A X : Type 0} (places_of : List A → List Place) (R : A → X → Type 0) (behind behind' : Place → Option (List ℕ))
+    (given left : List A) (sources : List X) : Type 0 where
   pub done : List A
   pub all : done ++ left ≡ given
   pub others : (other : Place) → IsNoneOf other (places_of done) → behind' other ≡ behind other
   pub held : AllZip R done sources
 
-abbrev pub IsOpeningInputs : {S : Type 0} → (Place → Option (List ℕ)) → (Place → Option (List ℕ)) → (S → Option Stream) → List Place → List Place → List S → Type 0
+abbrev pub IsOpeningInputs : {S : Type 0} → (Place → Option (List ℕ)) → (Place → Option (List ℕ)) → (S → Option Stream) → List Place → List Place
+    → List S → Type 0
 IsOpeningInputs behind behind' content given left sources =
     IsOpening (λ (places : List Place). places) (IsHeld (behind_once given behind) content) behind behind' given left sources
 
-abbrev pub IsOpeningEdges : {S : Type 0} → (Place → Option (List ℕ)) → (Place → Option (List ℕ)) → (S → Option Stream) → List (Option Place) → List (Option Place) → List (Option S) → Type 0
+abbrev pub IsOpeningEdges : {S : Type 0} → (Place → Option (List ℕ)) → (Place → Option (List ℕ)) → (S → Option Stream) → List (Option Place)
+    → List (Option Place) → List (Option S) → Type 0
 IsOpeningEdges behind behind' content given left sources =
     IsOpening places_in (IsEdgeHeld (behind_once (places_in given) behind) content) behind behind' given left sources

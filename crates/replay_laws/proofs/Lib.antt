@@ -7,6 +7,7 @@ pub mod Apart
 pub mod Rows
 pub mod Growing
 pub mod Chosen
+pub mod Sessions
 pub mod Written
 pub mod Endings
 pub mod Printed

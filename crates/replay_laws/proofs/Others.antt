@@ -30,7 +30,7 @@ use Rattle.replay_laws.specs.Outputs.{begins_with, is_of, is_other_line, last_st
 use Rattle.replay_laws.specs.Readings.{EndedReading, is_by, line_of, readings_of, taken_by, taken_in}
 use Rattle.replay_laws.proofs.Rows.{closing_other, bad_other, unit_other}
 use Rattle.replay_laws.proofs.Chosen.{filtered, items_no_other}
-use Rattle.replay_laws.proofs.Written.{kept_apart}
+use Rattle.replay_laws.proofs.Sessions.{kept_apart}
 use Rattle.replay_laws.proofs.Endings.{client_rows, drained_rows, end_is, end_rows, last_rows, units_are, units_of}
 use Rattle.replay_laws.proofs.Printed.{AtEnd, Output, ends, monitors_written, output, shut_sessions}
 

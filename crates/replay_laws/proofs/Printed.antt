@@ -30,7 +30,8 @@ use Rattle.replay_laws.specs.Readings.{EndedReading, is_by, line_of, readings_at
 use Rattle.replay_laws.proofs.Growing.{HasClosing, closed_has}
 use Rattle.replay_laws.proofs.Rows.{bad_is_line, bad_of_no_monitor, bad_of_no_session}
 use Rattle.replay_laws.proofs.Chosen.{filtered, joined_rows, lines_joined, monitor_rows, session_rows}
-use Rattle.replay_laws.proofs.Written.{Adds, Mapped, Sessions, Told, Wrote, all_shut, at_mapped, event_adds, low_session}
+use Rattle.replay_laws.proofs.Sessions.{Mapped, Sessions, Told, all_shut, at_mapped, low_session}
+use Rattle.replay_laws.proofs.Written.{Adds, Wrote, event_adds}
 use Rattle.replay_laws.proofs.Endings.{client_rows, end_rows, ended_wrote, last_are_lines, last_is, last_no_monitor, last_of_session, last_rows, rows_if}
 
 -- ---- one line of a script

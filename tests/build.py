@@ -2,7 +2,8 @@
 """The build without proof, over a small program of the kit, and the libraries that `rt ci` kept: neither proves or compiles a crate of this
 repository.
 
-Use: build.py. Prints a line for each check, and ends with 1 if one fails. It takes some 25 seconds, and needs the toolchain.
+Use: build.py. Prints a line for each check, and ends with 1 if one fails. It takes some 25 seconds, and needs the toolchain. What a kit
+lacks is looked for in the kit: if it keeps no libraries, the check is that the tool says so.
 """
 import os
 import re
@@ -16,6 +17,7 @@ from checks import check, run_parts
 TOP = os.path.dirname(os.path.dirname(os.path.abspath(__file__)))
 sys.dont_write_bytecode = True
 sys.path.insert(0, os.path.join(TOP, "tools"))
+import build_kit  # noqa: E402
 import build_unproved  # noqa: E402
 
 
@@ -55,16 +57,52 @@ def words():
         check(f"{given}: how it is called", (2, True), (ran.returncode, "tools/build.sh --unproved" in ran.stderr))
 
 
+# An rt that has what the machine's rt has, but for one name.
+POORER = """import importlib.machinery, importlib.util
+loader = importlib.machinery.SourceFileLoader("real_rt", {real!r})
+real = importlib.util.module_from_spec(importlib.util.spec_from_loader("real_rt", loader))
+loader.exec_module(real)
+globals().update({{name: it for name, it in vars(real).items() if name not in ("__name__", {lacks!r})}})
+"""
+
+
+def poorer_kit(room, lacks):
+    """The environment of a process that finds an rt without this name."""
+    path = os.path.join(room, "rt")
+    with open(path, "w", encoding="utf-8") as it:
+        it.write(POORER.format(real=os.path.realpath(shutil.which("rt")), lacks=lacks))
+    os.chmod(path, 0o755)
+    return {**os.environ, "PATH": f"{room}{os.pathsep}{os.environ['PATH']}"}
+
+
+def small_checkout(room):
+    """A checkout of two low crates, and the call that gives it kept libraries."""
+    os.mkdir(os.path.join(room, "tools"))
+    for name in "kept_libraries.py", "build_kit.py":
+        shutil.copy(os.path.join(TOP, "tools", name), os.path.join(room, "tools"))
+    shutil.copy(os.path.join(TOP, "HANDLES"), room)
+    for name in "ubx_frame", "nmea_frame":
+        shutil.copytree(os.path.join(TOP, "crates", name), os.path.join(room, "crates", name), ignore=shutil.ignore_patterns("out"))
+    with open(os.path.join(room, "crates.txt"), "w", encoding="utf-8") as it:
+        it.write("ubx_frame:\nnmea_frame:\n")
+    return [sys.executable, os.path.join(room, "tools", "kept_libraries.py")]
+
+
+def keeps_nothing():
+    """A kit without a store of libraries, which some are and any can be made to be."""
+    with tempfile.TemporaryDirectory() as room, tempfile.TemporaryDirectory() as other:
+        call = small_checkout(room)
+        ran = subprocess.run([*call, "ubx_frame"], capture_output=True, text=True, env=poorer_kit(other, "Kept"))
+        check("a kit that keeps no libraries is said to", (3, "", "kept_libraries.py: this kit keeps no libraries\n"), (ran.returncode, ran.stdout, ran.stderr))
+        check("and nothing is given", False, os.path.exists(os.path.join(room, "crates", "ubx_frame", "out")))
+
+
 def kept_libraries():
+    if not hasattr(build_kit.toolchain("build.py"), "Kept"):
+        print("skipped: what a kit has kept, since this kit keeps no libraries")
+        return
     with tempfile.TemporaryDirectory() as room:
-        os.mkdir(os.path.join(room, "tools"))
-        shutil.copy(os.path.join(TOP, "tools", "kept_libraries.py"), os.path.join(room, "tools"))
-        shutil.copy(os.path.join(TOP, "HANDLES"), room)
-        for name in "ubx_frame", "nmea_frame":
-            shutil.copytree(os.path.join(TOP, "crates", name), os.path.join(room, "crates", name), ignore=shutil.ignore_patterns("out"))
-        with open(os.path.join(room, "crates.txt"), "w", encoding="utf-8") as it:
-            it.write("ubx_frame:\nnmea_frame:\n")
-        call = [sys.executable, os.path.join(room, "tools", "kept_libraries.py")]
+        call = small_checkout(room)
         ran = subprocess.run([*call, "ubx_frame"], capture_output=True, text=True)
         said = re.fullmatch(r"([01]) of 1 libraries are there(; not kept, or over one that is not: ubx_frame)?\n", ran.stdout)
         check("it says how many libraries are there", True, bool(said) or ran.stdout + ran.stderr)
@@ -83,5 +121,5 @@ def kept_libraries():
 
 
 if shutil.which("rt"):
-    sys.exit(run_parts(words, sources, small_program, kept_libraries))
+    sys.exit(run_parts(words, sources, small_program, keeps_nothing, kept_libraries))
 print("skipped: the toolchain's command rt is not on the PATH")

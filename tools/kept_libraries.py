@@ -8,26 +8,19 @@ begins with the crate itself. Only libraries whose text, and whose libraries' te
 that a check built here by itself is replaced if there is a kept one, since kept libraries fit only each other. It can be called
 again at any time while no other rt works here, and adds what was kept meanwhile. It proves nothing, and the gate does not need it.
 
-It calls the toolchain's own functions (`rt` of the kit that README names), so another kit may need another form of it.
+It calls the toolchain's own functions. Not every kit keeps libraries: if this one does not, the status is 3.
 """
 import functools
-import importlib.machinery
-import importlib.util
 import os
 import shutil
 import sys
 
+import build_kit
+
 TOP = os.path.dirname(os.path.dirname(os.path.realpath(__file__)))
-
-
-def toolchain():
-    """The program rt as a module."""
-    found = shutil.which("rt") or sys.exit("kept_libraries.py: the toolchain's command rt is not on the PATH")
-    sys.dont_write_bytecode = True
-    loader = importlib.machinery.SourceFileLoader("rt", os.path.realpath(found))
-    module = importlib.util.module_from_spec(importlib.util.spec_from_loader("rt", loader))
-    loader.exec_module(module)
-    return module
+NEEDS = ("Kept.key", "Kept.place", "Kept.give", "Kept.is_built", "Crate.allowed", "handles_of",
+         "rtlib.Crate.stamp", "rtlib.crates_below", "rtlib.lock", "rtlib.text_of")
+NOT_KEPT = 3  # the status if the kit keeps no libraries
 
 
 def give(rt, kept, crate, given):
@@ -55,7 +48,13 @@ def main():
         print(__doc__, end="", file=sys.stderr)
         return 2
     os.chdir(TOP)
-    rt = toolchain()
+    rt = build_kit.toolchain("kept_libraries.py")
+    if not hasattr(rt, "Kept"):
+        print("kept_libraries.py: this kit keeps no libraries", file=sys.stderr)
+        return NOT_KEPT
+    if lacks := build_kit.lacking(rt, NEEDS):
+        print(f"kept_libraries.py: this kit keeps libraries in another form: its rt has no {', '.join(lacks)}", file=sys.stderr)
+        return NOT_KEPT
     # The sum of a crate is that of its files and of all below it: each is needed often, and stays the same here.
     rt.rtlib.Crate.stamp = functools.cache(rt.rtlib.Crate.stamp)
     every = rt.rtlib.crates_below(TOP)

@@ -13,6 +13,7 @@ import sys
 import tempfile
 
 from checks import check, run_parts
+from kits import poorer_kit
 
 TOP = os.path.dirname(os.path.dirname(os.path.abspath(__file__)))
 sys.dont_write_bytecode = True
@@ -55,24 +56,6 @@ def words():
     for given in [], ["--help"], ["a", "b"]:
         ran = subprocess.run([sys.executable, os.path.join(TOP, "tools", "build_unproved.py"), *given], capture_output=True, text=True)
         check(f"{given}: how it is called", (2, True), (ran.returncode, "tools/build.sh --unproved" in ran.stderr))
-
-
-# An rt that has what the machine's rt has, but for one name.
-POORER = """import importlib.machinery, importlib.util
-loader = importlib.machinery.SourceFileLoader("real_rt", {real!r})
-real = importlib.util.module_from_spec(importlib.util.spec_from_loader("real_rt", loader))
-loader.exec_module(real)
-globals().update({{name: it for name, it in vars(real).items() if name not in ("__name__", {lacks!r})}})
-"""
-
-
-def poorer_kit(room, lacks):
-    """The environment of a process that finds an rt without this name."""
-    path = os.path.join(room, "rt")
-    with open(path, "w", encoding="utf-8") as it:
-        it.write(POORER.format(real=os.path.realpath(shutil.which("rt")), lacks=lacks))
-    os.chmod(path, 0o755)
-    return {**os.environ, "PATH": f"{room}{os.pathsep}{os.environ['PATH']}"}
 
 
 def small_checkout(room):

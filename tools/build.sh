@@ -3,9 +3,11 @@
 #
 # Use: tools/build.sh [--unproved]
 #
-# Without an option it proves the program and builds it from what is proved, as crates/gpsrelay/out/gpsrelay. That takes about an hour
-# on four processors; the gate's whole run is in docs/LESSONS.md. If it is ended early, the next call goes on where it was. Then the
-# program decodes the recorded drive of samples/, and says how many lines of each class that gave.
+# Without an option it proves the program and builds it from what is proved, as crates/gpsrelay/out/gpsrelay. It proves several crates
+# at one time, as many as processors and memory allow, and says how far it is. That takes about an hour on four processors, about twice
+# as long on two; two processors and 8 GB of memory are enough, and some 15 GB of the disk. The gate's whole run is in docs/LESSONS.md.
+# If it is ended early, the next call goes on where it was. What the prover says is kept in out/proved.log. Then the program decodes the
+# recorded drive of samples/, and says how many lines of each class that gave.
 #
 # --unproved builds it without any proof, as out/unproved/gpsrelay, in some three minutes. `gpsrelay --version` then says
 # that it is built without proof. It has checks of its own and is slower.
@@ -24,7 +26,7 @@ while [ $# -gt 0 ]; do
     case $1 in
     --unproved) unproved=1 ;;
     -h | --help)
-        sed -n '2,14s/^# \{0,1\}//p' "${BASH_SOURCE[0]}"
+        sed -n '2,16s/^# \{0,1\}//p' "${BASH_SOURCE[0]}"
         exit 0
         ;;
     *) refuse 2 "$1: no such option; see build.sh --help" ;;
@@ -41,8 +43,8 @@ if [ -n "$unproved" ]; then
     exec python3 "$top/tools/build_unproved.py" "$top/out/unproved/gpsrelay"
 fi
 echo "Proving and building: about an hour on four processors (the gate's whole run is in docs/LESSONS.md), less if parts of it are proved already ..."
+python3 "$top/tools/build_proved.py" "$top" gpsrelay decode </dev/null
 cd "$top/crates/gpsrelay"
-rt run -- decode </dev/null
 echo "$PWD/out/gpsrelay: built from what is proved"
 if [ -e "$top/samples/drive.nmea" ]; then
     echo "samples/drive.nmea, decoded and counted by class:"

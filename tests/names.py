@@ -3,7 +3,7 @@
 
 Use: names.py [--comments | --rows], anywhere in a checkout. Prints one line for each finding, with its place and what to do, and ends
 with 1 if there is one. With --comments the phrases are looked for in the comments of crates/ too, which the gate does not ask for. With
---rows it prints only what ROWS, DEFAULTS and ARGUMENTS would be today.
+--rows it prints only what ROWS, DEFAULTS, ARGUMENTS and PATHS would be today.
 
  types     Two crates declare a public type of one name, and docs/GLOSSARY.md has no line that names it in backticks and says why.
  rows      A row of a contract (of an `ensures` or a `requires`) passes 160 columns. ROWS allows a crate the rows that it still has;
@@ -14,7 +14,9 @@ with 1 if there is one. With --comments the phrases are looked for in the commen
  files     A source file passes 450 lines.
  names     A document names a crate, a file, a type, a call or a clause that is not there.
  phrases   A document or a message has a phrase of FOREIGN.
+ libraries A line of crates.txt names a library that no file of its crate mentions, or there are more paths through crates.txt than PATHS.
 """
+import functools
 import os
 import re
 import subprocess
@@ -29,6 +31,9 @@ ROWS = {}
 DEFAULTS = {"book_log": 3, "replay_monitors": 4, "replay_player": 1, "report_book": 4, "serve_door": 2, "serve_end_settling": 3, "session_runs": 1}
 ARGUMENTS = {"book_log": 3, "book_sessions": 2, "gps_decode": 1, "gps_serve": 2, "serve_threads": 1, "serve_workers": 11}
 MOST_ARGUMENTS = 6
+# Paths that lead from the program down through crates.txt: so often rt reads a crate for one sum of the program's files. It only shrinks.
+PATHS = {"gpsrelay": 85_350}
+LOOSE = 1.1  # PATHS may be larger than what is there by this factor
 # Words that these crates do not use in names, and what they say in their place: each word has another meaning somewhere else.
 RETIRED = [
     (r"class_counts|gps_decode|gps_outside|gps_replay|gps_upstream|line_player|ubx_frame|library_tests", r"[Tt]urns?", "round; a turn is the book's"),
@@ -256,6 +261,42 @@ def names(files):
                     yield f"{name}:{number}: `{word}` is nowhere in src/, specs/, proofs/ or crates.txt; name what is there"
 
 
+def table_of_crates():
+    """Of each crate its line of crates.txt, as a number, and the libraries that it names."""
+    found = {}
+    for number, row in rows_of("crates.txt"):
+        if it := re.fullmatch(r"(\w+)(?: \w+(?:=[\w+]+)?)*:(.*)", row.partition("#")[0].rstrip()):
+            found[it[1]] = number, it[2].split()
+    return found
+
+
+def count_paths(table):
+    """Of each crate how many paths lead from it down through the table, the empty one among them."""
+    @functools.cache
+    def paths(crate):
+        return 1 + sum(paths(it) for it in table[crate][1] if it in table)
+
+    return {crate: paths(crate) for crate in table}
+
+
+def libraries(files):
+    """Libraries that a crate names and does not use, and too many paths."""
+    table, mentioned = table_of_crates(), defaultdict(set)
+    for name in files:
+        if SOURCE.match(name):
+            mentioned[crate_of(name)].update(re.findall(r"\w+", read(name)))
+    for crate, (number, named) in table.items():
+        for it in named:
+            if it not in mentioned[crate]:
+                yield f"crates.txt:{number}: {crate} names {it}, which no file of it mentions; take it out"
+    for crate, most in PATHS.items():
+        count = count_paths(table).get(crate, 0)
+        if count > most:
+            yield f"crates.txt:{table[crate][0]}: {count} paths lead down from {crate}, {most} are allowed; have fewer crates name each other"
+        elif most > LOOSE * count:
+            yield f"tests/names.py: PATHS allows {crate} {most}, and it has {count}; make the number {count}"
+
+
 def messages_of(name):
     """The numbered rows that a reader is shown: the whole of a document or a script, of a source its texts in quotes."""
     whole = not name.startswith("crates/") or "--comments" in sys.argv
@@ -279,13 +320,14 @@ def main():
     if "--rows" in sys.argv:
         for table in long_rows, lookups, long_lists:
             print(table.__name__, {crate: len(found) for crate, found in sorted(table(files).items()) if found})
+        print("paths", {crate: count_paths(table_of_crates()).get(crate) for crate in PATHS})
         return 0
     count = 0
-    for look in types, rows, defaults, arguments, words, long_files, names, phrases:
+    for look in types, rows, defaults, arguments, words, long_files, names, phrases, libraries:
         for finding in look(files):
             count += 1
             print(f"FAILED  {finding}")
-    print(f"{'FAILED' if count else 'ok    '}  names, rows, files, documents and phrases: {count} findings")
+    print(f"{'FAILED' if count else 'ok    '}  names, rows, files, documents, phrases and libraries: {count} findings")
     return 1 if count else 0
 
 

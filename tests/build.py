@@ -103,6 +103,34 @@ def kept_libraries():
         check("a crate that is not there", (1, True), (ran.returncode, "there is no crate no_such" in ran.stderr))
 
 
+# A program that is busy for two seconds of its own time, and an rt that runs it in another folder.
+BUSY = "import time\nwhile time.process_time() < 2: pass"
+STARTS = "import subprocess, sys\nsubprocess.run(sys.argv[2:], executable=sys.executable, cwd=sys.argv[1])"
+
+
+def gate_table():
+    """A prover below this checkout, one in another folder, and one in another folder that an rt of this checkout started."""
+    with tempfile.TemporaryDirectory() as elsewhere:
+        edited, table, rt = os.path.join(elsewhere, "rt-edit-1"), os.path.join(elsewhere, "table"), os.path.join(elsewhere, "rt")
+        os.mkdir(edited)
+        with open(rt, "w", encoding="utf-8") as it:
+            it.write(STARTS)
+        prover = lambda name: ["/kit/rattle", "-c", BUSY, "--crate-name", name]
+        ran = [subprocess.Popen(prover("mine"), executable=sys.executable, cwd=TOP),
+               subprocess.Popen(prover("others"), executable=sys.executable, cwd=elsewhere),
+               subprocess.Popen([sys.executable, rt, edited, *prover("edited")], cwd=TOP)]
+        watcher = subprocess.Popen([sys.executable, os.path.join(TOP, "tests", "gate_times.py"), table])
+        for it in ran:
+            it.wait()
+        watcher.terminate()
+        watcher.wait()
+        with open(table, encoding="utf-8") as it:
+            rows = {row.split()[0]: [float(it) > 0 for it in row.split()[1:]] for row in it.read().splitlines()[1:] if not row.startswith("rt itself")}
+        check("the gate's table has what works below this checkout: in proofs", [True, False, False, True], rows.get("mine"))
+        check("and an edit in a temporary folder, in edits", [False, False, True, True], rows.get("edited"))
+        check("and nothing else", ["edited", "mine", "together"], sorted(rows))
+
+
 if shutil.which("rt"):
-    sys.exit(run_parts(words, sources, small_program, keeps_nothing, kept_libraries))
+    sys.exit(run_parts(words, gate_table, sources, small_program, keeps_nothing, kept_libraries))
 print("skipped: the toolchain's command rt is not on the PATH")

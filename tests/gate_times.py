@@ -1,8 +1,10 @@
 #!/usr/bin/env python3
-"""Processor time that the prover takes for each crate: its proofs, its tests and its must-fail edits.
+"""Processor time that the prover takes for each crate: its proofs, its tests and its must-fail edits, and what rt takes itself.
 
-Use: gate_times.py FILE, beside a run of the gate. It looks at the prover's processes twice a second, and when it is ended by SIGTERM it
-writes one line a crate to FILE, the dearest first, in processor seconds. What a process takes after its last look is missed.
+Use: gate_times.py FILE, beside a run of the gate. It looks twice a second at the processes of the prover and of rt that belong to this
+checkout. What else the machine proves is not counted. When it is ended by SIGTERM it writes one line a crate to FILE, the dearest first,
+in processor seconds, and a line for rt itself: sums over files, and what it reads of sources. What a process takes after its last look is
+missed.
 """
 import os
 import signal
@@ -10,24 +12,51 @@ import sys
 import time
 
 TICKS = os.sysconf("SC_CLK_TCK")
+TOP = os.path.dirname(os.path.dirname(os.path.realpath(__file__)))
 KINDS = ("proofs", "tests", "edits")
 
 
+class Process:
+    """What /proc says of a process. It raises OSError or IndexError if the process is gone."""
+
+    def __init__(self, pid):
+        with open(f"/proc/{pid}/cmdline", "rb") as it:
+            self.words = it.read().decode(errors="replace").split("\0")
+        with open(f"/proc/{pid}/stat") as it:
+            fields = it.read().rpartition(")")[2].split()
+        self.pid, self.parent, self.key = pid, fields[1], (pid, fields[19])
+        self.seconds = (int(fields[11]) + int(fields[12])) / TICKS
+        self.folder = os.readlink(f"/proc/{pid}/cwd")
+
+    def is_here(self):
+        return f"{self.folder}/".startswith(f"{TOP}/")
+
+    def is_rt(self):
+        return any(os.path.basename(it) == "rt" for it in self.words[:3])
+
+    def is_ours(self):
+        """Whether it works below this checkout, or for an rt that does: an edit is checked in a temporary folder."""
+        it = self
+        while not self.is_here() and not it.is_rt():
+            if it.parent in ("0", "1"):
+                return False
+            it = Process(it.parent)
+        return it.is_here()
+
+
 def look():
-    """Yields each process of the prover: its key, the crate, the kind of work, and its processor time so far."""
+    """Yields each process of the prover, and of rt: its key, the crate, the kind of work, and its processor time so far."""
     for pid in filter(str.isdigit, os.listdir("/proc")):
         try:
-            with open(f"/proc/{pid}/cmdline", "rb") as it:
-                words = it.read().decode(errors="replace").split("\0")
-            if not words[0].endswith("/rattle") or "--crate-name" not in words:
-                continue
-            folder = os.readlink(f"/proc/{pid}/cwd")
-            with open(f"/proc/{pid}/stat") as it:
-                fields = it.read().rpartition(")")[2].split()
+            it = Process(pid)
+            if it.is_rt():
+                if it.is_here():
+                    yield it.key, None, None, it.seconds
+            elif it.words[0].endswith("/rattle") and "--crate-name" in it.words and it.is_ours():
+                kind = "edits" if "/rt-edit-" in it.folder else "tests" if "--test" in it.words else "proofs"
+                yield it.key, it.words[it.words.index("--crate-name") + 1], kind, it.seconds
         except (OSError, IndexError):
             continue
-        kind = "edits" if "/rt-edit-" in folder else "tests" if "--test" in words else "proofs"
-        yield (pid, fields[19]), words[words.index("--crate-name") + 1], kind, (int(fields[11]) + int(fields[12])) / TICKS
 
 
 def main():
@@ -39,14 +68,19 @@ def main():
         time.sleep(0.5)
     table = {}
     for crate, kind, seconds in spent.values():
-        row = table.setdefault(crate, dict.fromkeys(KINDS, 0.0))
-        row[kind] += seconds
+        if crate:
+            row = table.setdefault(crate, dict.fromkeys(KINDS, 0.0))
+            row[kind] += seconds
+    own = sum(seconds for crate, _, seconds in spent.values() if not crate)
     with open(sys.argv[1], "w") as out:
         print(f"{'crate':<16}" + "".join(f"{kind:>9}" for kind in KINDS) + f"{'all':>9}", file=out)
         rows = sorted(table.items(), key=lambda it: -sum(it[1].values()))
         total = {kind: sum(row[kind] for row in table.values()) for kind in KINDS}
-        for crate, row in [*rows, ("together", total)]:
+        for crate, row in rows:
             print(f"{crate:<16}" + "".join(f"{row[kind]:>9.0f}" for kind in KINDS) + f"{sum(row.values()):>9.0f}", file=out)
+        print(f"{'rt itself':<43}{own:>9.0f}", file=out)
+        print(f"{'together':<16}" + "".join(f"{total[kind]:>9.0f}" for kind in KINDS) + f"{sum(total.values()) + own:>9.0f}", file=out)
 
 
-main()
+if __name__ == "__main__":
+    main()

@@ -8,6 +8,9 @@ import os
 import shutil
 import sys
 
+SHARE = 0.5  # of the memory that rt reckons for a check; 0.3 to 0.45 was measured (docs/LESSONS.md, "The gate's time")
+SPARE = 0.9  # of the free memory that checks may take
+
 
 def toolchain(caller):
     """The program rt as a module. `caller` is the tool that ends if there is none."""
@@ -30,3 +33,8 @@ def lacking(rt, names):
         return True
 
     return [name for name in names if not has(name)]
+
+
+def peak(rt, crate):
+    """The most memory in bytes that a check of this crate with one job may take."""
+    return int(SHARE * rt.need(crate))

@@ -31,9 +31,7 @@ import build_kit
 NEEDS = ("main", "processors", "free", "need", "rtlib.guarded", "rtlib.lock", "rtlib.crates_below", "rtlib.Crate.stamp", "rtlib.Crate.below",
          "rtlib.Crate.is_built", "rtlib.Crate.build_rlib", "rtlib.Crate.count")
 MOST_JOBS = 4  # of one check: more gain nothing, since single functions take most of a large crate's time
-SHARE = 0.5  # of the memory that rt reckons for a check; see LESSONS, "The gate's time"
 JOB_SHARE = 0.6  # of a check's memory that each further job takes
-SPARE = 0.9  # of the free memory that is given out
 SHOWN = 6  # names in a row of progress
 PATIENCE = 60  # seconds until progress is said again
 DISK = 300_000  # bytes that out/ keeps for a line of source
@@ -68,7 +66,7 @@ def tasks_of(rt, program):
     for it in reversed(crates):
         lines = it.count(rb"\n")
         behind = lines + max((above.behind for above in tasks if it.name in above.below), default=0)
-        tasks.append(Task(it, below[it.name], lines, behind, int(SHARE * rt.need(it))))
+        tasks.append(Task(it, below[it.name], lines, behind, build_kit.peak(rt, it)))
     return tasks[::-1]
 
 
@@ -138,7 +136,7 @@ class Build:
         self.left = sorted((it for it in tasks if it.name not in self.proved), key=lambda it: -it.behind)
         self.total, self.functions = len(tasks) + 1, 0
         self.running, self.failed, self.killed = {}, [], set()  # running: of a future its task, its jobs, and its processors
-        self.processors, self.memory = rt.processors(), SPARE * rt.free()
+        self.processors, self.memory = rt.processors(), build_kit.SPARE * rt.free()
 
     def progress(self):
         names = [it.name for it, _, _ in self.running.values()] or [self.last.name]
@@ -151,16 +149,16 @@ class Build:
     def look_at_machine(self):
         """Says what is there, and what is too little."""
         giga, needed = 1e9, max((it.need for it in [*self.left, self.last]))
-        say(f"{counted(self.processors, 'processor')}, {self.memory / SPARE / giga:.0f} GB of free memory, {len(self.left) + 1} of {self.total} crates to prove")
+        say(f"{counted(self.processors, 'processor')}, {self.memory / build_kit.SPARE / giga:.0f} GB of free memory, {len(self.left) + 1} of {self.total} crates to prove")
         if needed > self.memory:
-            say(f"a crate alone may take {needed / giga:.1f} GB of memory, and {self.memory / SPARE / giga:.1f} GB are free: its check may be killed")
+            say(f"a crate alone may take {needed / giga:.1f} GB of memory, and {self.memory / build_kit.SPARE / giga:.1f} GB are free: its check may be killed")
         space, kept = shutil.disk_usage(os.getcwd()).free, sum(it.lines for it in [*self.left, self.last]) * DISK
         if kept > space:
             say(f"what is kept may take {kept / giga:.0f} GB of the disk, and {space / giga:.0f} GB are free")
 
     def room(self):
         """Memory in bytes that no running check may still take."""
-        return min(self.memory - sum(it.memory(jobs) for it, jobs, _ in self.running.values()), SPARE * self.rt.free())
+        return min(self.memory - sum(it.memory(jobs) for it, jobs, _ in self.running.values()), build_kit.SPARE * self.rt.free())
 
     def idle(self):
         return self.processors - sum(processors for _, _, processors in self.running.values())

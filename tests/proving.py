@@ -59,13 +59,14 @@ def repository(room, body_of_b):
     write(os.path.join(room, "crates", "top", "src", "main.rt"), PROGRAM)
 
 
-def started(words, cwd, env=None):
+def started(words, cwd, env=None, processors=None):
     how = {"stdin": subprocess.DEVNULL, "stdout": subprocess.PIPE, "stderr": subprocess.PIPE, "text": True}
-    return subprocess.Popen(words, cwd=cwd, env=env, **how)
+    pinned = (lambda: os.sched_setaffinity(0, processors)) if processors else None
+    return subprocess.Popen(words, cwd=cwd, env=env, preexec_fn=pinned, **how)
 
 
-def build(room, env=None):
-    return started([sys.executable, TOOL, room, "top"], "/", env)
+def build(room, env=None, processors=None):
+    return started([sys.executable, TOOL, room, "top"], "/", env, processors)
 
 
 def stamp_of(room, crate):
@@ -74,25 +75,24 @@ def stamp_of(room, crate):
     return os.stat(path).st_mtime_ns if os.path.exists(path) else None
 
 
-def workers(room):
-    """Processes that work in this repository, by what they run."""
+def workers(room, crate=""):
+    """The processes that work in this repository, or in this crate of it."""
     found = []
-    for pid in filter(str.isdigit, os.listdir("/proc")):
+    for pid in map(int, filter(str.isdigit, os.listdir("/proc"))):
         try:
-            if os.readlink(f"/proc/{pid}/cwd").startswith(room):
-                with open(f"/proc/{pid}/cmdline", "rb") as it:
-                    found.append(it.read().decode(errors="replace"))
+            if os.readlink(f"/proc/{pid}/cwd").startswith(os.path.join(room, "crates", crate) if crate else room):
+                found.append(pid)
         except OSError:
             pass
     return found
 
 
-def waited(is_there):
-    """Whether this comes true in time."""
+def waited(look):
+    """What this gives once it is true, or what it gives when the time is up."""
     end = time.monotonic() + WAIT
-    while not is_there() and time.monotonic() < end:
+    while not (found := look()) and time.monotonic() < end:
         time.sleep(0.02)
-    return is_there()
+    return found
 
 
 def failing(room):
@@ -110,7 +110,7 @@ def interrupted(room):
     was = stamp_of(room, "low_a")
     for number in signal.SIGINT, signal.SIGTERM, signal.SIGKILL:
         ran = build(room)
-        check(f"{number.name}: the library is being proved", True, waited(lambda: any("low_b" in it for it in workers(room))))
+        check(f"{number.name}: the library is being proved", True, bool(waited(lambda: workers(room, "low_b"))))
         time.sleep(random.uniform(0, 1))
         ran.send_signal(number)
         _, said = ran.communicate()
@@ -121,9 +121,14 @@ def interrupted(room):
 
 
 def begun_again(room, plain):
+    """On one processor, and the first check is killed, as the system does if memory runs out."""
     was = stamp_of(room, "low_a")
-    ran = build(room)
+    ran = build(room, processors={min(os.sched_getaffinity(0))})
+    for pid in waited(lambda: workers(room, "low_b")):
+        os.kill(pid, signal.SIGKILL)
     printed, said = ran.communicate()
+    killed = "build_proved.py: the check of low_b was killed, most likely for memory: once more with nothing beside it"
+    check("a check that is killed is done again", True, killed in said or said)
     check("begun again, it ends well", (0, "42\n"), (ran.returncode, printed) if not ran.returncode else said)
     check("what was proved is not proved again", was, stamp_of(room, "low_a"))
     check("it says what it does", True, bool(re.search(r"^1 of 3 proved, 0 minutes; low_b$", said, re.M)) or said)

@@ -4,10 +4,10 @@
 # Use: tools/build.sh [--unproved]
 #
 # Without an option it proves the program and builds it from what is proved, as crates/gpsrelay/out/gpsrelay. It proves several crates
-# at one time, as many as processors and memory allow, and says how far it is. That takes about an hour on four processors, about twice
-# as long on two; two processors and 8 GB of memory are enough, and some 15 GB of the disk. The gate's whole run is in docs/LESSONS.md.
-# If it is ended early, the next call goes on where it was. What the prover says is kept in out/proved.log. Then the program decodes the
-# recorded drive of samples/, and says how many lines of each class that gave.
+# at one time, as many as processors and memory allow, and says how far it is. That takes about an hour on four processors. It says so if
+# there is too little memory, or too little room on the disk. The gate's whole run is in docs/LESSONS.md. If it is ended early, the next
+# call goes on where it was. What the prover says is kept in out/proved.log. Then the program decodes the recorded drive of samples/, and
+# says how many lines of each class that gave.
 #
 # --unproved builds it without any proof, as out/unproved/gpsrelay, in some three minutes. `gpsrelay --version` then says
 # that it is built without proof. It has checks of its own and is slower.

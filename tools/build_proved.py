@@ -179,7 +179,8 @@ class Build:
         share = max(1, min(MOST_JOBS, self.idle() - len(others)))
         later = [it for it in self.left if it is not task and it not in others]
         # What all later work waits for gets more jobs than its share of processors.
-        jobs = min(MOST_JOBS, self.processors) if all(task.name in it.below for it in later) else share
+        is_neck = (later or not others) and all(task.name in it.below for it in later)
+        jobs = min(MOST_JOBS, self.processors) if is_neck else share
         while jobs > 1 and task.memory(jobs) > self.room():
             jobs -= 1
         return jobs, min(share, jobs)

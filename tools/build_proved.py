@@ -34,6 +34,7 @@ MOST_JOBS = 4  # of one check: more gain nothing, since single functions take mo
 JOB_SHARE = 0.6  # of a check's memory that each further job takes
 SHOWN = 6  # names in a row of progress
 PATIENCE = 60  # seconds until progress is said again
+GIGA = 1e9
 DISK = 300_000  # bytes that out/ keeps for a line of source
 DULL = re.compile(r"fn \S+: proved$|(statements|library|crate) \w+: modules ")  # rows that say nothing of what is open
 
@@ -148,13 +149,14 @@ class Build:
 
     def look_at_machine(self):
         """Says what is there, and what is too little."""
-        giga, needed = 1e9, max((it.need for it in [*self.left, self.last]))
-        say(f"{counted(self.processors, 'processor')}, {self.memory / build_kit.SPARE / giga:.0f} GB of free memory, {len(self.left) + 1} of {self.total} crates to prove")
-        if needed > self.memory:
-            say(f"a crate alone may take {needed / giga:.1f} GB of memory, and {self.memory / build_kit.SPARE / giga:.1f} GB are free: its check may be killed")
-        space, kept = shutil.disk_usage(os.getcwd()).free, sum(it.lines for it in [*self.left, self.last]) * DISK
+        todo, free = [*self.left, self.last], self.memory / build_kit.SPARE / GIGA
+        say(f"{counted(self.processors, 'processor')}, {free:.0f} GB of free memory, {len(todo)} of {self.total} crates to prove")
+        dearest = max(todo, key=lambda it: it.need)
+        if dearest.need > self.memory:
+            say(f"{dearest.name} alone may take {dearest.need / GIGA:.1f} GB of memory, and {free:.1f} GB are free: its check may be killed")
+        space, kept = shutil.disk_usage(os.getcwd()).free, DISK * sum(it.lines for it in todo)
         if kept > space:
-            say(f"what is kept may take {kept / giga:.0f} GB of the disk, and {space / giga:.0f} GB are free")
+            say(f"what is kept may take {kept / GIGA:.0f} GB of the disk, and {space / GIGA:.0f} GB are free")
 
     def room(self):
         """Memory in bytes that no running check may still take."""

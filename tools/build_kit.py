@@ -8,7 +8,8 @@ import os
 import shutil
 import sys
 
-SHARE = 0.5  # of the memory that rt reckons for a check; 0.3 to 0.45 was measured (docs/LESSONS.md, "The gate's time")
+SHARE = 0.55  # of the memory that rt reckons for a check; less was measured (docs/LESSONS.md, "The gate's time")
+LEAST = 1_000_000_000  # bytes, of a small crate
 SPARE = 0.9  # of the free memory that checks may take
 
 
@@ -37,4 +38,4 @@ def lacking(rt, names):
 
 def peak(rt, crate):
     """The most memory in bytes that a check of this crate with one job may take."""
-    return int(SHARE * rt.need(crate))
+    return max(LEAST, int(SHARE * rt.need(crate)))

@@ -7,11 +7,10 @@ machine's clock is 80 ms fast: gpsd's `ntpshmmon` and a real `chronyd -x`, which
 sign. chronyd must select the pulses, and find them again after the daemon was started anew. The segments are in an IPC namespace of this
 script's own, if it may have one. Exits with 1 if a check failed.
 """
-import contextlib
 import ctypes
-import io
 import mmap
 import os
+import platform
 import re
 import shutil
 import signal
@@ -21,6 +20,7 @@ import tempfile
 import threading
 import time
 
+from clock_leaps import leaps_are_dropped
 from clock_sides import *
 from harness import *
 
@@ -71,24 +71,24 @@ def datagrams_are_exact():
     daemon.time("PPS", now, now + 2)
     check("without a fix nothing is handed on", datagram(now, now + 2), pulses.next())
     now = time.time_ns()
-    old, young = now - 2 * BILLION - 100_000_000, now - BILLION
+    old, young = now - 2 * BILLION - 100_000_000, now - 900_000_000
     daemon.time("PPS", now, old)
     daemon.time("PPS", now, old + 6 * BILLION)
     daemon.time("PPS", now, young)
     check("what is more than two seconds old, or after now, is dropped", datagram(now, young), pulses.next())
     pulses.close()
-    daemon.time("PPS", now, time.time_ns())
+    daemon.time("PPS", time.time_ns(), time.time_ns())
     check("a socket that has gone", True, clock.says("takes no sample"))
     pulses = Reader(FOLDER, "pulse")
     made = time.time_ns()
-    daemon.time("PPS", now, made)
-    check("a socket that is made anew is found", datagram(now, made), pulses.next())
+    daemon.time("PPS", made, made)
+    check("a socket that is made anew is found", datagram(made, made), pulses.next())
     daemon.hang_up()
     daemon.take()
     daemon.fix()
     made = time.time_ns()
-    daemon.time("PPS", now, made)
-    check("it connects again", datagram(now, made), pulses.next())
+    daemon.time("PPS", made, made)
+    check("it connects again", datagram(made, made), pulses.next())
     check("it says how it ended", (0, "clock.py: ended"), clock.stop())
     place = f"127.0.0.1:{daemon.port}"
     said = [f"connected to {place}", "device gps0; the daemon has gps1 too, see --device", "gps0 has a fix",
@@ -107,22 +107,21 @@ def datagrams_are_exact():
 
 def messages_are_few():
     """What is said of samples that do not come, or are dropped, is said once."""
-    module, said = tool(), io.StringIO()
+    module, found = tool(), []
+    module.say = found.append
     feed = module.Feed({"TOFF": [], "PPS": [module]}, None, False)
-    with contextlib.redirect_stderr(said):
-        feed.choose([{"path": "gps0"}])
-        module.SILENCE = 0
-        feed.look()
-        feed.has_fix = True
-        feed.look()
-        feed.silent.clear()
-        feed.look()
-        old = {"real_sec": 1, "real_nsec": 0, "clock_sec": 1, "clock_nsec": 0}
-        for _ in range(3):
-            feed.hand_on("PPS", module.Sample(old))
-        module.REPEAT = 0
+    feed.choose([{"path": "gps0"}])
+    module.SILENCE = 0
+    feed.look()
+    feed.has_fix = True
+    feed.look()
+    feed.silent.clear()
+    feed.look()
+    old = {"real_sec": 1, "real_nsec": 0, "clock_sec": 1, "clock_nsec": 0}
+    for _ in range(3):
         feed.hand_on("PPS", module.Sample(old))
-    found = [line.removeprefix(f"{module.PROGRAM}: ") for line in said.getvalue().splitlines()]
+    module.REPEAT = 0
+    feed.hand_on("PPS", module.Sample(old))
     check("silence, and dropped samples", ["device gps0", "no pulse of gps0 for 0 s; it has no fix", "no pulse of gps0 for 0 s; has it edges?", True, True],
           found[:3] + [bool(re.fullmatch(r"dropped a sample: its stamp lies \d+\.\d s before now \(%d dropped so far\)" % number, line))
                        for number, line in zip((1, 4), found[3:])])
@@ -226,17 +225,41 @@ def segments_are_exact():
 def stores_are_in_order():
     """The order is that of the segments of this repository: valid 0, an odd count, the body, an even count, valid 1."""
     module, noted = tool(), Noted()
-    module.store(noted, module.Sample({"real_sec": 5, "real_nsec": 6_007, "clock_sec": 8, "clock_nsec": 9_010, "precision": -20}))
-    check("the thirteen stores", [("valid", 0), ("count", 5), ("clockTimeStampSec", 5), ("clockTimeStampUSec", 6), ("receiveTimeStampSec", 8),
-                                  ("receiveTimeStampUSec", 9), ("leap", 0), ("precision", -20), ("nsamples", 3), ("clockTimeStampNSec", 6_007),
-                                  ("receiveTimeStampNSec", 9_010), ("count", 6), ("valid", 1)], noted.stores)
+    module.store(noted, module.Sample({"real_sec": 5, "real_nsec": 6_007, "clock_sec": 8, "clock_nsec": 9_010, "precision": -20}),
+                 lambda: noted.stores.append("barrier"))
+    check("the thirteen stores, and what keeps their order", [
+        ("valid", 0), "barrier", ("count", 5), "barrier", ("clockTimeStampSec", 5), ("clockTimeStampUSec", 6), ("receiveTimeStampSec", 8),
+        ("receiveTimeStampUSec", 9), ("leap", 0), ("precision", -20), ("nsamples", 3), ("clockTimeStampNSec", 6_007),
+        ("receiveTimeStampNSec", 9_010), "barrier", ("count", 6), "barrier", ("valid", 1)], noted.stores)
     check("which addresses are of this machine", [True, True, False], [module.is_here((it, 0)) for it in ("127.0.0.1", "127.3.2.1", "192.0.2.1")])
     check("the segment has 96 bytes", (96, 96), (ctypes.sizeof(module.Segment), SHM.size))
+
+
+def barriers():
+    """What keeps the order on each machine. The numbers of membarrier are those of Linux's tables of system calls; that of this machine is called."""
+    module, numbers = sys.modules[tool().barrier_of.__module__], {"x86_64": 324, "aarch64": 283}
+    check("on x86-64 the processor does", None, module.barrier_of("x86_64")())
+    check("on arm64 a system call does", {"aarch64": numbers["aarch64"]}, module.MEMBARRIER)
+    try:
+        found = module.barrier_of("riscv64")
+    except module.NoBarrier as fault:
+        found = "this machine is riscv64: use --sock-pulse" in str(fault) and fault.status
+    check("on another machine the shared memory is refused", 2, found)
+    if number := numbers.get(platform.machine()):
+        module.MEMBARRIER = {"here": number}
+        check("the system call is there", None, module.barrier_of("here")())
+    module.MEMBARRIER = {"here": -1}
+    try:
+        found = module.barrier_of("here")
+    except module.NoBarrier as fault:
+        found = "Function not implemented" in str(fault)
+    check("a system without it is told", True, found)
 
 
 def readings_are_whole():
     """A process stores, and this one reads. A look at what the order of stores does on this machine, no proof."""
     module, shared = tool(), mmap.mmap(-1, 4096)
+    barrier = module.barrier_of(platform.machine())
     writer = os.fork()
     if writer == 0:
         segment, number = module.Segment.from_buffer(shared), 0
@@ -244,7 +267,7 @@ def readings_are_whole():
         while True:
             number = (number + 1) % 1_000_000
             sample.real = sample.clock = number * BILLION + number
-            module.store(segment, sample)
+            module.store(segment, sample, barrier)
             time.sleep(number % 3 * 1e-5)
     segment = module.Segment.from_buffer(shared)
     taken, torn, end = set(), [], time.monotonic() + WAIT
@@ -417,7 +440,8 @@ if not NTPSHMMON:
 if not (CHRONYD and CHRONYC):
     skipped("chronyd: it is not installed (chrony)")
 with tempfile.TemporaryDirectory() as FOLDER:
-    PARTS = [words_are_checked, datagrams_are_exact, messages_are_few, nobody_is_waited_for, devices_are_picked, stores_are_in_order, readings_are_whole]
+    PARTS = [words_are_checked, datagrams_are_exact, messages_are_few, lambda: leaps_are_dropped(FOLDER), nobody_is_waited_for, devices_are_picked,
+             stores_are_in_order, barriers, readings_are_whole]
     PARTS += [segments_are_exact] if UNITS else []
     PARTS += [example_is_read] if CHRONYD else []
     STATUS = run_parts(*PARTS, real_receiver)

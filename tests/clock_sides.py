@@ -24,6 +24,7 @@ __all__ = ["BILLION", "CHRONYC", "CHRONYD", "CLOCK", "NTPSHMMON", "SHM", "SOCK",
            "is_made", "monitored", "reading_of", "segment_words", "tool"]
 
 CLOCK = os.path.join(os.path.dirname(os.path.dirname(os.path.abspath(__file__))), "tools", "clock.py")
+sys.path.append(os.path.dirname(CLOCK))
 CHRONYD = shutil.which("chronyd") or shutil.which("chronyd", path="/usr/sbin")
 CHRONYC, NTPSHMMON = shutil.which("chronyc"), shutil.which("ntpshmmon")
 

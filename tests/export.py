@@ -5,6 +5,7 @@ that `gpsrelay decode` wrote.
 Use: export.py PROGRAM. Prints a line for each check, and ends with 1 if one fails. Without gpsbabel or mandoc it says what is skipped.
 """
 import csv
+import glob
 import importlib.util
 import io
 import json
@@ -279,7 +280,7 @@ def words():
     check("frames that are not decoded: status, and what to do", (1, "", True),
           (lambda found: (*found[:2], "standard input holds what a receiver sends; decode it first: gpsrelay decode < FILE |" in found[2]))(
               export(frames, "--format", "gpx")))
-    check("something else", (1, "", "export.py: standard input has no line of `gpsrelay decode` or of a daemon\n"), export(b"a,b\n1,2\n", "--format", "gpx"))
+    check("something else", (1, "", "export.py: standard input has no line of `gpsrelay decode` or of a daemon (bad lines: 2)\n"), export(b"a,b\n1,2\n", "--format", "gpx"))
     status, text, errors = export(b"{\n" + lines, "--format", "csv")
     check("a bad line is counted, the others are written", (0, True, f"export.py: 1 bad line of {len(half) + 1}, the first is line 1\n"),
           (status, text == file_of(lines, "csv"), errors))
@@ -348,16 +349,16 @@ def manuals():
     if not shutil.which("mandoc"):
         print("skipped: the manual pages of the tools, as mandoc is not installed")
         return
-    for name in "track", "view", "export":
-        page = os.path.join(ROOT, "docs", f"gpsrelay-{name}.1")
+    for name in "clock", "export", "mqtt", "port", "top", "track", "view":
+        [page] = glob.glob(os.path.join(ROOT, "docs", f"gpsrelay-{name}.[1-8]"))
         done = subprocess.run(["mandoc", "-T", "lint", "-W", "warning", page], capture_output=True, timeout=20)
-        check(f"gpsrelay-{name}.1 is clean", (0, b""), (done.returncode, done.stdout))
+        check(f"{os.path.basename(page)} is clean", (0, b""), (done.returncode, done.stdout))
         program = os.path.join(ROOT, "tools", f"{name}.py")
         told = subprocess.run([sys.executable, program, "--help"], capture_output=True, timeout=20).stdout.decode()
         with open(page, encoding="utf-8") as it:
             text = it.read()
-        options = sorted(set(re.findall(r"--[a-z]+", told)) - {"--help"})
-        check(f"gpsrelay-{name}.1 has each option", [], [option for option in options if f"Fl -{option[2:]}" not in text])
+        options = sorted(set(re.findall(r"--[a-z][a-z-]+", told)))
+        check(f"{os.path.basename(page)} has each option", [], [option for option in options if f"Fl -{option[2:]}" not in text])
 
 
 TOOL = program()

@@ -24,13 +24,14 @@ import subprocess
 import tempfile
 import threading
 import time
+import tty
 
 from checks import WAIT, check, exit_status, free_port, run_parts, slowness, starting, within
 from packets import BEGIN, PLACE, clock_of, frame, gga, nav_eoe, nav_pvt, rmc, second, sentence
 
 __all__ = ["check", "exit_status", "run_parts", "slowness", "within", "BEGIN", "PLACE", "clock_of", "frame", "gga", "nav_eoe", "nav_pvt", "rmc",
-           "second", "sentence", "WAIT", "SAMPLES", "VERSION", "Client", "Daemon", "FifoDevice", "Gpsd", "TcpDevice", "cpu_of", "end_process", "free_port",
-           "limited", "many_files", "run", "sample", "sample_path", "side_by_side", "until"]
+           "second", "sentence", "WAIT", "SAMPLES", "VERSION", "Client", "Daemon", "FifoDevice", "Gpsd", "TcpDevice", "TerminalDevice", "cpu_of",
+           "end_process", "free_port", "limited", "many_files", "run", "sample", "sample_path", "side_by_side", "until"]
 
 SAMPLES = os.path.join(os.path.dirname(os.path.dirname(os.path.abspath(__file__))), "samples")
 VERSION = b'{"class":"VERSION","release":"gpsrelay-1","rev":"1","proto_major":3,"proto_minor":1}\r\n'
@@ -181,6 +182,30 @@ class FifoDevice:
     def close(self):
         self.end()
         self.folder.cleanup()
+
+
+class TerminalDevice:
+    """A receiver at a terminal that is set raw."""
+
+    def __init__(self, name="gps0"):
+        self.ours, self.theirs = os.openpty()
+        tty.setraw(self.ours)
+        tty.setraw(self.theirs)
+        self.path = os.ttyname(self.theirs)
+        self.name, self.word = name, f"{name}=file:{self.path}"
+
+    def take(self):
+        return self
+
+    def send(self, data):
+        view = memoryview(data)
+        while len(view):
+            view = view[os.write(self.ours, view):]
+
+    def close(self):
+        """It is unplugged."""
+        os.close(self.ours)
+        os.close(self.theirs)
 
 
 class Client:

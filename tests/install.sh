@@ -56,18 +56,23 @@ for it in "$here"/bin/gpsrelay-*; do
     commands=$((commands + 1))
 done
 check "the tools are commands" test "$commands" -ge 2
-for it in clock export mqtt track view; do
-    [ ! -e "$top/tools/$it.py" ] || check "tools/$it.py is a command" test -x "$here/bin/gpsrelay-$it"
+for it in clock export mqtt port top track view; do
+    check "tools/$it.py is a command" test -x "$here/bin/gpsrelay-$it"
+    check "gpsrelay-$it has a manual page" bash -c "ls '$here'/share/man/man[18]/gpsrelay-$it.[18]"
+    check "bash completes gpsrelay-$it" bash -c ". '$here/share/bash-completion/completions/gpsrelay-$it' && complete -p gpsrelay-$it"
 done
+(umask 077 && DESTDIR=$room/shy "$install_sh" >"$room/told")
+check "each folder is for all users, whatever the umask" test -z "$(find "$room/shy" -type d ! -perm 755)"
+check "and each file" test -z "$(find "$room/shy" -type f ! -perm 755 ! -perm 644)"
+check "what is installed is counted" grep -q ": $(files_in "$room/shy" | grep -vc '/share/gpsrelay/installed$') files are installed" "$room/told"
+check "as many are removed" test "$(DESTDIR=$room/shy "$install_sh" --remove | cut -d ' ' -f 1)" = "$(sed -n 's/.*: \([0-9]*\) files are installed.*/\1/p' "$room/told")"
+check "and none a second time" test "$(DESTDIR=$room/shy "$install_sh" --remove | cut -d ' ' -f 1)" = 0
 check "the page of gpsrelay-view lies beside it" test -r "$here/share/gpsrelay/view.html"
 for it in "$top"/docs/*.[1-8]; do
     check "$(basename "$it") is among the manual pages" cmp "$it" "$here/share/man/man${it##*.}/$(basename "$it")"
-    if command -v mandoc >/dev/null; then
-        check "$(basename "$it") is clean" mandoc -T lint -W warning "$it"
-    else
-        echo "skipped: mandoc is not installed"
-    fi
+    if command -v mandoc >/dev/null; then check "$(basename "$it") is clean" mandoc -T lint -W warning "$it"; fi
 done
+command -v mandoc >/dev/null || echo "skipped: mandoc is not installed: whether the manual pages are clean"
 for it in "$top"/examples/*; do
     case $it in
     *.service) ;;
@@ -121,7 +126,7 @@ if command -v systemd-analyze >/dev/null; then
     # Of 10; that of gpsd's own unit in Debian 12 is 9.6.
     check "the service is hardened" bash -c "systemd-analyze security --offline=true --threshold=20 '$unit'"
 else
-    echo "skipped: systemd-analyze is not installed"
+    echo "skipped: systemd-analyze is not installed: how the service is hardened"
 fi
 # part KEY N: the N-th command of this key of the unit, as its shell gets it from systemd
 part() { sed -n "s/^$1=-\{0,1\}\/bin\/sh -c '\(.*\)'\$/\1/p" "$unit" | sed -n "$2p" | sed 's/\$\$/$/g'; }
@@ -180,9 +185,40 @@ check "it removes what it installed" env DESTDIR="$room" "$install_sh" --prefix 
 check "nothing else is removed, and nothing is left" test "$(files_in "$here")" = "$here/bin/other"
 check "no folder of its own is left" test -z "$(find "$here" -name 'gpsrelay*')"
 
+# --- services that run
+
+# A stand-in for systemctl: it uses the unit at the path in $room/used, and notes what it is told, and whether that file is there.
+cat >"$room/bin/systemctl" <<'SYSTEMCTL'
+#!/bin/sh
+used=$(cat "${0%/*}/../used")
+[ "$1" != show ] || { [ "${used##*/}" != "$5" ] || echo "$used"; exit 0; }
+if [ -e "$used" ]; then there=yes; else there=no; fi
+echo "$*, $there" >>"${0%/*}/told"
+SYSTEMCTL
+chmod 755 "$room/bin/systemctl"
+served=$room/served/lib/systemd/system/gpsrelay.service
+told() { test "$(cat "$room/bin/told" 2>/dev/null)" = "$1"; }
+for used in "$served" /lib/systemd/system/gpsrelay.service; do
+    echo "$used" >"$room/used"
+    check "it installs a service" "$install_sh" --prefix "$room/served"
+    rm -f "$room/bin/told"
+    check "it removes a service" "$install_sh" --prefix "$room/served" --remove
+    check "nothing of it is left" test -z "$(files_in "$room/served")"
+    if [ "$used" = "$served" ]; then
+        check "it is stopped and disabled while its unit is there" told "$(printf 'disable --now gpsrelay.service, yes\ndaemon-reload, no')"
+    else
+        check "a service of another unit is not touched" told ''
+    fi
+done
+echo "$here/lib/systemd/system/gpsrelay.service" >"$room/used"
+check "it installs below DESTDIR" env DESTDIR="$room" "$install_sh"
+check "it removes below DESTDIR" env DESTDIR="$room" "$install_sh" --remove
+check "no service is touched below DESTDIR" told ''
+rm "$room/bin/systemctl"
+
 # --- paths with signs
 
-for sign in 'a b' 'a&b' 'a#b' 'a|b' "a'b" 'a;b*(c)' '-a' '&'; do
+for sign in 'a b' 'a&b' 'a#b' 'a|b' 'a;b*(c)' '-a' '&'; do
     root=$room/signs/opt/$sign
     check "prefix '$sign'" env DESTDIR="$room/signs" "$install_sh" --prefix "/opt/$sign"
     check "prefix '$sign': the service names the program" grep -qF "ExecStart=\"/opt/$sign/bin/gpsrelay\" serve" "$root/lib/systemd/system/gpsrelay.service"
@@ -195,7 +231,7 @@ if command -v systemd-analyze >/dev/null; then
     check "systemd reads its units" systemd-analyze verify --man=no "$room/own & #1 | gps/lib/systemd/system/"*
     check "systemd would find a path that is wrong" refuses systemd-analyze verify --man=no "$here/lib/systemd/system/gpsrelay.service"
 fi
-for sign in 'a"b' 'a\b' 'a$b' 'a%b' $'a\nb'; do
+for sign in 'a"b' "a'b" 'a\b' 'a$b' 'a%b' $'a\nb'; do
     check "prefix '$sign' is refused" ends 2 "the path may have no" env DESTDIR="$room/none" "$install_sh" --prefix "/opt/$sign"
 done
 check "a wrong option is refused" ends 2 "no such option" env DESTDIR="$room/none" "$install_sh" --prefx /usr

@@ -115,19 +115,36 @@ def ask_after_an_overrun():
     check("asking after an overrun: the lines that came", items + 1 - 3, lines)
 
 
-def stay_at_the_end():
-    """A client that reads nothing more and keeps its link cannot be known to have all: the daemon ends within some ten seconds, and says so."""
+def end_beside(title, count, least, most):
+    """The daemon's end beside a client that has taken one line of this number of fixes, reads nothing more and keeps its link: its session is
+    not called drained, and the daemon waits for it as many seconds as these bounds say. Returns what the client could still read then, and how
+    long the daemon waited."""
     daemon, device = started()
     client = watching(daemon)
-    device.send(fixes(3))
+    device.send(fixes(count))
     client.line()
+    until(daemon.at_rest)
     start = time.monotonic()
     device.end()
     status, out = daemon.wait()
     took = time.monotonic() - start
+    lines = read_on(client, 0)
     client.close()
-    within("a client that stays: the daemon ends within 13 s", took < 13 * slowness(), took)
-    check("a client that stays: how it ended", (0, b"writefault", b"daemonend"), (status, *closing(out)[:2]))
+    within(f"{title}: the daemon ends within {most} s", took < most * slowness(), took)
+    check(f"{title}: the daemon waits for {least} s", True, took > least)
+    how, why, items = closing(out)
+    check(f"{title}: how it ended", (0, b"writefault", b"daemonend"), (status, how, why))
+    return lines, items, took
+
+
+def stay_at_the_end():
+    """A client that stays cannot be known to have read all. If its system has all, the daemon waits two seconds, and the client loses nothing; while
+    bytes are on their way, ten."""
+    lines, items, short = end_beside("a client that stays and whose system has all", 3, 1.5, 4)
+    check("a client that stays and whose system has all: the lines that came", items + 1 - 3 - 1, lines)
+    # More than a client's small buffer takes, and less than the system takes of the daemon.
+    _, _, long = end_beside("a client that stays while bytes are on their way", 100, 9, 13)
+    within("a client that stays and whose system has all: it is waited for some eight seconds less", short < long - 4, (short, long))
 
 
 def resets_in_the_drain():

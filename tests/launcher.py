@@ -17,7 +17,7 @@ import tempfile
 import termios
 import time
 
-from harness import VERSION, WAIT, Client, check, free_port, run, run_parts, slowness, within
+from harness import VERSION, WAIT, Client, check, free_port, run, run_parts, slowness, until, within
 
 PROGRAM = os.path.abspath(sys.argv[1])
 TOP = os.path.dirname(os.path.dirname(os.path.abspath(__file__)))
@@ -122,10 +122,16 @@ def other_ends():
         it.says(b"read")
         it.process.send_signal(signal.SIGTERM)
         check(f"{name}: standard input is the program's", ((0, True, []), True), (it.end(), b"read what comes" in it.said))
+        it = stand_in(shell, 5, 0, 0.2, "group")
+        it.says(b"opened")
+        os.killpg(it.process.pid, signal.SIGTERM)
+        check(f"{name}: TERM to its whole process group is a byte in the FIFO too", ((5, True, []), True), (it.end(), b"told b'\\n'" in it.said))
         it = stand_in(shell, 0, 0, 0.2, "alone")
         it.says(b"opened")
         it.process.kill()
+        it.process.wait(WAIT)
         check(f"{name}: the launcher is killed, and the program still stops in order", True, it.says(b"told b''") and it.says(b"done"))
+        check(f"{name}: no folder is left then", True, until(lambda: not os.listdir(it.folder)))
         it.end()
 
 

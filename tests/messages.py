@@ -1,6 +1,6 @@
 #!/usr/bin/env python3
-"""The daemon's messages on standard error: what it waits for, why it ends, how a terminal is set, which clients are turned away, and that a
-standard error which takes nothing holds nobody.
+"""The daemon's messages on standard error: what it waits for, why it ends, how a terminal is set, what cannot be read, its numbers, which clients
+are turned away, what the journal gets, and that a standard error which takes nothing holds nobody.
 
 Use: messages.py PROGRAM. Prints a line for each check, and ends with 1 if one fails. Every wait is bounded.
 """
@@ -8,6 +8,7 @@ import fcntl
 import grp
 import os
 import re
+import resource
 import shutil
 import socket
 import subprocess
@@ -16,10 +17,11 @@ import tempfile
 import time
 import tty
 
-from harness import WAIT, Client, Daemon, TcpDevice, check, end_process, exit_status, free_port, run_parts, sentence, slowness, until, within
+from harness import (WAIT, Client, Daemon, TcpDevice, TerminalDevice, check, end_process, exit_status, free_port, run_parts, sentence,
+                     slowness, until, within)
+from messages_readable import readable
 
 PROGRAM = os.path.abspath(sys.argv[1])
-USAGE = "usage: gpsrelay decode|replay|generate|pseudo|lines|serve"
 NOBODY = 65534
 
 RMC = sentence("GPRMC,123519,A,4807.038,N,01131.000,E,022.4,084.4,230394,003.1,W")
@@ -63,6 +65,15 @@ def faults():
              f"cannot listen at 127.0.0.1:{port}: address in use")
     ends("an address of another machine", started("g=file:/dev/null", listen="192.0.2.1:2947"), 8,
          "cannot listen at 192.0.2.1:2947: address not available")
+    ends("a star for all addresses", started("g=file:/dev/null", listen="*:2947"), 8, "cannot listen at *:2947", "say --listen 0.0.0.0:2947, or --listen [::]:2947")
+    terminal = TerminalDevice()
+    ends("a speed behind a terminal", started(f"{terminal.word}:9600"), 3, f"file:{terminal.path}:9600 cannot be opened: no such file",
+         f"gpsrelay-port {terminal.path} 9600")
+    terminal.close()
+    # The system knows the address, so the reason is the connection's, and not that there is no such host.
+    scoped = started("g=tcp:[fe80::1%lo]:1")
+    check("an address with a scope: status", 3, scoped.wait()[0])
+    check("an address with a scope: the reason is of the connection", True, "before a byte came: " in scoped.said() and "no such" not in scoped.said() or scoped.said())
 
 
 def waiting():
@@ -74,6 +85,15 @@ def waiting():
         with open(path, "wb"):
             pass
         ends("a FIFO", fifo, 0, f"file:{path} has ended")
+        with open(path, "r+b", buffering=0):  # its writer is there already
+            for more in [], ["--reopen", "1"]:
+                fifo = started(*more, f"g=file:{path}")
+                with open(path, "wb", buffering=0) as writer:
+                    fifo.listening()
+                    writer.write(RMC)
+                    time.sleep(1.5)
+                    check(f"a FIFO with a writer that has written {more}: it is not said that it waits", False, "waiting for" in fifo.said())
+                fifo.stop()
 
 
 def terminals():
@@ -140,7 +160,7 @@ def starved_client():
         link.settimeout(WAIT)
         check("a client without memory for it: it is closed without a byte", b"", link.recv(1))
         link.close()
-    check("a client without memory for it: the reason", True, daemon.says("a client was turned away: no memory or no thread for it"))
+    check("a client without memory for it: the reason", True, daemon.says("a client was turned away: no memory or no thread: "))
     check("a client without memory for it: no other reason", False, "64 clients" in daemon.said())
     device.close()
     daemon.wait(WAIT)
@@ -166,7 +186,10 @@ def same_file():
         for words, text in rows:
             done = subprocess.run([PROGRAM, "serve", "--listen", "127.0.0.1:0", *words], capture_output=True, timeout=WAIT)
             found = (done.returncode, done.stdout, done.stderr.decode())
-            check(f"{text}: refused", (2, b"", f"{USAGE}\ngpsrelay: {text}\n"), found)
+            check(f"{text}: refused", (2, b"", f"gpsrelay: {text}\n"), found)
+        missing = f"--stop {place}/missing: no such file; make it first: mkfifo {place}/missing"
+        done = subprocess.run([PROGRAM, "serve", "--stop", f"{place}/missing", f"roof=file:{plain}"], capture_output=True, timeout=WAIT)
+        check("a path of --stop that is missing: refused", (2, b"", f"gpsrelay: {missing}\n"), (done.returncode, done.stdout, done.stderr.decode()))
         os.close(master)
         os.close(slave)
         ends("a file under two names", started(f"roof=file:{plain}", f"van=file:{plain}"), 0, "has ended")
@@ -203,6 +226,55 @@ def unprivileged():
         elif "address in use" not in errors:
             check("a low port: status", 8, status)
             says("a low port: why", "cannot listen at 127.0.0.1:80: permission denied; a port below 1024 needs root or CAP_NET_BIND_SERVICE", errors)
+
+
+def journal():
+    """Where standard error is the journal, as JOURNAL_STREAM says, each line has its priority and no name; and never elsewhere."""
+    for is_journal in True, False:
+        with tempfile.TemporaryFile() as errors:
+            file = os.fstat(errors.fileno())
+            environment = {**os.environ, "JOURNAL_STREAM": f"{file.st_dev}:{file.st_ino if is_journal else file.st_ino + 1}"}
+            for words in ["--listen", "127.0.0.1:0", "g=file:/dev/null"], ["g=file:/nonexistent"], ["--queue", "g=file:/dev/null"]:
+                subprocess.run([PROGRAM, "serve", *words], stdout=subprocess.DEVNULL, stderr=errors, env=environment, timeout=WAIT)
+            rows = os.pread(errors.fileno(), 1 << 20, 0).decode().splitlines()
+        heads = [row[:3] if is_journal else row[:10] for row in rows if not row.startswith("usage: ")]
+        wanted = ["<6>", "<6>", "<3>", "<3>", "<3>"] if is_journal else ["gpsrelay: "] * 5
+        check(f"the heads of two events, two faults and a refusal{'' if is_journal else ', at another file'}", wanted, heads if len(heads) == 5 else rows)
+
+
+def no_thread():
+    """Clients for which no thread can be started: a user's threads are limited. Skipped where this user cannot become nobody."""
+    with tempfile.TemporaryDirectory() as place:
+        os.chmod(place, 0o755)
+        program, port, device = shutil.copy(PROGRAM, f"{place}/gpsrelay"), free_port(), TcpDevice("g")
+        os.chmod(program, 0o755)
+
+        def start(threads):
+            return subprocess.Popen([program, "serve", "--listen", f"127.0.0.1:{port}", device.word], stdout=subprocess.DEVNULL, stderr=errors, user=NOBODY,
+                                    group=NOBODY, extra_groups=[], preexec_fn=lambda: resource.setrlimit(resource.RLIMIT_NPROC, (threads, threads)))
+
+        with tempfile.TemporaryFile() as errors:
+            def said():
+                return os.pread(errors.fileno(), 1 << 20, 0).decode()
+
+            try:
+                daemon = start(24)
+            except OSError as why:
+                print(f"skipped: clients without a thread: {why}")
+                device.close()
+                return
+            try:
+                device.take()
+                clients = [connected(port) for _ in range(20)]
+                text = r"^gpsrelay: (a client was|\d+ clients were) closed: the system started no thread: raise TasksMax, or ulimit -u$"
+                until(lambda: re.search(text, said(), re.M), WAIT)
+                check("clients without a thread: it is said", True, bool(re.search(text, said(), re.M)) or said())
+                for it in clients:
+                    it.close()
+            finally:
+                daemon.kill()
+                daemon.wait(WAIT)
+        device.close()
 
 
 class BlockedErrors:
@@ -292,8 +364,9 @@ def blocked_errors():
             left_out = sum(int(it) for it in re.findall(r"^gpsrelay: (\d+) messages? (?:was|were) left out$", said, re.M))
             whole = len([line for line in said.splitlines() if "left out" not in line])
             check(f"{name}: messages were left out", True, left_out > 0 or said[-500:])
-            check(f"{name}: each of 17 messages was written or counted as left out", 17, whole + left_out)
+            # That it listens, and the end of each device. That a device waits for a writer is not said any more once one has come.
+            check(f"{name}: each of 9 messages was written or counted as left out", 9, whole + left_out)
 
 
-run_parts(faults, waiting, terminals, clients, starved_client, same_file, unprivileged, blocked_errors)
+run_parts(faults, waiting, terminals, clients, starved_client, no_thread, readable, journal, same_file, unprivileged, blocked_errors)
 sys.exit(exit_status())

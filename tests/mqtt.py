@@ -203,6 +203,7 @@ def messages():
 
 def lengths():
     """The lengths of section 2.2.3, whose bounds it lists."""
+    sys.path.append(os.path.dirname(TOOL))
     found = importlib.util.spec_from_file_location("tool", TOOL)
     tool = importlib.util.module_from_spec(found)
     found.loader.exec_module(tool)
@@ -381,8 +382,8 @@ def unit():
             rows = it.read().replace("@PREFIX@", folder).splitlines()
         with open(path, "w") as out:
             out.write("\n".join(rows) + "\n")
-        check("unit: it starts the tool again, whatever its status", {"Restart=always", "RestartSec=2", "StartLimitIntervalSec=0"},
-              {"Restart=always", "RestartSec=2", "StartLimitIntervalSec=0"} & set(rows))
+        again = {"Restart=always", "RestartSec=2", "RestartPreventExitStatus=2", "StartLimitIntervalSec=0"}
+        check("unit: it starts the tool again, whatever its status but that of wrong words", again, again & set(rows))
         nobody = free_port()
         [command] = [row.removeprefix("ExecStart=") for row in rows if row.startswith("ExecStart=")]
         done = subprocess.run(["sh", "-c", command], env={**os.environ, "OPTIONS": f"--broker 127.0.0.1:{nobody}"}, capture_output=True, text=True, timeout=WAIT)

@@ -56,30 +56,31 @@ check "its description says so" bash -c "dpkg-deb -f '$room'/without/*.deb Descr
 check "its list can be read" bash -c "dpkg-deb -c '$first' >'$room/list'"
 check "all is root's" refuses grep -v ' root/root ' "$room/list"
 check "nobody else may write" refuses grep -E '^[-d]....w|^[-d].......w' "$room/list"
-check "it has files of these folders alone" refuses grep -vE ' \./((etc|lib|usr)(/|$)|$)' "$room/list"
+check "it has files of these folders alone" refuses grep -vE ' \./((lib|usr)(/|$)|$)' "$room/list"
 check "the manual pages are compressed" refuses grep -E 'usr/share/man/.*[0-9]$' "$room/list"
 for it in usr/share/man/man8/gpsrelay.8.gz usr/share/bash-completion/completions/gpsrelay usr/share/doc/gpsrelay/changelog.gz lib/systemd/system/gpsrelay.service \
-    usr/share/doc/gpsrelay/changelog.Debian.gz etc/gpsrelay.env usr/bin/gpsrelay-track usr/bin/gpsrelay-view usr/share/doc/gpsrelay/examples/60-gpsrelay.rules; do
+    usr/share/doc/gpsrelay/changelog.Debian.gz usr/share/gpsrelay/gpsrelay.env usr/bin/gpsrelay-track usr/bin/gpsrelay-view usr/share/doc/gpsrelay/examples/60-gpsrelay.rules; do
     check "it has $it" grep -q " \./$it\( \|$\)" "$room/list"
 done
 check "it is unpacked" dpkg-deb -R "$first" "$room/tree"
 check "the sums are those of its files" bash -c "cd '$room/tree' && md5sum --quiet -c DEBIAN/md5sums"
 check "each file has a sum" test "$(wc -l <"$room/tree/DEBIAN/md5sums")" = "$(find "$room/tree" -type f ! -path '*/DEBIAN/*' | wc -l)"
-check "the one file that is edited" test "$(cat "$room/tree/DEBIAN/conffiles")" = "$(cd "$room/tree" && find etc -type f | sed 's#^#/#')"
+check "dpkg has nothing to ask about" test ! -e "$room/tree/DEBIAN/conffiles"
 check "the service starts the program of the package" grep -q '^ExecStart="/usr/bin/gpsrelay" serve' "$room/tree/lib/systemd/system/gpsrelay.service"
 for it in postinst prerm postrm; do check "$it is a shell's" sh -n "$room/tree/DEBIAN/$it"; done
+if [ ! -e "$top/COPYRIGHT" ]; then
+    check "it says that no licence has been chosen yet" grep -q "No licence has been chosen yet" "$room/tree/usr/share/doc/gpsrelay/copyright"
+fi
+for it in "$top"/docs/gpsrelay-*.[18]; do
+    check "it has $(basename "${it%.*}") and its page" test -x "$room/tree/usr/bin/$(basename "${it%.*}")" -a -s "$room/tree/usr/share/man/man${it##*.}/$(basename "$it").gz"
+done
 check "the tools ask for Debian's Python" refuses grep -l '^#!/usr/bin/env' -r "$room/tree/usr/share/gpsrelay"
 
 if command -v lintian >/dev/null; then
-    # The copyright file is the owner's to write. A tool has a manual page if docs/ has one.
-    wanted="$([ -e "$top/COPYRIGHT" ] || echo "E: gpsrelay: no-copyright-file")"
-    for it in "$room"/tree/usr/bin/gpsrelay-*; do
-        ls "$top/docs/$(basename "$it")".[1-8] >/dev/null 2>&1 || wanted+=$'\n'"W: gpsrelay: no-manual-page [usr/bin/$(basename "$it")]"
-    done
     lintian --allow-root "$first" >"$room/lintian" 2>&1
-    check "lintian names nothing else" diff <(sort <<<"$wanted") <(sort "$room/lintian")
+    check "lintian names nothing" diff /dev/null "$room/lintian"
 else
-    echo "skipped: lintian is not installed"
+    echo "skipped: lintian is not installed: what it says of the package"
 fi
 
 # --- a root of its own
@@ -93,17 +94,30 @@ here() { (cd "$root" && find . ! -type d ! -path './var/lib/dpkg/*' ! -path './v
 if [ "$(id -u)" = 0 ] || command -v fakeroot >/dev/null; then
     mkdir -p "$root/var/lib/dpkg/updates" "$root/var/lib/dpkg/info" "$root/var/lib/dpkg/triggers"
     touch "$root/var/lib/dpkg/status" "$root/var/lib/dpkg/available"
+    mkdir -p "$root/usr/local/lib/systemd/system" && touch "$root/usr/local/lib/systemd/system/gpsrelay.service"
     check "it is installed" in_root -i "$first"
+    check "it says which unit below /usr/local is used in its place" test "$(grep -c 'is used in place of' "$room/said")$(grep -o '/usr/local/[^ ]*service' "$room/said")" = 1/usr/local/lib/systemd/system/gpsrelay.service
+    rm -r "$root/usr/local"
+    check "it makes /etc/gpsrelay.env" cmp "$root/etc/gpsrelay.env" "$top/examples/usb.env"
     check "dpkg says so" test "$(status)" = "install ok installed"
     check "every file is as it was packed" in_root -V gpsrelay
     check "the installed program decodes the installed sample" bash -c "'$root/usr/bin/gpsrelay' decode <'$root/usr/share/doc/gpsrelay/samples/drive.nmea' | '$root/usr/bin/gpsrelay' lines | grep -q 'tpv 180 sky 180'"
     check "the installed tool runs" "$root/usr/bin/gpsrelay-track" --help
     check "the service is not enabled" test -z "$(find "$root/etc" -name '*.wants')"
     echo 'LISTEN=127.0.0.1:2999' >>"$root/etc/gpsrelay.env"
-    check "a later version" pack later --version "$release-1"
-    check "it is upgraded" in_root -i "$package"
+    mkdir "$room/changed" && cp -r "$top/tools" "$top/docs" "$top/examples" "$top/samples" "$top/README.md" "$room/changed"
+    echo '# A later version has another example.' >>"$room/changed/examples/usb.env"
+    package_sh=$room/changed/tools/package.sh
+    check "a later version, with another example" pack later --version "$release-1"
+    package_sh=$top/tools/package.sh
+    check "it is upgraded, and asks nothing" in_root -i "$package"
+    check "it says nothing of /usr/local" refuses grep -q /usr/local "$room/said"
     check "the version is that" test "$(dpkg --admindir="$root/var/lib/dpkg" -s gpsrelay | sed -n 's/^Version: //p')" = "$release-1"
-    check "what was edited stays" grep -q 2999 "$root/etc/gpsrelay.env"
+    check "what was edited stays" cmp "$root/etc/gpsrelay.env" <(cat "$top/examples/usb.env"; echo 'LISTEN=127.0.0.1:2999')
+    rm "$root/etc/gpsrelay.env"
+    check "it is installed once more" in_root -i "$first"
+    check "what was deleted stays so" test ! -e "$root/etc/gpsrelay.env"
+    echo 'LISTEN=127.0.0.1:2999' >"$root/etc/gpsrelay.env"
     mkdir -p "$root/usr/share/gpsrelay/__pycache__" && touch "$root/usr/share/gpsrelay/__pycache__/track_marks.cpython-311.pyc"
     check "it is removed" in_root -r gpsrelay
     check "what was edited is all that is left" test "$(here)" = ./etc/gpsrelay.env

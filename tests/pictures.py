@@ -179,7 +179,7 @@ def further_words(lines):
     drive = os.path.join(ROOT, "samples", "drive.nmea")
     told = f"track.py: {drive} holds what a receiver sends; decode it first: gpsrelay decode < {drive} | track.py -o OUT.svg\n"
     check("a file of sentences: status, no picture, and what to do", (1, "", told), (lambda found: (found[0], found[2], found[3]))(track([], drive)))
-    told = "track.py: standard input has no line of `gpsrelay decode` or of a daemon\n"
+    told = "track.py: standard input has no line of `gpsrelay decode` or of a daemon (bad lines: 2)\n"
     check("lines of something else: status and a reason", (1, "", told), (lambda found: (found[0], found[2], found[3]))(track([b"a", b"b"])))
 
 

@@ -40,14 +40,14 @@ for words in '' 'frob' 'decode --history 0' 'decode --history x' 'decode more' '
     run $words
     check "refused words '$words': status" 2 "$status"
     check "refused words '$words': nothing on standard output" '' "$(cat "$place/out")"
-    check "refused words '$words': the usage line" "$usage" "$(head -n 1 "$place/err")"
+    check "refused words '$words': the reason and then the usage" 'gpsrelay: usage: gps' "$(head -n 2 "$place/err" | cut -c 1-10 | tr -d '\n')"
 done
 
 for words in $'dec\xffode' $'decode --history \xff' $'decode \xff'; do
     run $words
     check "words that are no text: status" 2 "$status"
     check "words that are no text: nothing on standard output" '' "$(cat "$place/out")"
-    check "words that are no text: the usage line" "$usage" "$(head -n 1 "$place/err")"
+    check "words that are no text: the usage line" "$usage" "$(tail -n 1 "$place/err")"
 done
 
 # bytes NUMBER..: these bytes; word WIDTH NUMBER: the WIDTH bytes of a number, the lowest first, as numbers

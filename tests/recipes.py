@@ -226,6 +226,21 @@ def metrics():
     room.close()
 
 
+def numbers():
+    """What the recipe makes of a report. The line is written by hand, as the manual page says it."""
+    with tempfile.TemporaryDirectory() as folder:
+        file, log = f"{folder}/gpsrelay.prom", f"{folder}/log"
+        with open(log, "w", encoding="utf-8") as it:
+            it.write("report: 3 clients now, 5 at most, 17 sessions, 2 turned away; roof: 1234 bytes, 18 packets, the last 0.4 s ago; van: 0 bytes, 0 packets\n")
+        replaced = {"/var/lib/prometheus/node-exporter/gpsrelay.prom": file, "journalctl -fu gpsrelay -n 0 -o cat": f"cat {log}"}
+        subprocess.run(["bash", "-c", recipe("numbers", replaced=replaced)], check=True, timeout=WAIT)
+        with open(file, encoding="utf-8") as it:
+            found = it.read().splitlines()
+        wanted = ["gpsrelay_clients 3", "gpsrelay_sessions_total 17", "gpsrelay_turned_away_total 2", 'gpsrelay_bytes_total{device="roof"} 1234',
+                  'gpsrelay_packets_total{device="roof"} 18', 'gpsrelay_bytes_total{device="van"} 0', 'gpsrelay_packets_total{device="van"} 0']
+        check("the daemon's own numbers", wanted, found)
+
+
 def chosen(lines):
     """The fixes of `roof`, and those of the other if there was none of `roof` in the three seconds before; none that is not later than the
     one before it: by the rule."""
@@ -407,7 +422,7 @@ def rights():
 
 def main():
     begun = time.monotonic()
-    status = run_parts(a_log_that_rotates, a_unit, a_recording_in_parts, metrics, two_receivers, upgrade, a_broker_for_others)
+    status = run_parts(a_log_that_rotates, a_unit, a_recording_in_parts, metrics, numbers, two_receivers, upgrade, a_broker_for_others)
     print(f"        {time.monotonic() - begun:.1f} s")
     return status
 

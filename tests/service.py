@@ -13,8 +13,9 @@ import threading
 import time
 
 from harness import *
-from service_places import daemon_again, edges_again, fifo_again, gpsd_again, host_again, own_address, terminal_again, tree
-from service_stops import stop_after_fault, stop_at_once, stop_connecting, stop_twice, stop_under_flood, stop_waits
+from service_places import (daemon_again, edges_again, fifo_again, fifo_between, gpsd_again, host_again, other_files, own_address, terminal_again, tree,
+                            two_names)
+from service_stops import stop_after_fault, stop_anew, stop_at_once, stop_connecting, stop_looking_up, stop_twice, stop_under_flood, stop_waits
 from service_tools import PROGRAM, SOON, Service, Watched, Watcher, freeze
 
 BURST = 128       # links that are taken at once
@@ -145,7 +146,7 @@ def frozen_head():
     upstream.close()
 
 
-QUICK = [terminal_again, fifo_again, host_again, daemon_again, gpsd_again, edges_again, tree, stop_at_once, stop_waits, stop_connecting, stop_twice,
+QUICK = [terminal_again, fifo_again, fifo_between, other_files, two_names, host_again, daemon_again, gpsd_again, edges_again, tree, stop_at_once, stop_waits, stop_connecting, stop_looking_up, stop_anew, stop_twice,
          stop_after_fault, stop_under_flood, pace, own_address, few_files]
 SLOW = [frozen, frozen_head]
 

@@ -59,6 +59,77 @@ def fifo_again():
     shutil.rmtree(os.path.dirname(path))
 
 
+def write(path, *times):
+    """A writer of a FIFO comes, writes these seconds, and goes."""
+    with open(path, "wb", buffering=0) as writer:
+        for t in times:
+            writer.write(second(t))
+
+
+def fifo_between():
+    """Writers that come and go between the end of a FIFO and its next opening."""
+    service = Service(reopen=("--reopen", "2", "gps0=file:" + (path := os.path.join(tempfile.mkdtemp(), "gps0"))))
+    watcher = Watcher(service)
+    os.mkfifo(path)
+    for t in 0, 3, 6:
+        ends = service.counts(f"file:{path}", "has ended")
+        write(path, t)
+        check(f"FIFO, writer {t}: its sentences", True, watcher.takes(second(t)))
+        until(lambda: service.counts(f"file:{path}", "has ended") > ends)
+        write(path, t + 1)
+        write(path, t + 2)
+        check("FIFO: two writers before it is opened again", True, watcher.takes(second(t + 1) + second(t + 2)))
+    service.ends("a FIFO that is away")
+    check("FIFO: nothing more was sent", b"", watcher.rest())
+    shutil.rmtree(os.path.dirname(path))
+
+
+def other_files():
+    """A folder, and later a regular file, in the place of a FIFO."""
+    path = os.path.join(tempfile.mkdtemp(), "gps0")
+    os.mkdir(path)
+    service = Service(f"gps0=file:{path}")
+    watcher = Watcher(service)
+    check("a folder: is said", True, service.says("cannot be opened: it is a folder; it is opened again every 1 s"))
+    os.rmdir(path)
+    os.mkfifo(path)
+    write(path, 0)
+    check("a FIFO after a folder: its sentences", True, watcher.takes(second(0)))
+    os.unlink(path)
+    with open(path, "wb") as file:
+        file.write(second(1))
+    check("a regular file: is said", True, service.says("cannot be opened: it is a regular file; it is opened again every 1 s"))
+    os.unlink(path)
+    os.mkfifo(path)
+    write(path, 2)
+    check("a FIFO after a regular file: its sentences, and none of the file", True, watcher.takes(second(2)))
+    service.ends("a FIFO after other files")
+    shutil.rmtree(os.path.dirname(path))
+
+
+def two_names():
+    """A FIFO that comes to have a second name: its bytes go to the device that opened it first."""
+    folder = tempfile.mkdtemp()
+    one, two = (os.path.join(folder, name) for name in ("one", "two"))
+    os.mkfifo(one)
+    os.mkfifo(two)
+    service = Service(f"gps0=file:{one}", f"gps1=file:{two}")
+    watcher = Watcher(service)
+    write(two, 0)
+    check("two FIFOs: sentences of the second", True, watcher.takes(second(0)))
+    os.unlink(two)
+    os.link(one, two)
+    check("a second name: is said", True, service.says(f"file:{two} cannot be opened: it is open under another name; it is opened again every 1 s"))
+    write(one, *range(1, 9))
+    check("a second name: the first has all sentences", True, watcher.takes(b"".join(map(second, range(1, 9)))))
+    os.unlink(two)
+    os.mkfifo(two)
+    write(two, 9)
+    check("a FIFO of its own again: its sentences", True, watcher.takes(second(9)))
+    service.ends("two names")
+    shutil.rmtree(folder)
+
+
 def host_again():
     device = TcpDevice()
     service = Service(device.word)

@@ -69,15 +69,7 @@ class Terminal:
         os.close(child)
 
     def is_read_by(self, daemon):
-        folder = f"{daemon.place}/fd"
-
-        def is_led_to_by(file):
-            try:
-                return os.readlink(f"{folder}/{file}") == self.name
-            except FileNotFoundError:  # it was closed meanwhile
-                return False
-
-        return until(lambda: any(map(is_led_to_by, os.listdir(folder))))
+        return until(lambda: daemon.has_open(self.name))
 
     def send(self, data):
         os.write(self.master, data)
@@ -90,9 +82,23 @@ class Terminal:
 class Watched(Daemon):
     """A daemon whose watchers read on while it ends."""
 
-    def __init__(self, *words, **more):
-        self.watchers = []
+    def __init__(self, *words, before=(), **more):
+        """`before` are the words of a command that runs the daemon in its own place."""
+        self.watchers, self.before = [], before
         super().__init__(PROGRAM, *words, **more)
+
+    def call(self, program, words):
+        return [*self.before, *super().call(program, words)]
+
+    def has_open(self, path):
+        """Whether it has the file open that has this path now."""
+        def is_led_to_by(file):
+            try:
+                return os.readlink(f"{self.place}/fd/{file}") == path
+            except FileNotFoundError:  # it was closed meanwhile
+                return False
+
+        return any(map(is_led_to_by, os.listdir(f"{self.place}/fd")))
 
     def wait(self, seconds=WAIT):
         for watcher in self.watchers:

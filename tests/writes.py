@@ -4,16 +4,22 @@
 Use: writes.py PROGRAM. Prints a line for each check, and ends with 1 if one fails. The counts of writes need strace; without it they are
 skipped, with a line that says so.
 """
+import fcntl
 import os
+import pty
 import random
 import select
 import shutil
+import signal
+import struct
 import subprocess
 import sys
 import tempfile
+import termios
 import time
 
 from checks import WAIT, check, exit_status
+from harness import until
 from packets import sentence
 from rows_decode import MADE
 from rows_text import EOE_FRAME, PVT_FRAME, RMC, at, fix, rmc_fix
@@ -154,6 +160,68 @@ def full_disk():
     check("a full disk, few lines: status", 4, done.returncode)
 
 
+PAGE, TAIL = 4_096, 3  # the bytes that the pipe takes first, and those of the line `bad line 1234` that it takes later: `34` and LF
+
+
+def bad_script(lengths):
+    """A script whose line 1234 is bad, in two parts; the output of both is due at the second one. It has a sentence of each length."""
+    texts = [sentence("GPTXT," + "a" * length).strip() for length in lengths]
+    rows = [b"device g", b"open 0", b'say 0 ?WATCH={"nmea":true};', *(b"text 0 1.000000000 " + text for text in texts)]
+    return b"\n".join(rows + [b"#"] * (1232 - len(rows)) + [b""]), b"take 0 100\nnothing\n"
+
+
+def waits_for(child, size):
+    """Whether it waits in a write of this many bytes to its standard output."""
+    with open(f"/proc/{child.pid}/syscall", encoding="ascii") as file:
+        words = file.read().split()
+    return len(words) > 3 and int(words[1], 0) == 1 and int(words[3], 0) == size
+
+
+def part_of_a_write():
+    """A pipe takes a part of a write, which ends within the number of the bad line: as for `replay | less` that is stopped and goes on."""
+    lengths = [90] * 31
+    alone = subprocess.run([PROGRAM, "replay"], input=b"".join(bad_script(lengths)), capture_output=True).stdout
+    lacking = PAGE + TAIL - len(alone)
+    lengths = [90 + lacking // 31 + (1 if k < lacking % 31 else 0) for k in range(31)]
+    first, second = bad_script(lengths)
+    reading, writing = os.pipe()
+    fcntl.fcntl(writing, fcntl.F_SETPIPE_SZ, PAGE)
+    child = subprocess.Popen([PROGRAM, "replay"], stdin=subprocess.PIPE, stdout=writing, stderr=subprocess.PIPE)
+    os.close(writing)
+    child.stdin.write(first)
+    child.stdin.flush()
+    child.stdin.write(second)
+    child.stdin.close()
+    until(lambda: struct.unpack("i", fcntl.ioctl(reading, termios.FIONREAD, b"\0" * 4))[0] == PAGE)
+    child.send_signal(signal.SIGSTOP)
+    os.waitpid(child.pid, os.WUNTRACED)
+    child.send_signal(signal.SIGCONT)
+    try:
+        check("a part of a write: the rest of the number is left", True, until(lambda: waits_for(child, TAIL)))
+    except OSError as error:
+        print(f"skipped what is left of the write: {error}")
+    with open(reading, "rb") as pipe:
+        out = pipe.read()
+    errors = child.stderr.read()
+    check("a part of a write: the bad line", (PAGE + TAIL, b"\nbad line 1234\n"), (len(out), out[-15:]))
+    check("a part of a write: its number on standard error, and the status", (True, 6), (b": line 1234 of the input" in errors or errors, child.wait()))
+
+
+def end_of_a_terminal():
+    """One Ctrl-D at the beginning of a line ends the input of a terminal: after a read without a byte the source is not read again."""
+    leader, follower = pty.openpty()
+    child = subprocess.Popen([PROGRAM, "decode"], stdin=follower, stdout=subprocess.PIPE, stderr=subprocess.DEVNULL)
+    os.close(follower)
+    os.write(leader, RMC + b"\x04")
+    try:
+        out, status = child.communicate(timeout=WAIT)[0], child.returncode
+    except subprocess.TimeoutExpired:
+        child.kill()
+        out, status = child.communicate()[0], None
+    os.close(leader)
+    check("one Ctrl-D ends decode: its fix, and the status", (rmc_fix(), 0), (out, status))
+
+
 def limit_of_history():
     """All lines of the bytes within the limit are there when one more byte comes."""
     given = made(200_000)
@@ -169,5 +237,7 @@ with tempfile.TemporaryDirectory() as place:
 slow_feed()
 closed_output()
 full_disk()
+part_of_a_write()
+end_of_a_terminal()
 limit_of_history()
 sys.exit(exit_status())

@@ -6,14 +6,16 @@
 It is a client of the daemon (127.0.0.1:2947 unless told otherwise). TOFF lines are the serial time, PPS lines the pulses. Each line
 is handed on at once: to a socket of chrony's SOCK refclock, or to a segment of the NTP shared memory driver, which ntpd and
 chrony's SHM refclock read. The daemon must run on this machine, as the stamps in its lines are those of its machine's clock.
-Time is handed on only while the receiver has a fix. A sample that is more than two seconds old is dropped. A daemon that is gone is
-tried again, at least every 8 seconds. Standard error says what happens, and nothing of a single sample. SIGTERM and Ctrl-C end it.
+Time is handed on only while the receiver has a fix. A sample that is more than two seconds old is dropped. If the receiver's time
+leaps by more than a second, its samples are dropped until ten have agreed on the new time. A daemon that is gone is tried again, at
+least every 8 seconds. Standard error says what happens, and nothing of a single sample. SIGTERM and Ctrl-C end it.
 """
 import argparse
 import ctypes
 import errno
 import json
 import os
+import platform
 import re
 import signal
 import socket
@@ -21,20 +23,19 @@ import struct
 import sys
 import time
 
-PROGRAM = os.path.basename(sys.argv[0])  # clock.py, or gpsrelay-clock as it is installed
+sys.dont_write_bytecode = True  # nothing is left in the folder of the installed program
+
+import command  # noqa: E402
+from clock_barrier import NoBarrier, barrier_of  # noqa: E402
+from clock_samples import AGREEING, BILLION, REPEAT, Leaps, Sample  # noqa: E402
+from command import address_of, address_words, say  # noqa: E402
+
 LONGEST_LINE = 1_048_576  # bytes; a longer one is passed over
 OLDEST = 2_000_000_000  # nanoseconds that a sample may lie before now, or after it
 FIRST_PAUSE, LONGEST_PAUSE = 0.25, 8.0  # seconds before a daemon that is gone is tried again
 SILENCE = 60.0  # seconds without a sample before that is said
-REPEAT = 600.0  # seconds before a message about dropped samples is said again
-BILLION = 1_000_000_000
 NAME_FORM = re.compile(r'[!#-<>-\[\]-~]{1,64}')  # printable ASCII without space, ", = and backslash
 CLASSES = {"TOFF": "serial time", "PPS": "pulse"}
-
-
-def say(text):
-    """One line on standard error; what is no printable character is shown as a question mark."""
-    print(f"{PROGRAM}: " + "".join(c if c.isprintable() else "?" for c in text), file=sys.stderr, flush=True)
 
 
 class Failed(Exception):
@@ -47,33 +48,6 @@ class Failed(Exception):
 
 class Ended(Exception):
     """SIGTERM or Ctrl-C."""
-
-
-# A sample
-
-class Sample:
-    """What one TOFF or PPS line says: `real`, the time of the receiver, and `clock`, what this machine's clock showed then; both in
-    nanoseconds since 1970. `precision` is the power of two of its error in seconds."""
-    __slots__ = ("real", "clock", "precision")
-
-    def __init__(self, report):
-        self.real = stamp_of(report, "real")
-        self.clock = stamp_of(report, "clock")
-        self.precision = whole(report.get("precision", -1), -128, 127)
-
-    def offset(self):
-        """The true time minus that of this machine's clock, in seconds: positive if the clock is slow."""
-        return (self.real - self.clock) / BILLION
-
-
-def whole(value, low, high):
-    if type(value) is not int or not low <= value <= high:
-        raise ValueError(f"{value!r} is no whole number from {low} to {high}")
-    return value
-
-
-def stamp_of(report, name):
-    return whole(report.get(name + "_sec"), 0, 1 << 40) * BILLION + whole(report.get(name + "_nsec"), 0, BILLION - 1)
 
 
 # chrony's SOCK refclock
@@ -127,14 +101,17 @@ class Segment(ctypes.Structure):
                 ("clockTimeStampNSec", ctypes.c_uint), ("receiveTimeStampNSec", ctypes.c_uint), ("dummy", ctypes.c_int * 8)]
 
 
-def store(segment, sample):
+def store(segment, sample, barrier):
     """The thirteen stores of a sample, in the order of mode 1: valid 0, an odd count, the body, an even count, valid 1. A reader that
-    finds two equal counts around its reading, and valid 1, has a whole sample. The stamp of the clock is the `receive` one."""
+    finds two equal counts around its reading, and valid 1, has a whole sample. The stamp of the clock is the `receive` one. Between
+    the body's own stores no order is needed."""
     real_sec, real_nsec = divmod(sample.real, BILLION)
     clock_sec, clock_nsec = divmod(sample.clock, BILLION)
     before = segment.count + segment.count % 2  # a writer that was killed may have left an odd one
     segment.valid = 0
+    barrier()
     segment.count = before + 1
+    barrier()
     segment.clockTimeStampSec = real_sec
     segment.clockTimeStampUSec = real_nsec // 1000
     segment.receiveTimeStampSec = clock_sec
@@ -144,7 +121,9 @@ def store(segment, sample):
     segment.nsamples = 3
     segment.clockTimeStampNSec = real_nsec
     segment.receiveTimeStampNSec = clock_nsec
+    barrier()
     segment.count = before + 2
+    barrier()
     segment.valid = 1
 
 
@@ -159,7 +138,7 @@ class SharedMemory:
         self.name = f"unit {unit}"
         self.key = SHM_KEY + unit
         self.rights = 0o600 if unit < 2 else 0o666
-        self.id = self.segment = self.place = None
+        self.id = self.segment = self.place = self.barrier = None
         self.libc = ctypes.CDLL(None, use_errno=True)
         self.libc.shmget.argtypes = ctypes.c_int, ctypes.c_size_t, ctypes.c_int
         self.libc.shmat.argtypes = ctypes.c_int, ctypes.c_void_p, ctypes.c_int
@@ -168,6 +147,7 @@ class SharedMemory:
 
     def open(self):
         """Attaches the segment, which is made if it is not there yet."""
+        self.barrier = barrier_of(platform.machine())
         self.id = self.libc.shmget(self.key, ctypes.sizeof(Segment), IPC_CREAT | self.rights)
         if self.id < 0:
             raise self.failure()
@@ -187,7 +167,7 @@ class SharedMemory:
         if self.libc.shmget(self.key, 0, 0) != self.id:  # it was removed, and perhaps made anew
             self.close()
             self.open()
-        store(self.segment, sample)
+        store(self.segment, sample, self.barrier)
 
     def close(self):
         """No reader that comes later finds an old sample."""
@@ -202,22 +182,27 @@ class SharedMemory:
 class Feed:
     """Takes the lines of one connection: finds the device, and hands its samples to their readers."""
 
-    def __init__(self, targets, device, without_fix):
+    def __init__(self, targets, device, without_fix, leaps=None):
         self.targets, self.wanted, self.without_fix = targets, device, without_fix
+        self.leaps = leaps or {kind: Leaps() for kind in CLASSES}
         self.device = None
         self.has_fix = None  # None until the device has sent a TPV
         self.first = set(CLASSES)  # the classes of which no sample was handed on yet
         self.last = {kind: time.monotonic() for kind in CLASSES if targets[kind]}  # when its last sample was handed on, or when this began
         self.silent = set()  # the classes of which it was said that none comes
         self.dropped, self.dropped_said = 0, None
+        self.is_strange = False  # whether it was said that what answers is no daemon
 
     def take(self, line):
         """One line. What is no report changes nothing. What is to be sent to the daemon, or None."""
         try:
             report = json.loads(line)
         except (ValueError, RecursionError):
-            return None
+            report = None
         if not isinstance(report, dict):
+            if self.device is None and not self.is_strange:
+                say("what answers there is no daemon: it sends lines that are no JSON objects")
+                self.is_strange = True
             return None
         kind = report.get("class")
         if kind == "DEVICES" and self.device is None:
@@ -261,6 +246,11 @@ class Feed:
         age = time.time_ns() - sample.clock
         if abs(age) > OLDEST:
             self.drop(f"its stamp lies {abs(age) / BILLION:.1f} s {'before' if age > 0 else 'after'} now")
+            return
+        leap = self.leaps[kind].leap(sample)
+        if leap is not None:
+            if self.leaps[kind].is_news():
+                say(f"the {CLASSES[kind]} of {self.device} leaps by {leap / BILLION:+.1f} s: it is dropped until {AGREEING} samples have agreed")
             return
         for target in self.targets[kind]:
             target.put(sample)
@@ -318,14 +308,14 @@ def lines_of(link, feed):
         feed.look()
 
 
-def follow(words, targets):
+def follow(words, targets, leaps):
     """One connection, from its beginning to its end: whether the daemon said anything, and how it ended."""
     heard = False
     try:
         with socket.create_connection(words.daemon, timeout=LONGEST_PAUSE) as link:
             if not is_here(link.getpeername()):
                 raise Failed(f"{words.daemon[0]} is another machine, and the stamps of its daemon are those of its clock: run this program there", 2)
-            feed = Feed(targets, words.device, words.without_fix)
+            feed = Feed(targets, words.device, words.without_fix, leaps)
             link.sendall(b"?DEVICES;\n")
             for line in lines_of(link, feed):
                 if not heard:
@@ -341,10 +331,10 @@ def follow(words, targets):
 def keep_following(words, targets):
     """Connects again and again, after longer and longer pauses if the connections do not last. That a daemon is not there is said once
     for each reason."""
-    pause, said = FIRST_PAUSE, None
+    pause, said, leaps = FIRST_PAUSE, None, {kind: Leaps() for kind in CLASSES}
     while True:
         begun = time.monotonic()
-        heard, why = follow(words, targets)
+        heard, why = follow(words, targets, leaps)
         if time.monotonic() - begun > LONGEST_PAUSE:
             pause = FIRST_PAUSE
         if heard or why != said:
@@ -355,18 +345,6 @@ def keep_following(words, targets):
 
 
 # The program
-
-def address_of(text):
-    """(host, port) of HOST:PORT; a host with colons is in brackets."""
-    host, colon, port = text.rpartition(":")
-    if not colon or not re.fullmatch(r"[0-9]{1,5}", port) or not 0 < int(port) <= 65_535:
-        raise argparse.ArgumentTypeError(f"{text} is no HOST:PORT")
-    return host.removeprefix("[").removesuffix("]") or "127.0.0.1", int(port)
-
-
-def address_words(host, port):
-    return f"[{host}]:{port}" if ":" in host else f"{host}:{port}"
-
 
 def unit_of(text):
     if text not in ("0", "1", "2", "3"):
@@ -382,12 +360,12 @@ def path_of(text):
 
 def name_of(text):
     if not NAME_FORM.fullmatch(text):
-        raise argparse.ArgumentTypeError(f"{text} is no name of a device")
+        raise argparse.ArgumentTypeError(f"{text or 'an empty word'} is no name of a device")
     return text
 
 
 def command_line():
-    parser = argparse.ArgumentParser(prog=PROGRAM, description=__doc__.split("\n", 1)[0], allow_abbrev=False)
+    parser = command.Parser(__doc__.split("\n", 1)[0])
     parser.add_argument("daemon", nargs="?", type=address_of, default="127.0.0.1:2947", metavar="HOST:PORT", help="the daemon (127.0.0.1:2947)")
     parser.add_argument("--device", type=name_of, metavar="NAME", help="the device whose time is handed on (the daemon's first)")
     parser.add_argument("--sock-pulse", type=path_of, metavar="PATH", help="pulses to this socket of chrony's refclock SOCK")
@@ -429,7 +407,7 @@ def main():
         for target in every:
             target.open()
         keep_following(words, targets)
-    except Failed as fault:
+    except (Failed, NoBarrier) as fault:
         say(str(fault))
         return fault.status
     except Ended:
@@ -443,4 +421,4 @@ def main():
 
 
 if __name__ == "__main__":
-    sys.exit(main())
+    sys.exit(command.run(main))

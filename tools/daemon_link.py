@@ -1,5 +1,4 @@
-"""A client of the daemon that comes back by itself: what track.py, export.py and view.py follow a daemon with."""
-import argparse
+"""A client of the daemon that comes back by itself: what track.py, export.py, view.py and top.py follow a daemon with."""
 import socket
 import time
 
@@ -8,18 +7,6 @@ GREETING = b'"class":"VERSION"'  # is in the line that a daemon sends before it 
 LONGEST_LINE = 1_048_576  # bytes; a longer one is passed over
 FIRST_PAUSE, LONGEST_PAUSE = 0.25, 3.0  # seconds before a daemon that is gone is tried again
 SETTLED = 5.0  # seconds after which a link that ends was a good one: the next pause is the first one again
-
-
-def address_of(text):
-    """(host, port) of HOST:PORT; a host with colons is in brackets."""
-    host, colon, port = text.rpartition(":")
-    if not colon or not port.isdecimal() or int(port) > 65_535:
-        raise argparse.ArgumentTypeError(f"{text} is no HOST:PORT")
-    return host.removeprefix("[").removesuffix("]") or "127.0.0.1", int(port)
-
-
-def address_words(host, port):
-    return f"[{host}]:{port}" if ":" in host else f"{host}:{port}"
 
 
 def daemon_lines(address, tell, over=lambda: False, fails=lambda why: None):

@@ -9,15 +9,16 @@ It reads the JSON lines of `gpsrelay decode` or of a session with the daemon, fr
 until their end or Ctrl-C, and writes one file. Each fix with a position is one point, with the line's own time. A new segment begins
 after a line that tells no position, after more than --gap seconds without one, where time goes back, and where the daemon was gone.
 Of several devices the first is written, or the one that --device names. A line that is no JSON object with a class, or whose members
-cannot be right, is counted on standard error.
+cannot be right, is counted on standard error. If no line is good, nothing is written.
 """
 import sys
 
 sys.dont_write_bytecode = True  # nothing is left in the folder of the installed program
 
+import command  # noqa: E402
 import track_files  # noqa: E402
 import track_input  # noqa: E402
-from track_input import say  # noqa: E402
+from command import say  # noqa: E402
 from track_lines import segments  # noqa: E402
 
 
@@ -33,7 +34,7 @@ def words():
 
 
 def work(given):
-    run, device = track_input.read_run(given, f"OUT.{given.format}")
+    run, device = track_input.read_run(given, f"OUT.{given.format}", [given.output])
     if device is None:
         say(f"no line of device {given.device}")
         return 1
@@ -51,4 +52,4 @@ def main():
 
 
 if __name__ == "__main__":
-    sys.exit(main())
+    sys.exit(command.run(main))

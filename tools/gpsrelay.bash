@@ -1,4 +1,4 @@
-# bash completion for gpsrelay
+# bash completion for gpsrelay and its tools
 _gpsrelay() {
     local cur=${COMP_WORDS[COMP_CWORD]} prev=${COMP_WORDS[COMP_CWORD - 1]} options
     COMPREPLY=()
@@ -23,10 +23,10 @@ _gpsrelay() {
         compopt -o filenames 2>/dev/null
         return
         ;;
-    --queue | --wait | --monitor | --reopen | --seed | --size) return ;;
+    --queue | --wait | --monitor | --reopen | --cycle-gap | --report | --seed | --size) return ;;
     esac
     case ${COMP_WORDS[1]} in
-    serve) options="--listen --queue --history --wait --monitor --reopen --stop --help" ;;
+    serve) options="--listen --queue --history --wait --monitor --reopen --cycle-gap --report --stop --help" ;;
     decode | pseudo) options="--history --help" ;;
     replay) options="--history --queue --help" ;;
     generate) options="--seed --size --help" ;;
@@ -48,3 +48,37 @@ _gpsrelay() {
     fi
 }
 complete -F _gpsrelay gpsrelay
+
+# _gpsrelay_words WORD..: those that fit what is typed. _gpsrelay_files: the files that do.
+_gpsrelay_words() { mapfile -t COMPREPLY < <(compgen -W "$*" -- "${COMP_WORDS[COMP_CWORD]}"); }
+_gpsrelay_files() {
+    mapfile -t COMPREPLY < <(compgen -f -- "${COMP_WORDS[COMP_CWORD]}")
+    compopt -o filenames 2>/dev/null
+}
+_gpsrelay_tool() {
+    local tool=${COMP_WORDS[0]##*-} options
+    COMPREPLY=()
+    case $tool in
+    clock) options="--device --sock-pulse --sock-serial --shm-pulse --shm-serial --without-fix" ;;
+    export) options="--output --daemon --device --title --gap --format" ;;
+    mqtt) options="--broker --prefix --user" ;;
+    track) options="--output --daemon --device --title --gap --gpx" ;;
+    view) options="--listen" ;;
+    esac
+    case ${COMP_WORDS[COMP_CWORD - 1]} in
+    --format) _gpsrelay_words gpx kml geojson csv ;;
+    --shm-*) _gpsrelay_words 0 1 2 3 ;;
+    -o | --output | --gpx | --sock-*) _gpsrelay_files ;;
+    --device | --title | --gap | --prefix | --user | --broker | --listen) ;;
+    *)
+        if [[ ${COMP_WORDS[COMP_CWORD]} == -* ]]; then
+            _gpsrelay_words "$options" --help --version
+        elif [[ $tool == port && $COMP_CWORD == 2 ]]; then
+            _gpsrelay_words 4800 9600 19200 38400 57600 115200 230400 460800 921600
+        elif [[ $tool == @(export|port|track) ]]; then
+            _gpsrelay_files
+        fi
+        ;;
+    esac
+}
+complete -F _gpsrelay_tool gpsrelay-{clock,export,mqtt,port,top,track,view}

@@ -5,13 +5,15 @@
 #
 #   --prefix DIR   the folder to install below, as a whole path; /usr/local if left out
 #   --unproved     installs the program that `tools/build.sh --unproved` made
-#   --remove       removes what was installed below DIR
+#   --remove       stops and disables its services, and removes what was installed below DIR
 #
 # It builds nothing: `tools/build.sh` does, before. PROGRAM is the path of another build to install.
-# DESTDIR, for packages, is put before each path that is written, and appears in no file.
+# DESTDIR, for packages, is put before each path that is written, and appears in no file. A program for another machine needs it.
 set -eu
+umask 022 # what is installed is for all users
 
 top=$(cd "$(dirname "${BASH_SOURCE[0]}")/.." && pwd)
+. "$top/tools/architecture.sh"
 say() { echo "install.sh: $1" >&2; }
 refuse() { # STATUS TEXT: nothing was written yet
     say "$2"
@@ -43,9 +45,9 @@ case $prefix in
 /*) ;;
 *) refuse 2 "$prefix: give the whole path of the folder" ;;
 esac
-# A service has no way to write these in the path of its program that all versions of systemd read alike.
+# A service has no way to write these in the path of its program that all versions of systemd read alike; and ' ends a word of a shell.
 case $prefix in
-*[[:cntrl:]\"\\%\$]*) refuse 2 "$prefix: the path may have no \", \\, %, \$ and no control character" ;;
+*[[:cntrl:]\"\'\\%\$]*) refuse 2 "$prefix: the path may have no \", ', \\, %, \$ and no control character" ;;
 esac
 prefix=${prefix%/}
 destdir=${DESTDIR:-}
@@ -69,9 +71,10 @@ files() { # PROGRAM
         name=${it##*/}
         case $name in
         '*'.* | build_*.py | kept_*.py) ;;
-        clock.py | export.py | mqtt.py | track.py | view.py)
+        clock.py | export.py | mqtt.py | port.py | top.py | track.py | view.py)
             file 755 "$it" "share/gpsrelay/$name"
             file link "../share/gpsrelay/$name" "bin/gpsrelay-${name%.py}"
+            file link gpsrelay "share/bash-completion/completions/gpsrelay-${name%.py}"
             ;;
         *) file 644 "$it" "share/gpsrelay/$name" ;;
         esac
@@ -95,6 +98,15 @@ files() { # PROGRAM
     done
 }
 
+# The version of a program that cannot run here, from its bytes: as `gpsrelay --version` begins.
+version_in() { # FILE
+    local release
+    release=$(grep -aom1 '"release":"gpsrelay-[0-9.]*"' -- "$1" | head -n 1 | cut -d '"' -f 4)
+    [ -n "$release" ] || return 1
+    if grep -aqF "$release, built without proof" -- "$1"; then release+=", built without proof"; fi
+    echo "$release"
+}
+
 # The program to install, in $program, or the end with what to do.
 choose_program() {
     local proved=$top/crates/gpsrelay/out/gpsrelay without=$top/out/unproved/gpsrelay
@@ -114,6 +126,11 @@ choose_program() {
     local given=$program
     program=$(realpath -e -- "$given" 2>/dev/null) || refuse 1 "$given: no such file"
     if [ ! -f "$program" ] || [ ! -x "$program" ]; then refuse 1 "$program: not a program"; fi
+    if ! runs_here "$program"; then
+        [ -n "$destdir" ] || refuse 1 "$program: it is for $(architecture_of "$program"), and this machine is $(architecture_here); tools/package.sh makes a package of it"
+        version=$(version_in "$program") || refuse 1 "$program: it gives no version of gpsrelay"
+        return
+    fi
     version=$("$program" --version </dev/null 2>&1 | grep -a -m 1 '^gpsrelay-') || refuse 1 "$program: it gives no version of gpsrelay, or does not run on this machine"
 }
 
@@ -168,6 +185,26 @@ take_away() { # TO
     while [[ $folder == */gpsrelay* ]] && rmdir "$root/$folder" 2>/dev/null; do folder=${folder%/*}; done
 }
 
+# Whether systemd uses a file of this installation for its unit. DESTDIR is a folder of its own, which systemd does not read.
+is_used() { # TO
+    [ -z "$destdir" ] && [ "$(systemctl show --property FragmentPath --value "${1##*/}" 2>/dev/null)" = "$root/$1" ]
+}
+
+# Stops and disables the services among these files, while systemd still knows how. $stopped says whether there was one.
+stopped=
+stop_services() { # TO..
+    local it
+    for it in "$@"; do
+        case $it in
+        lib/systemd/system/*.service)
+            is_used "$it" || continue
+            systemctl disable --now "${it##*/}" || say "${it##*/}: could not be stopped and disabled"
+            stopped=1
+            ;;
+        esac
+    done
+}
+
 install_all() {
     choose_program
     files "$program"
@@ -198,15 +235,17 @@ remove_all() {
     all=("${tos[@]}")
     if [ -r "$root/$list" ]; then
         mapfile -t all <"$root/$list"
-        all+=("$list")
     fi
     for at in "${all[@]}"; do
         [ ! -e "$root/$at" ] && [ ! -L "$root/$at" ] || [ -w "$root/${at%/*}" ] || refuse 1 "$root/$at: cannot be removed; call it with sudo"
     done
+    stop_services "${all[@]}"
     rm -rf -- "$root/share/gpsrelay/__pycache__"
     for at in "${all[@]}"; do
         if take_away "$at"; then number=$((number + 1)); fi
     done
+    take_away "$list" || true
+    [ -z "$stopped" ] || systemctl daemon-reload
     echo "$number files are removed from $root. /etc/gpsrelay.env is kept, if it is there."
 }
 

@@ -12,7 +12,6 @@ end it with status 0.
 
 The messages are those of MQTT 3.1.1 (OASIS Standard, 29 October 2014): CONNECT, PUBLISH with QoS 0, PINGREQ.
 """
-import argparse
 import json
 import os
 import select
@@ -21,6 +20,11 @@ import socket
 import sys
 import time
 import urllib.parse
+
+sys.dont_write_bytecode = True  # nothing is left in the folder of the installed program
+
+import command  # noqa: E402
+from command import address_of, address_words, say  # noqa: E402
 
 WATCH = b'?WATCH={"json":true};\n'
 LONGEST_LINE = 1_048_576  # bytes; no line of the daemon is longer
@@ -36,21 +40,12 @@ class Over(Exception):
     """Why there is nothing more to hand on."""
 
 
-def address_of(text):
-    """(host, port) of HOST:PORT; a host with colons is in brackets."""
-    host, colon, port = text.rpartition(":")
-    if not colon or not port.isdecimal() or not 0 < int(port) <= 65_535:
-        raise argparse.ArgumentTypeError(f"{text} is no HOST:PORT")
-    return host.removeprefix("[").removesuffix("]") or "127.0.0.1", int(port)
-
-
 def connected(address, whose):
     """A connection that notices within a minute that the other machine is gone."""
-    host, port = address
     try:
         link = socket.create_connection(address, PATIENCE)
     except OSError as fault:
-        raise Over(f"no {whose} at {host}:{port}: {fault.strerror or fault}") from None
+        raise Over(f"no {whose} at {address_words(*address)}: {fault.strerror or fault}") from None
     link.setsockopt(socket.SOL_SOCKET, socket.SO_KEEPALIVE, 1)
     for name, value in ("TCP_KEEPIDLE", 30), ("TCP_KEEPINTVL", 10), ("TCP_KEEPCNT", 3):
         if hasattr(socket, name):
@@ -116,7 +111,7 @@ def published(prefix, line):
 
 def hand_on(daemon, broker, prefix):
     """Publishes what the daemon sends, until one of the two is gone."""
-    rest, answered, next_ping = b"", True, time.monotonic() + PING
+    rest, answered, next_ping, has_begun = b"", True, time.monotonic() + PING, False
     while True:
         ready, _, _ = select.select([daemon, broker], [], [], max(0.0, next_ping - time.monotonic()))
         if broker in ready:
@@ -130,7 +125,11 @@ def hand_on(daemon, broker, prefix):
             *lines, rest = (rest + data).split(b"\n")
             if len(rest) > LONGEST_LINE:
                 raise Over("what answers there is no daemon: it sends no lines")
-            broker.sendall(b"".join(published(prefix, line.rstrip(b"\r")) for line in lines))
+            packets = [published(prefix, line.rstrip(b"\r")) for line in lines]
+            if packets and not has_begun and not packets[0]:
+                raise Over("what answers there is no daemon: its first line is none of a daemon's")
+            has_begun = has_begun or bool(packets)
+            broker.sendall(b"".join(packets))
         if time.monotonic() >= next_ping:
             if not answered:
                 raise Over(f"the broker has not answered for {PING} s")
@@ -138,15 +137,8 @@ def hand_on(daemon, broker, prefix):
             answered, next_ping = False, time.monotonic() + PING
 
 
-PROGRAM = os.path.basename(sys.argv[0])  # mqtt.py, or gpsrelay-mqtt as it is installed
-
-
-def say(words):
-    print(f"{PROGRAM}: {words}", file=sys.stderr, flush=True)
-
-
 def command_line():
-    parser = argparse.ArgumentParser(prog=PROGRAM, description=__doc__.split("\n", 1)[0])
+    parser = command.Parser(__doc__.split("\n", 1)[0])
     parser.add_argument("daemon", nargs="?", type=address_of, default="127.0.0.1:2947", metavar="HOST:PORT", help="the daemon (127.0.0.1:2947)")
     parser.add_argument("--broker", type=address_of, default="127.0.0.1:1883", metavar="HOST:PORT", help="the MQTT broker (127.0.0.1:1883)")
     parser.add_argument("--prefix", default="gpsrelay", metavar="WORD", help="the first level of each topic (gpsrelay)")
@@ -165,10 +157,10 @@ def main():
         with connected(words.broker, "broker") as broker, connected(words.daemon, "daemon") as daemon:
             greet(broker, words.user, os.environ.get("MQTT_PASSWORD"))
             daemon.sendall(WATCH)
-            say(f"the lines of {words.daemon[0]}:{words.daemon[1]} go to {words.broker[0]}:{words.broker[1]} under {words.prefix}/")
+            say(f"the lines of {address_words(*words.daemon)} go to {address_words(*words.broker)} under {words.prefix}/")
             hand_on(daemon, broker, words.prefix)
     except Over as reason:
-        say(reason)
+        say(str(reason))
     except TimeoutError:
         say(f"the broker has taken nothing for {PATIENCE} s")
     except OSError as fault:
@@ -177,4 +169,4 @@ def main():
 
 
 if __name__ == "__main__":
-    sys.exit(main())
+    sys.exit(command.run(main))

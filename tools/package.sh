@@ -1,43 +1,61 @@
 #!/usr/bin/env bash
 # Makes a Debian package from the built program.
 #
-# Use: tools/package.sh [--unproved] [--version VERSION] [--output DIR]
+# Use: tools/package.sh [--unproved] [--arch amd64|arm64] [--version VERSION] [--output DIR]
 #
 #   --unproved          packs the program that `tools/build.sh --unproved` made; its version and its description say so
+#   --arch arm64        packs the program that `tools/build.sh --arch arm64` made; the package is made on either machine
 #   --version VERSION   the package's version; left out, it is made from the release and the commit
 #   --output DIR        where the package goes; out/ of this checkout if left out
 #
-# It builds nothing: `tools/build.sh` does, before. PROGRAM is the path of another build to pack. The maintainer is DEBFULLNAME with
-# DEBEMAIL, or who git says. The package installs what tools/install.sh installs, below /usr, and /etc/gpsrelay.env, which dpkg keeps
-# as it was edited. The service is not enabled: its receivers must be named first. A file COPYRIGHT of this checkout goes into it.
+# It builds nothing: `tools/build.sh` does, before. PROGRAM is the path of another build to pack. The package's architecture is that of its
+# program. The maintainer is DEBFULLNAME with DEBEMAIL, or who git says. The package installs what tools/install.sh installs, below /usr. At
+# its first installation it makes /etc/gpsrelay.env, and never changes it later: an upgrade asks nothing. The service is not enabled: its
+# receivers must be named first. A file COPYRIGHT of this checkout goes into it.
 set -eu
 umask 022
 
 top=$(cd "$(dirname "${BASH_SOURCE[0]}")/.." && pwd)
+. "$top/tools/architecture.sh"
 refuse() { # STATUS TEXT
     echo "package.sh: $2" >&2
     exit "$1"
 }
 
 unproved=
+arch=
 version=
 output=$top/out
 while [ $# -gt 0 ]; do
     case $1 in
     --unproved) unproved=1 ;;
-    --version | --output)
+    --arch | --version | --output)
         [ $# -ge 2 ] || refuse 2 "$1 needs a word"
-        if [ "$1" = --version ]; then version=$2; else output=$2; fi
+        case $1 in
+        --arch) arch=$2 ;;
+        --version) version=$2 ;;
+        --output) output=$2 ;;
+        esac
         shift
         ;;
     -h | --help)
-        sed -n '2,12s/^# \{0,1\}//p' "${BASH_SOURCE[0]}"
+        sed -n '2,14s/^# \{0,1\}//p' "${BASH_SOURCE[0]}"
         exit 0
         ;;
     *) refuse 2 "$1: no such option; see package.sh --help" ;;
     esac
     shift
 done
+case $arch in
+'' | amd64 | arm64) ;;
+*) refuse 2 "--arch $arch: the program is built for amd64 and arm64 alone" ;;
+esac
+if [ "$arch" = arm64 ] && [ -z "${PROGRAM:-}" ]; then
+    PROGRAM=$top/out/${unproved:+unproved/}arm64/gpsrelay
+    [ -e "$PROGRAM" ] || refuse 1 "nothing is built for arm64 yet: tools/build.sh --arch arm64${unproved:+ --unproved} does so"
+    export PROGRAM
+    unproved= # the program says so itself
+fi
 command -v dpkg-deb >/dev/null || refuse 1 "dpkg-deb is not installed: this needs a Debian system, or its package dpkg"
 
 room=$(mktemp -d)
@@ -61,7 +79,10 @@ if [ -z "$version" ]; then
     version+=${unproved:++unproved}-1local
 fi
 [[ $version =~ ^[0-9][A-Za-z0-9.+~-]*$ ]] || refuse 2 "$version: no version that Debian knows"
-architecture=$(dpkg --print-architecture)
+architecture=$(architecture_of "$stage/usr/bin/gpsrelay")
+[ -n "$architecture" ] || architecture=$(dpkg --print-architecture) # a script, in a test
+[ "${arch:-$architecture}" = "$architecture" ] || refuse 1 "the program is for $architecture, and not for $arch"
+[[ $architecture != *\ * ]] || refuse 1 "the program is for neither amd64 nor arm64"
 name=${DEBFULLNAME:-$(git_says config user.name || echo gpsrelay)}
 maintainer="$name <${DEBEMAIL:-$(git_says config user.email || echo root@localhost)}>"
 
@@ -75,9 +96,10 @@ mkdir -p "$stage/lib/systemd"
 mv "$stage/usr/lib/systemd/system" "$stage/lib/systemd/system"
 rmdir "$stage/usr/lib/systemd" "$stage/usr/lib"
 find "$stage/usr/share/gpsrelay" -name '*.py' -exec sed -i '1s|^#!/usr/bin/env python3$|#!/usr/bin/python3|' {} +
-strip --strip-unneeded "$stage/usr/bin/gpsrelay" 2>/dev/null || echo "package.sh: note: there is no strip for it, so the program keeps its symbols" >&2
-mkdir -p "$stage/etc"
-install -m 644 "$top/examples/usb.env" "$stage/etc/gpsrelay.env"
+strip=strip
+runs_here "$stage/usr/bin/gpsrelay" || strip=aarch64-linux-gnu-strip
+$strip --strip-unneeded "$stage/usr/bin/gpsrelay" 2>/dev/null || echo "package.sh: note: there is no $strip for it, so the program keeps its symbols" >&2
+install -m 644 "$top/examples/usb.env" "$stage/usr/share/gpsrelay/gpsrelay.env"
 gzip -9nc "$top/docs/CHANGELOG.md" >"$docs/changelog.gz"
 {
     echo "gpsrelay ($version) unstable; urgency=medium"
@@ -90,14 +112,20 @@ gzip -9nc "$top/docs/CHANGELOG.md" >"$docs/changelog.gz"
 if [ -r "$top/COPYRIGHT" ]; then
     install -m 644 "$top/COPYRIGHT" "$docs/copyright"
 else
-    echo "package.sh: note: there is no file COPYRIGHT, so the package has no copyright file, which Debian wants" >&2
+    cat >"$docs/copyright" <<COPYRIGHT
+Copyright (C) $(date -u -d "@$SOURCE_DATE_EPOCH" +%Y) the owner of gpsrelay
+
+No licence has been chosen yet. Whoever wants to pass this package on, changed or not, asks the owner
+of the repository that it was made from.
+COPYRIGHT
+    chmod 644 "$docs/copyright"
+    echo "package.sh: note: no licence has been chosen yet, and the package says so; a file COPYRIGHT of this checkout would take its place" >&2
 fi
 
 # --- what dpkg reads
 
 control=$stage/DEBIAN
 mkdir "$control"
-echo /etc/gpsrelay.env >"$control/conffiles"
 glibc=$(grep -ao 'GLIBC_2\.[0-9]*' "$stage/usr/bin/gpsrelay" | sort -uV | tail -n 1)
 {
     cat <<CONTROL
@@ -122,9 +150,19 @@ script() { # NAME, its body on standard input
     { printf '#!/bin/sh\nset -e\n'; cat; printf 'exit 0\n'; } >"$control/$1"
     chmod 755 "$control/$1"
 }
+# /etc/gpsrelay.env is no conffile of dpkg, which would ask about an edited one whenever the example has changed.
 # The links of `systemctl enable` go when the package is purged.
 script postinst <<POSTINST
 if [ "\$1" = configure ]; then
+    root=\${DPKG_ROOT:-}
+    if [ -z "\$2" ] && [ ! -e "\$root/etc/gpsrelay.env" ]; then
+        mkdir -p "\$root/etc"
+        cp "\$root/usr/share/gpsrelay/gpsrelay.env" "\$root/etc/gpsrelay.env"
+    fi
+    for unit in $units; do
+        other=/usr/local/lib/systemd/system/\$unit
+        [ ! -e "\$root\$other" ] || echo "gpsrelay: \$other is used in place of this package's unit: tools/install.sh --remove removes it" >&2
+    done
     for unit in $units; do deb-systemd-helper update-state "\$unit" >/dev/null || true; done
     if [ -z "\${DPKG_ROOT:-}" ] && [ -d /run/systemd/system ]; then
         systemctl --system daemon-reload >/dev/null || true
@@ -142,8 +180,11 @@ script postrm <<POSTRM
 if [ "\$1" = remove ] && [ -z "\${DPKG_ROOT:-}" ] && [ -d /run/systemd/system ]; then
     systemctl --system daemon-reload >/dev/null || true
 fi
-if [ "\$1" = purge ] && command -v deb-systemd-helper >/dev/null; then
-    for unit in $units; do deb-systemd-helper purge "\$unit" >/dev/null || true; done
+if [ "\$1" = purge ]; then
+    rm -f "\${DPKG_ROOT:-}/etc/gpsrelay.env"
+    if command -v deb-systemd-helper >/dev/null; then
+        for unit in $units; do deb-systemd-helper purge "\$unit" >/dev/null || true; done
+    fi
 fi
 POSTRM
 (cd "$stage" && find . -type f ! -path './DEBIAN/*' -printf '%P\0' | LC_ALL=C sort -z | xargs -0 md5sum) >"$control/md5sums"

@@ -209,7 +209,7 @@ def read_lines(run, lines, name, then):
     if run.raw > raw:
         file = "FILE" if name is None else shlex.quote(name)
         raise Undecoded(f"{place} holds what a receiver sends; decode it first: gpsrelay decode < {file} | {then}")
-    raise Undecoded(f"{place} has no line of `gpsrelay decode` or of a daemon")
+    raise Undecoded(f"{place} has no line of `gpsrelay decode` or of a daemon (bad lines: {run.bad - bad})")
 
 
 def segments(fixes, gap=GAP):

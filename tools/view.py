@@ -8,7 +8,7 @@ at http://127.0.0.1:8947/. The page asks this program alone, by HTTP and server-
 Whoever can reach the address of --listen sees where the receiver is: there is no password. A daemon that is gone is tried
 again, after a pause of at most 3 seconds. Ctrl-C ends it.
 """
-import argparse
+import functools
 import base64
 import hashlib
 import http.server
@@ -26,12 +26,13 @@ import urllib.parse
 
 sys.dont_write_bytecode = True  # nothing is left in the folder of the installed program
 
+import command  # noqa: E402
 import track_files  # noqa: E402
-from daemon_link import address_of, address_words, daemon_lines  # noqa: E402
+from command import address_of, address_words, say  # noqa: E402
+from daemon_link import daemon_lines  # noqa: E402
 from track_lines import segments  # noqa: E402
 from view_board import Board  # noqa: E402
 
-PROGRAM = os.path.basename(sys.argv[0])
 PAGE = os.path.join(os.path.dirname(os.path.realpath(__file__)), "view.html")
 ICON = (b'<svg xmlns="http://www.w3.org/2000/svg" viewBox="0 0 16 16"><circle cx="8" cy="8" r="7" fill="#0b62c4"/>'
         b'<path d="M8 3l3.4 9L8 10.4 4.6 12z" fill="#fff"/></svg>')
@@ -54,10 +55,10 @@ class DaemonLink(threading.Thread):
         self.address, self.board = address, board
 
     def run(self):
-        def say(why):
-            print(f"{PROGRAM}: no daemon at {address_words(*self.address)}: {why}; trying again", file=sys.stderr, flush=True)
+        def absent(why):
+            say(f"no daemon at {address_words(*self.address)}: {why}; trying again")
 
-        for line in daemon_lines(self.address, self.board.tell, lambda: self.board.closing, say):
+        for line in daemon_lines(self.address, self.board.tell, lambda: self.board.closing, absent):
             self.board.take(line)
 
 
@@ -263,14 +264,10 @@ class Browser(http.server.BaseHTTPRequestHandler):
 
 # The program
 
-def say(text):
-    print(f"{PROGRAM}: {text}", file=sys.stderr, flush=True)
-
-
 def command_line():
-    parser = argparse.ArgumentParser(prog=PROGRAM, description=__doc__.split("\n", 1)[0])
+    parser = command.Parser(__doc__.split("\n", 1)[0])
     parser.add_argument("daemon", nargs="?", type=address_of, default="127.0.0.1:2947", metavar="HOST:PORT", help="the daemon (127.0.0.1:2947)")
-    parser.add_argument("--listen", type=address_of, default="127.0.0.1:8947", metavar="HOST:PORT", help="where the page is (127.0.0.1:8947)")
+    parser.add_argument("--listen", type=functools.partial(address_of, lowest=0), default="127.0.0.1:8947", metavar="HOST:PORT", help="where the page is (127.0.0.1:8947)")
     return parser.parse_args()
 
 
@@ -298,4 +295,4 @@ def main():
 
 
 if __name__ == "__main__":
-    sys.exit(main())
+    sys.exit(command.run(main))

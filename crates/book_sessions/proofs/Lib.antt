@@ -5,5 +5,6 @@ pub mod Receiving
 pub mod Places
 pub mod Rosters
 pub mod Listening
+pub mod Looking
 pub mod Overruns
 pub mod Allowing

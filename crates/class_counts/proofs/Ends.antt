@@ -16,6 +16,7 @@ use Rattle.command_outcome.specs.Calls.{SinkCall, SourceCall}
 use Rattle.command_outcome.specs.Outcomes.{HasCause, NoReadFailed}
 use Rattle.command_outcome.specs.Ends.{HasReadAll, HasReadSoFar}
 use Rattle.command_outcome.specs.declared.outcome.CommandOutcome.{CommandOutcome}
+use Rattle.command_outcome.specs.declared.outcome.CommandOutcome.TheVariants.{BadLine}
 use Rattle.command_outcome.specs.declared.outcome.CommandOutcome.TheVariants as outcome
 use Rattle.class_counts.specs.declared.reading.Reading.TheVariants as reading
 use Rattle.class_counts.specs.Counted.{Counted, RefusesNone}
@@ -80,10 +81,11 @@ stopped Bad count bytes source after sink sink' outcome read stops writes =
     let n : ℕ = stops.0 in
     let few = read_so_far_few bytes source after read in
     let small = number_small bytes n stops.1 in
-    let text : bad_behind count.good ≡ bad_line (n + 1) = ap bad_line (kept_small n count.good stops.2 (omega arith)) in
+    let number : kept_number (count.good + 1) ≡ n + 1 = kept_small n count.good stops.2 (omega arith) in
+    let text : bad_behind count.good ≡ bad_line (n + 1) = ap bad_line number in
     elim writes [
-      | inl whole ↦ subst (λ o. Counted o source after sink sink') (sym whole.0)
-          (record { bytes = bytes; ends = inl (read, (n + 1, stops.1, subst (λ t. Goes (Appends t) sink sink') text whole.1)) })
+      | inl whole ↦ subst (λ o. Counted o source after sink sink') (sym (whole.0 ∙ ap (λ (k : ℕ). BadLine k) number))
+          (record { bytes = bytes; ends = inl (read, (stops.1, subst (λ t. Goes (Appends t) sink sink') text whole.1)) })
       | inr rest ↦ elim rest [
         | inl part ↦ subst (λ o. Counted o source after sink sink') (sym part.0)
             (record { bytes = bytes; ends = inl (read, (n + 1, stops.1, subst (λ t. Goes (AppendsPart t) sink sink') text part.1)) })
@@ -150,10 +152,11 @@ ended true count bytes source after sink sink' outcome read stands is writes =
     let same = as_many stands.values (lines bytes) stands.are in
     let few = few_lines bytes in
     let least = read.0 in
-    let text : bad_behind count.good ≡ bad_line (n + 1) = ap bad_line (kept_small n count.good lacks.2 (omega arith)) in
+    let number : kept_number (count.good + 1) ≡ n + 1 = kept_small n count.good lacks.2 (omega arith) in
+    let text : bad_behind count.good ≡ bad_line (n + 1) = ap bad_line number in
     elim writes [
-      | inl whole ↦ subst (λ o. Counted o source after sink sink') (sym whole.0)
-          (record { bytes = bytes; ends = inr (read, (n + 1, lacks.1, subst (λ t. Goes (Appends t) sink sink') text whole.1)) })
+      | inl whole ↦ subst (λ o. Counted o source after sink sink') (sym (whole.0 ∙ ap (λ (k : ℕ). BadLine k) number))
+          (record { bytes = bytes; ends = inr (read, (lacks.1, subst (λ t. Goes (Appends t) sink sink') text whole.1)) })
       | inr rest ↦ elim rest [
         | inl part ↦ subst (λ o. Counted o source after sink sink') (sym part.0)
             (record { bytes = bytes; ends = inr (read, inr (n + 1, lacks.1, subst (λ t. Goes (AppendsPart t) sink sink') text part.1)) })
@@ -185,7 +188,7 @@ has_cause outcome.ReadFault source sink cause sound = absurd cause
 has_cause outcome.TooQuiet source sink cause sound = absurd cause
 has_cause outcome.WriteFault source sink cause sound = (sound, cause)
 has_cause outcome.Full source sink cause sound = absurd cause
-has_cause outcome.BadLine source sink cause sound = (sound, cause)
+has_cause (outcome.BadLine number) source sink cause sound = (sound, cause)
 has_cause outcome.NoMemory source sink cause sound = (sound, cause)
 
 pub counted_end : (count : Count) (source after : Option Stream) (sink sink' : Option (List ℕ)) (outcome : CommandOutcome)

@@ -140,13 +140,13 @@ no_bad_at_end bytes n (Some stream) (Some after) within read e =
     (subst (λ ls. AreRead within.1.0 ls) (ap whole_lines read.1.all ∙ e.split) within.1.1) e.bad
 
 pub within : (o : CommandOutcome) (source after : Option Stream) (sink sink' : Option (List ℕ)) → Counted o source after sink sink' → IsWithin source
-    → (o ≢ outcome.Full) × (o ≢ outcome.BadLine)
+    → (o ≢ outcome.Full) × ((n : ℕ) → o ≢ outcome.BadLine n)
 within o source after sink sink' counted inside = (
   λ full. let c : Counted outcome.Full source after sink sink' = subst (λ p. Counted p source after sink sink') full counted in
       no_more most_bytes c.bytes source after (few source inside) c.ends.0 c.ends.1,
-  λ bad. let c : Counted outcome.BadLine source after sink sink' = subst (λ p. Counted p source after sink sink') bad counted in
+  λ n bad. let c : Counted (outcome.BadLine n) source after sink sink' = subst (λ p. Counted p source after sink sink') bad counted in
       elim c.ends [
-        | inl so_far ↦ no_bad_so_far c.bytes so_far.1.0 source after inside so_far.0 so_far.1.1
-        | inr whole ↦ no_bad_at_end c.bytes whole.1.0 source after inside whole.0 whole.1.1
+        | inl so_far ↦ no_bad_so_far c.bytes n source after inside so_far.0 so_far.1.0
+        | inr whole ↦ no_bad_at_end c.bytes n source after inside whole.0 whole.1.0
       ],
 )

@@ -21,7 +21,7 @@ CountedSoFar ReadFault bytes sink sink' = RefusesNone bytes × (sink ≡ sink')
 CountedSoFar TooQuiet bytes sink sink' = RefusesNone bytes × (sink ≡ sink')
 CountedSoFar WriteFault bytes sink sink' = (n : ℕ) × Refuses bytes n × Goes (AppendsPart (bad_line n)) sink sink'
 CountedSoFar Full bytes sink sink' = RefusesNone bytes × (sink ≡ sink')
-CountedSoFar BadLine bytes sink sink' = (n : ℕ) × Refuses bytes n × Goes (Appends (bad_line n)) sink sink'
+CountedSoFar (BadLine n) bytes sink sink' = Refuses bytes n × Goes (Appends (bad_line n)) sink sink'
 CountedSoFar NoMemory bytes sink sink' = sink ≡ sink'
 
 -- What was written at the source's end, which the last line may lack: the numbers of the lines, or that of the first bad one, or a prefix of
@@ -34,7 +34,7 @@ CountedAll WriteFault bytes sink sink' =
     ((values : List Line) × AreRead values (whole_lines bytes) × Goes (AppendsPart (summary values)) sink sink')
     ⊎ ((n : ℕ) × EndsBadly (whole_lines bytes) n × Goes (AppendsPart (bad_line n)) sink sink')
 CountedAll Full bytes sink sink' = ⊥
-CountedAll BadLine bytes sink sink' = (n : ℕ) × EndsBadly (whole_lines bytes) n × Goes (Appends (bad_line n)) sink sink'
+CountedAll (BadLine n) bytes sink sink' = EndsBadly (whole_lines bytes) n × Goes (Appends (bad_line n)) sink sink'
 CountedAll NoMemory bytes sink sink' = sink ≡ sink'
 
 -- There are bytes that were read, and what is due of them was written. Of an object whose contents are not modelled nothing is said here:

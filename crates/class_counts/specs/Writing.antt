@@ -22,7 +22,7 @@ WriteCause ReadFault before after = ⊥
 WriteCause TooQuiet before after = ⊥
 WriteCause WriteFault before after = Rose before after
 WriteCause Full before after = ⊥
-WriteCause BadLine before after = after ≡ before
+WriteCause (BadLine number) before after = after ≡ before
 WriteCause NoMemory before after = after ≡ before
 
 -- the number of the line after n good ones
@@ -31,10 +31,10 @@ bad_behind good = bad_line (kept_number (good + 1))
 
 -- a count that stops at a bad line, or out of memory
 abbrev pub StopsWith : Stop → ℕ → CommandOutcome → Option (List ℕ) → Option (List ℕ) → Type 0
-StopsWith Bad good outcome before after = Closes BadLine (bad_behind good) outcome before after
+StopsWith Bad good outcome before after = Closes (BadLine (kept_number (good + 1))) (bad_behind good) outcome before after
 StopsWith NoMemoryStop good outcome before after = (outcome ≡ NoMemory) × (before ≡ after)
 
 -- a count whose input has ended, with or without the end of its last line
 abbrev pub EndsWith : Bool → Count → CommandOutcome → Option (List ℕ) → Option (List ℕ) → Type 0
-EndsWith true count outcome before after = Closes BadLine (bad_behind count.good) outcome before after
+EndsWith true count outcome before after = Closes (BadLine (kept_number (count.good + 1))) (bad_behind count.good) outcome before after
 EndsWith false count outcome before after = Closes Done (numbers_text count.tally.numbers) outcome before after

@@ -89,7 +89,7 @@ pub fn count_lines<S: Source, K: Sink>(
     ensures cause { HasCause result (source_call S.Source source.old source.new) (sink_call K.Sink sink.old sink.new) }
 
     // An input within the limits is neither too long nor bad. Counts never fall.
-    ensures within { IsWithin (S.content source.old) → (result ≢ CommandOutcome.Full) × (result ≢ CommandOutcome.BadLine) }
+    ensures within { IsWithin (S.content source.old) → (result ≢ CommandOutcome.Full) × ((number : ℕ) → result ≢ CommandOutcome.BadLine number) }
     ensures faults_stay { S.faults source.old ≤ S.faults source.new }
     ensures quiets_stay { S.quiets source.old ≤ S.quiets source.new }
     ensures sink_faults_stay { K.faults sink.old ≤ K.faults sink.new }

@@ -34,14 +34,16 @@ fn numbers(alloc: Global, tally: &Tally) -> Result<Bytes, NoMemory>
 pub(crate) fn refuse<K: Sink>(alloc: Global, good: u64, sink: &mut K) -> CommandOutcome
     requires takes { K.takes sink.old }
     ensures takes { K.takes sink.new }
-    ensures closes { Closes CommandOutcome.BadLine (bad_behind good) result (K.written sink.old) (K.written sink.new) }
+    ensures closes { Closes (CommandOutcome.BadLine (kept_number (good + 1))) (bad_behind good) result (K.written sink.old) (K.written sink.new) }
     ensures cause { WriteCause result (K.faults sink.old) (K.faults sink.new) }
     ensures faults_stay { K.faults sink.old ≤ K.faults sink.new }
 {
     match bad_line(alloc, good) {
         Ok(text) => {
             if write_all(sink, text.as_slice()) {
-                CommandOutcome::BadLine
+                CommandOutcome::BadLine {
+                    number: good.saturating_add(1),
+                }
             } else {
                 CommandOutcome::WriteFault
             }

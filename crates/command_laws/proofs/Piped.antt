@@ -60,7 +60,7 @@ lines_after_decode history source source' clock clock' text wrote is short few o
     has : HasNumbers text (fixes_and_skies (reports_to_end (stream_of wrote.readings)))
     has = subst (λ t. HasNumbers t (fixes_and_skies (reports_to_end (stream_of wrote.readings)))) (sym said) (numbers (stream_of wrote.readings) is short)
 
-    ends : (outcome ≢ Full) × (outcome ≢ BadLine)
+    ends : (outcome ≢ Full) × ((number : ℕ) → outcome ≢ BadLine number)
     ends = within outcome (holding taken text) pipe' (Some out) sink' counted (few, (has.values, has.are))
 
     well : Counted Done (holding taken text) pipe' (Some out) sink' → sink' ≡ Some (out ++ numbers_text (fixes_and_skies (reports_to_end (stream_of wrote.readings))))

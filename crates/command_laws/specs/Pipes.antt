@@ -38,5 +38,5 @@ LinesAfterDecode =
     → IsStream (stream_of wrote.readings) → AllByRecursion HasShortLine (reports_to_end (stream_of wrote.readings)) → length text ≤ most_bytes
     → (outcome : CommandOutcome) (taken : List ℕ) (pipe' : Option Stream) (out : List ℕ) (sink' : Option (List ℕ))
     → Counted outcome (holding taken text) pipe' (Some out) sink'
-    → (outcome ≢ BadLine) × (outcome ≢ Full)
+    → ((number : ℕ) → outcome ≢ BadLine number) × (outcome ≢ Full)
     × (outcome ≡ Done → sink' ≡ Some (out ++ numbers_text (fixes_and_skies (reports_to_end (stream_of wrote.readings)))))

@@ -29,7 +29,7 @@ module _ (source : SourceCall) (sink : SinkCall) where
   has_cause TooQuiet cause = inl (refl, inr cause.0, cause.1)
   has_cause WriteFault cause = inr (inl (refl, inl cause.0, cause.1))
   has_cause Full cause = inr (inr (λ e. omega (arith, e), λ e. omega (arith, e), cause))
-  has_cause BadLine cause = inr (inr (λ e. omega (arith, e), λ e. omega (arith, e), cause))
+  has_cause (BadLine number) cause = inr (inr (λ e. omega (arith, e), λ e. omega (arith, e), cause))
   has_cause NoMemory cause = inr (inr (λ e. omega (arith, e), λ e. omega (arith, e), cause))
 
   pub has_late_cause : (outcome : CommandOutcome) → HasLateCause outcome source sink → StatusHasCause (status_of outcome) source sink
@@ -66,7 +66,7 @@ not_refused ReadFault e = omega (arith, e)
 not_refused TooQuiet e = omega (arith, e)
 not_refused WriteFault e = omega (arith, e)
 not_refused Full e = omega (arith, e)
-not_refused BadLine e = omega (arith, e)
+not_refused (BadLine number) e = omega (arith, e)
 not_refused NoMemory e = omega (arith, e)
 
 -- the statuses that are left if no read and no write failed
@@ -77,5 +77,5 @@ others ReadFault sound = absurd (sound.0 refl)
 others TooQuiet sound = absurd (sound.0 refl)
 others WriteFault sound = absurd (sound.1 refl)
 others Full sound = inr (inl refl)
-others BadLine sound = inr (inr (inl refl))
+others (BadLine number) sound = inr (inr (inl refl))
 others NoMemory sound = inr (inr (inr refl))

@@ -27,7 +27,7 @@ Ends ReadFault most bytes before after so_far at_end = (length bytes ≤ most) �
 Ends TooQuiet most bytes before after so_far at_end = (length bytes ≤ most) × Goes (Passes bytes) before after × so_far
 Ends WriteFault most bytes before after so_far at_end = BreaksOff most bytes before after so_far at_end
 Ends Full most bytes before after so_far at_end = (length bytes ≡ most) × Goes (PassesMore bytes) before after × so_far
-Ends BadLine most bytes before after so_far at_end = BreaksOff most bytes before after so_far at_end
+Ends (BadLine number) most bytes before after so_far at_end = BreaksOff most bytes before after so_far at_end
 Ends NoMemory most bytes before after so_far at_end = BreaksOff most bytes before after so_far at_end
 
 -- of the bytes that were due a prefix was written if a write failed or memory ran out, and else all
@@ -37,7 +37,7 @@ Wrote ReadFault due before after = Goes (Appends due) before after
 Wrote TooQuiet due before after = Goes (Appends due) before after
 Wrote WriteFault due before after = Goes (AppendsPart due) before after
 Wrote Full due before after = Goes (Appends due) before after
-Wrote BadLine due before after = Goes (Appends due) before after
+Wrote (BadLine number) due before after = Goes (Appends due) before after
 Wrote NoMemory due before after = Goes (AppendsPart due) before after
 
 -- the content of the source is modelled, and no more is left of it than a command may read

@@ -1,5 +1,5 @@
 -- How a command ends: its exit status, and what must have happened outside for it.
-use Rattle.std.specs.Prelude.{◌≡◌, ◌≢◌, ℕ, ◌⊎◌}
+use Rattle.std.specs.Prelude.{◌≡◌, ◌≢◌, ◌≤◌, ℕ, ◌⊎◌}
 use Rattle.gps_outside.specs.Counts.{many_more}
 use Rattle.gps_outside.specs.ReadSteps.{IsQuietSometimes}
 use Rattle.command_outcome.specs.Calls.{ReadFailed, SinkCall, SourceCall, WasQuiet, WriteFailed}
@@ -12,7 +12,7 @@ status_of ReadFault = 3
 status_of TooQuiet = 3
 status_of WriteFault = 4
 status_of Full = 5
-status_of BadLine = 6
+status_of (BadLine number) = 6
 status_of NoMemory = 7
 
 -- fewer than a thousand reads were quiet
@@ -45,7 +45,7 @@ HasCause ReadFault source sink = EndsByReadFault source × NoWriteFailed sink
 HasCause TooQuiet source sink = EndsTooQuiet source × NoWriteFailed sink
 HasCause WriteFault source sink = NoReadFailed source × WriteFailed sink
 HasCause Full source sink = NothingFailed source sink
-HasCause BadLine source sink = NothingFailed source sink
+HasCause (BadLine number) source sink = NothingFailed source sink
 HasCause NoMemory source sink = NothingFailed source sink
 
 -- the reading broke off
@@ -71,3 +71,9 @@ HasReadCause source = ReadFailed source ⊎ WasQuiet 1000 source
 -- no read and no write failed, and fewer than a thousand reads were quiet
 abbrev pub NothingFails : SourceCall → SinkCall → Type 0
 NothingFails source sink = (ReadFailed source → ⊥) × (WasQuiet 1000 source → ⊥) × (WriteFailed sink → ⊥)
+
+-- no count of a fault or of a quiet read fell
+pub record CountsStay (source : SourceCall) (sink : SinkCall) : Type 0 where
+  pub faults : source.before.faults ≤ source.after.faults
+  pub quiets : source.before.quiets ≤ source.after.quiets
+  pub sink_faults : sink.before.faults ≤ sink.after.faults

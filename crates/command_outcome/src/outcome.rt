@@ -14,8 +14,8 @@ pub enum CommandOutcome {
     WriteFault,
     /// As many bytes as the limit allows were read, and one more came.
     Full,
-    /// A line was refused. Only a command that reads lines ends so.
-    BadLine,
+    /// The line of this number, from 1 on, was refused. Only a command that reads lines ends so.
+    BadLine { number: u64 },
     NoMemory,
 }
 
@@ -30,7 +30,7 @@ impl CommandOutcome {
             CommandOutcome::TooQuiet => 3,
             CommandOutcome::WriteFault => 4,
             CommandOutcome::Full => 5,
-            CommandOutcome::BadLine => 6,
+            CommandOutcome::BadLine { .. } => 6,
             CommandOutcome::NoMemory => 7,
         }
     }

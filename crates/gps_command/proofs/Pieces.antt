@@ -1,5 +1,5 @@
 -- One more piece of the input: the requests that it ends, and what is kept then.
-use Rattle.std.proofs.Common.{◌≡◌, ◌<◌, ◌≤◌, ◌+◌, ℕ, List, [], ◌∷◌, ◌++◌, length, drop, slice_index_or, ap, sym, ◌∙◌, refl, arith, subst, add-one, drop-cons, append_assoc}
+use Rattle.std.proofs.Common.{◌≡◌, ◌<◌, ◌≤◌, ◌+◌, ℕ, List, [], ◌∷◌, ◌++◌, length, drop, slice_index_or, sym, ◌∙◌, refl, arith, add-one, drop-cons, append_assoc}
 use Rattle.std.proofs.lemmas.List.{append-nil, drop_all}
 use Rattle.gps_command.specs.declared.cutter.Stand.{Stand}
 use Rattle.gps_command.specs.declared.request.RawCommand.{RawCommand}
@@ -13,19 +13,15 @@ at_start bytes x = grown 0 bytes x (omega arith)
 
 kept_more : (bytes piece : List ℕ) → kept_from 0 (bytes ++ piece) ≡ kept_after (kept_from 0 bytes) piece
 unfolding kept_after
-kept_more bytes [] = ap (kept_from 0) (append-nil bytes)
-kept_more bytes (c ∷ piece) =
-    ap (kept_from 0) (sym (append_assoc bytes (c ∷ []) piece)) ∙ kept_more (bytes ++ c ∷ []) piece
-    ∙ ap (λ (k : CommandCutterView). kept_after k piece) (at_start bytes c).kept
+kept_more bytes [] = rw append-nil
+kept_more bytes (c ∷ piece) = rw (← append_assoc bytes (c ∷ []) piece, kept_more (bytes ++ c ∷ []) piece, (at_start bytes c).kept)
 
 requests_more : (bytes piece : List ℕ) → requests (bytes ++ piece) ≡ requests bytes ++ ended_by (kept_from 0 bytes) piece
 unfolding ended_by
-requests_more bytes [] = ap (requests_from 0) (append-nil bytes) ∙ sym (append-nil (requests_from 0 bytes))
+requests_more bytes [] = simp append-nil
 requests_more bytes (c ∷ piece) =
-    ap (requests_from 0) (sym (append_assoc bytes (c ∷ []) piece)) ∙ requests_more (bytes ++ c ∷ []) piece
-    ∙ ap (λ (k : CommandCutterView). requests_from 0 (bytes ++ c ∷ []) ++ ended_by k piece) (at_start bytes c).kept
-    ∙ ap (λ r. r ++ ended_by (next_at (kept_from 0 bytes).stand (kept_from 0 bytes).held c) piece) (at_start bytes c).ended
-    ∙ append_assoc (requests_from 0 bytes) _ _
+    rw (← append_assoc bytes (c ∷ []) piece, requests_more (bytes ++ c ∷ []) piece, (at_start bytes c).kept, (at_start bytes c).ended)
+    (append_assoc (requests_from 0 bytes) _ _)
 
 pub stands_for_none : StandsFor (kept_open []) []
 unfolding kept_from
@@ -37,11 +33,7 @@ pub record Going (old : CommandCutterView) (piece : List ℕ) (stand : Stand) (h
   pub kept : kept_after (record { stand = stand; held = held }) rest ≡ kept_after old piece
 
 pub begins : (old : CommandCutterView) (piece held : List ℕ) (out : List RawCommand) → held ≡ old.held → out ≡ [] → Going old piece old.stand held out piece
-begins old piece held out h o = record {
-  ended = ap (λ r. r ++ ended_by (record { stand = old.stand; held = held }) piece) o
-      ∙ ap (λ h. ended_by (record { stand = old.stand; held = h }) piece) h;
-  kept = ap (λ h. kept_after (record { stand = old.stand; held = h }) piece) h;
-}
+begins old piece held out h o = rw (h, o) (record { ended = refl; kept = refl })
 
 going_on : (old : CommandCutterView) (piece : List ℕ) (stand : Stand) (held : List ℕ) (out : List RawCommand) (c : ℕ) (rest : List ℕ)
     → Going old piece stand held out (c ∷ rest)
@@ -60,35 +52,21 @@ pub goes_on : (old : CommandCutterView) (piece : List ℕ) (stand stand1 : Stand
     → Going old piece stand1 held1 out1 (drop (i + 1) piece)
 goes_on old piece stand stand1 held held1 out out1 i d h g s l o =
     let split : drop i piece ≡ slice_index_or piece i d ∷ drop (i + 1) piece = rw add-one (drop-cons piece i d h) in
-    let P : List ℕ → Type 0 = λ rest. Going old piece stand held out rest in
-    let step : Going old piece (next_at stand held (slice_index_or piece i d)).stand (next_at stand held (slice_index_or piece i d)).held (out ++ ends_at stand held (slice_index_or piece i d)) (drop (i + 1) piece)
-    = going_on old piece stand held out (slice_index_or piece i d) (drop (i + 1) piece) (subst P split g) in
-    record {
-      ended = ap (λ r. r ++ ended_by (record { stand = stand1; held = held1 }) (drop (i + 1) piece)) o
-          ∙ ap (λ s. (out ++ ends_at stand held (slice_index_or piece i d)) ++ ended_by (record { stand = s; held = held1 }) (drop (i + 1) piece)) s
-          ∙ ap (λ h. (out ++ ends_at stand held (slice_index_or piece i d)) ++ ended_by (record { stand = (next_at stand held (slice_index_or piece i d)).stand; held = h }) (drop (i + 1) piece)) l
-          ∙ step.ended;
-      kept = ap (λ s. kept_after (record { stand = s; held = held1 }) (drop (i + 1) piece)) s
-          ∙ ap (λ h. kept_after (record { stand = (next_at stand held (slice_index_or piece i d)).stand; held = h }) (drop (i + 1) piece)) l
-          ∙ step.kept;
-    }
+    rw (s, l, o) (going_on old piece stand held out _ (drop (i + 1) piece) (rw split at g))
 
 ended_at : (old : CommandCutterView) (piece : List ℕ) (stand : Stand) (held : List ℕ) (out : List RawCommand) → Going old piece stand held out []
     → (bytes : List ℕ) → StandsFor old bytes
     → Gains bytes piece out × StandsFor (record { stand = stand; held = held }) (bytes ++ piece)
 unfolding ended_by kept_after
 ended_at old piece stand held out g bytes stands = (
-  requests_more bytes piece ∙ ap (λ (k : CommandCutterView). requests bytes ++ ended_by k piece) (sym stands)
-      ∙ ap (λ r. requests bytes ++ r) (sym (sym (append-nil out) ∙ g.ended)),
-  g.kept ∙ ap (λ (k : CommandCutterView). kept_after k piece) stands ∙ sym (kept_more bytes piece),
+  requests_more bytes piece ∙ rw (← stands, ← g.ended, append-nil),
+  g.kept ∙ rw (stands, kept_more bytes piece),
 )
 
 pub ends_here : (old : CommandCutterView) (piece : List ℕ) (stand : Stand) (held : List ℕ) (out : List RawCommand) (i : ℕ) → length piece ≤ i
     → Going old piece stand held out (drop i piece) → (bytes : List ℕ) → StandsFor old bytes
     → Gains bytes piece out × StandsFor (record { stand = stand; held = held }) (bytes ++ piece)
-ends_here old piece stand held out i h g =
-    let P : List ℕ → Type 0 = λ rest. Going old piece stand held out rest in
-    ended_at old piece stand held out (subst P (drop_all i piece h) g)
+ends_here old piece stand held out i h g = ended_at old piece stand held out (rw (drop_all i piece h) at g)
 
 -- a piece that is the whole input
 pub all_gained : (kept : CommandCutterView) (piece : List ℕ) (out : List RawCommand) (after : CommandCutterView) → StandsFor kept []

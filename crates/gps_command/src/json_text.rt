@@ -9,7 +9,7 @@ use serde_json::Value;
 use std::alloc::Global;
 
 /// The value of a JSON text.
-#[tactic(auto, using(crate::proofs::JsonTexts::utf8_holds, crate::proofs::JsonTexts::utf8_tested, crate::proofs::JsonTexts::not_empty))]
+#[tactic(auto, using(crate::proofs::JsonTexts::utf8, crate::proofs::JsonTexts::not_empty))]
 pub(crate) fn value_of(alloc: Global, text: &[u8]) -> Result<Value, ReadFault>
     ensures ok { IfOk result (λ value. json_of text.now ≡ Some (view value)) }
     ensures some { OnOk result (0 < length text.now) }

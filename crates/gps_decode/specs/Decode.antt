@@ -24,7 +24,7 @@ AreReads ReadFault readings = ArePieces readings
 AreReads TooQuiet readings = ArePieces readings
 AreReads WriteFault readings = ArePieces readings ⊎ PassHistory readings
 AreReads Full readings = PassHistory readings
-AreReads BadLine readings = ⊥
+AreReads (BadLine number) readings = ⊥
 AreReads NoMemory readings = ArePieces readings ⊎ PassHistory readings
 
 -- There are readings such that their bytes were read, the clock gave one stamp for each of them, in order, and what is said of their stream's reports was

@@ -1,3 +1,4 @@
+pub mod Agreement
 pub mod AnyMap
 pub mod Causes
 pub mod Halves

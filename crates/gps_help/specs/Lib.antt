@@ -1,3 +1,4 @@
+pub mod Agreement
 pub mod Causes
 pub mod DeviceCauses
 pub mod Options

@@ -8,7 +8,7 @@ use Rattle.gps_words.specs.Numbers.{number_in}
 use Rattle.gps_help.specs.declared.command_name.CommandName.{CommandName}
 use Rattle.gps_help.specs.declared.command_name.CommandName.TheVariants.{Decode, Replay, Generate, Pseudo, Lines, Serve}
 use Rattle.gps_help.specs.declared.option_name.OptionName.{OptionName}
-use Rattle.gps_help.specs.declared.option_name.OptionName.TheVariants.{Listen, Queue, History, Wait, Monitor, Reopen, Stop, Bytes, Seed, Size}
+use Rattle.gps_help.specs.declared.option_name.OptionName.TheVariants.{Listen, Queue, History, Wait, Monitor, Reopen, CycleGap, Report, Stop, Bytes, Seed, Size}
 
 abbrev pub options_of : CommandName → List OptionName
 options_of Decode = Bytes ∷ []
@@ -16,7 +16,7 @@ options_of Pseudo = Bytes ∷ []
 options_of Replay = History ∷ Queue ∷ []
 options_of Generate = Seed ∷ Size ∷ []
 options_of Lines = []
-options_of Serve = Listen ∷ Queue ∷ History ∷ Wait ∷ Monitor ∷ Reopen ∷ Stop ∷ []
+options_of Serve = Listen ∷ Queue ∷ History ∷ Wait ∷ Monitor ∷ Reopen ∷ CycleGap ∷ Report ∷ Stop ∷ []
 
 -- the command takes device words; the others take options alone
 abbrev pub is_served : CommandName → Bool
@@ -37,6 +37,8 @@ flag_of History = codes "--history"
 flag_of Wait = codes "--wait"
 flag_of Monitor = codes "--monitor"
 flag_of Reopen = codes "--reopen"
+flag_of CycleGap = codes "--cycle-gap"
+flag_of Report = codes "--report"
 flag_of Stop = codes "--stop"
 flag_of Bytes = codes "--history"
 flag_of Seed = codes "--seed"
@@ -54,6 +56,8 @@ range_of History = Some (1, 33_554_432)
 range_of Wait = Some (0, 64)
 range_of Monitor = Some (0, 1_000_000)
 range_of Reopen = Some (1, 3_600)
+range_of CycleGap = Some (1, 10_000)
+range_of Report = Some (10, 86_400)
 range_of Stop = None
 range_of Bytes = Some (1, 33_554_432)
 range_of Seed = Some (0, 4_294_967_295)

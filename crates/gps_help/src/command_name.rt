@@ -107,6 +107,8 @@ impl CommandName {
                 OptionName::Wait,
                 OptionName::Monitor,
                 OptionName::Reopen,
+                OptionName::CycleGap,
+                OptionName::Report,
                 OptionName::Stop,
             ],
         }

@@ -28,6 +28,8 @@ options of serve:
   --wait N             clients that must have watched before what devices send is handed on, 0 to 64 (0)
   --monitor N          readings of each monitor of a segment, 0 to 1000000 (0)
   --reopen SECONDS     opens a terminal, FIFO or host again that many seconds after it ended or failed, 1 to 3600 (never)
+  --cycle-gap MS       silence after which a receiver has said all of a moment, so that its fix is sent, 1 to 10000 (never)
+  --report SECONDS     says every so many seconds on standard error what the daemon does, 10 to 86400 (never)
   --stop PATH          ends in order at the first byte or the end of this file, as a FIFO or /dev/stdin (never)
 
 words of serve, 1 to 16 of at most 8 devices:

@@ -12,6 +12,7 @@ mod option_name;
 mod place;
 mod question;
 mod refusal;
+mod table;
 mod told;
 mod word;
 
@@ -21,4 +22,5 @@ pub use help::{COMMANDS, EXAMPLES, OTHERS, RELEASE, SERVE, USAGE};
 pub use option_name::OptionName;
 pub use question::{Question, question_in};
 pub use refusal::{Refusal, refused};
+pub use table::table_is_what_is_read;
 pub use told::Told;

@@ -1,12 +1,14 @@
 ghost use Rattle.std.specs.Prelude.{◌≡◌, map, string_bytes};
 ghost use Rattle.std.specs.List.{list_any};
-ghost use Rattle.gps_help.specs.Questions.{asks_for_version, asks_help, help_of, is_help_word, question_in};
+ghost use Rattle.gps_help.specs.Places.{stop_of};
+ghost use Rattle.gps_help.specs.Questions.{asks_for_version, asks_help, help_of, is_help_word, question_in, words_to};
 
 use crate::CommandName;
 use crate::help::{
     COMMANDS, DECODE, DECODE_USAGE, EXAMPLES, GENERATE, GENERATE_USAGE, LINES, LINES_USAGE, OTHERS,
     PSEUDO, PSEUDO_USAGE, RELEASE, REPLAY, REPLAY_USAGE, SERVE, SERVE_USAGE, USAGE,
 };
+use crate::place::stop_of;
 
 /// What is asked of the program itself, and of no command.
 #[derive(Clone, Copy, Debug, PartialEq, Eq)]
@@ -26,6 +28,17 @@ fn is_help_word(word: &str) -> bool
     word == "--help" || word == "-h"
 }
 
+/// The words up to this place, or all of them.
+#[tactic(auto, using(crate::proofs::AnyMap::within))]
+fn words_to(words: &[String], stop: Option<usize>) -> &[String]
+    ensures { result.now ≡ words_to stop words.entry.now }
+{
+    match stop {
+        Some(place) => &words[..place.min(words.len())],
+        None => words,
+    }
+}
+
 /// Whether one of the words asks for help.
 fn is_help_asked(words: &[String]) -> bool
     ensures { result ≡ list_any (λ word. is_help_word (string_bytes word)) words.now }
@@ -33,11 +46,11 @@ fn is_help_asked(words: &[String]) -> bool
     words.iter().any(|word| is_help_word(word.as_str()))
 }
 
-/// The same. It only forwards, for the prover: its contract sees the words as texts.
+/// Whether one of the words before the first `--` asks for help.
 fn has_help_word(words: &[String]) -> bool
-    ensures { result ≡ list_any is_help_word (map string_bytes words.now) }
+    ensures { result ≡ list_any is_help_word (words_to (stop_of (map string_bytes words.now)) (map string_bytes words.now)) }
 {
-    is_help_asked(words)
+    is_help_asked(words_to(words, stop_of(words)))
 }
 
 /// Whether a first word asks for help.
@@ -69,7 +82,7 @@ fn help_of(words: &[String]) -> Option<Question>
 }
 
 /// What the words, without the program's name, ask of the program itself: `help`, `-h` or `--help`, also with a
-/// command after it, a command with `-h` or `--help` among its words, or `--version`, `version` or `-V`.
+/// command after it, a command with `-h` or `--help` among its words before a `--`, or `--version`, `version` or `-V`.
 #[tactic(auto, unfolding(crate::specs::Questions::question_in))]
 pub fn question_in(words: &[String]) -> Option<Question>
     ensures { result ≡ question_in (map string_bytes words.now) }

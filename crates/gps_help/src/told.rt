@@ -62,7 +62,31 @@ fn in_place_of(option: &str) -> Option<&'static str> {
         "-G" => Some("say --listen 0.0.0.0:2947 for all addresses"),
         "-b" => Some("leave it out: serve writes nothing to a device"),
         "-S" => Some("say --listen 127.0.0.1:PORT"),
+        "-F" => Some(
+            "leave it and its value out: the devices of serve are words, and a stop is asked by --stop",
+        ),
+        "-P" => Some("leave it and its value out: what starts serve knows its process"),
+        "-p" => Some("leave it out: serve never writes to a device"),
+        "-r" => Some("leave it out: serve tells the time of the receiver also without a fix"),
+        "-s" => Some(
+            "leave it and its value out: gpsrelay-port DEVICE SPEED sets the speed of a line",
+        ),
         _ => None,
+    }
+}
+
+/// What to do for bytes that come in a way which the daemon does not know.
+fn in_place_of_way(place: &str) -> Option<&'static str> {
+    if place.starts_with("udp:") {
+        Some(
+            "serve reads no UDP: have socat write what comes into a FIFO, and give that as file:PATH",
+        )
+    } else if place.starts_with("ntrip:") || place.starts_with("dgpsip:") {
+        Some(
+            "serve sends no corrections to a receiver: another program has to, such as str2str of RTKLIB",
+        )
+    } else {
+        None
     }
 }
 
@@ -253,6 +277,9 @@ impl Told<'_> {
 
     fn write_no_name<W: fmt::Write>(&self, f: &mut fmt::Formatter<W>) -> fmt::Result {
         let word = self.word;
+        if let Some(what) = in_place_of_way(word) {
+            return write!(f, "{}: {}", word, what);
+        }
         write!(f, "{}: say ", self.shown())?;
         if word.is_empty() {
             return f.write_str(
@@ -273,9 +300,12 @@ impl Told<'_> {
 
     fn write_no_kind<W: fmt::Write>(&self, f: &mut fmt::Formatter<W>) -> fmt::Result {
         let (name, place) = self.halves();
+        if let Some(what) = in_place_of_way(place) {
+            return write!(f, "{}: {}", self.word, what);
+        }
         if place.starts_with('/') {
             write!(f, "{}: say {}=file:{}", self.word, name, place)
-        } else if is_address(place.as_bytes()) && !place.starts_with("udp:") {
+        } else if is_address(place.as_bytes()) {
             write!(f, "{}: say {}=tcp:{}", self.word, name, place)
         } else {
             write!(

@@ -11,3 +11,4 @@ pub mod ClockPlans
 pub mod ReadSteps
 pub mod Links
 pub mod DoorPlans
+pub mod Sent

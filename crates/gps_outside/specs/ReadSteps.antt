@@ -4,7 +4,7 @@ use Rattle.gps_outside.specs.declared.intake.IntakeStep.{IntakeStep}
 use Rattle.gps_outside.specs.declared.intake.IntakeStep.TheVariants.{Piece, Quiet, Last, End, Failed, TooQuiet}
 use Rattle.gps_outside.specs.declared.whole.ReadEnd.{ReadEnd}
 use Rattle.gps_outside.specs.declared.whole.ReadEnd.TheVariants.{AtEnd, Full, Failed as EndsFailed, TooQuiet as EndsTooQuiet}
-use Rattle.gps_outside.specs.Counts.{Rose, RoseBy, many_more, one_more}
+use Rattle.gps_outside.specs.Counts.{Rose, many_more, one_more}
 use Rattle.gps_outside.specs.Told.{Stream, Goes, Stays, Passes, IsAtEnd, MayLose}
 
 -- how many bytes may still be read, and how many quiets were counted; the thousandth quiet ends the reading

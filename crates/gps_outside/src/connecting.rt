@@ -1,4 +1,5 @@
 use crate::Listening;
+use crate::probes::probe;
 use std::io::{self, ErrorKind};
 use std::net::{Net, TcpStream, ToSocketAddrs};
 use std::time::{Clock, Duration};
@@ -28,14 +29,18 @@ fn connect_any<R: Net<Stream = TcpStream> + Clock>(
             break;
         }
         match TcpStream::connect_timeout(machine, &at, left) {
-            Ok(stream) => return Ok(stream),
+            Ok(stream) => {
+                probe(&stream);
+                return Ok(stream);
+            }
             Err(error) => last = error,
         }
     }
     Err(last)
 }
 
-/// Connects to HOST:PORT, within five seconds. An address of the host that refuses is followed by its next one.
+/// Connects to HOST:PORT, within five seconds. An address of the host that refuses is followed by its next one. If the host vanishes without a
+/// word, a read of the connection fails 50 s after the last byte.
 pub fn connect<R: Net<Stream = TcpStream> + Clock>(
     machine: &R,
     address: &str,

@@ -1,12 +1,16 @@
-ghost use Rattle.std.specs.Prelude.{◌≡◌, ◌≤◌, length, IfOk};
+ghost use Rattle.std.specs.Prelude.{◌≡◌};
+ghost use Rattle.std.specs.Io.{WritesAtMost};
+ghost use Rattle.wire.specs.Calls.{Took};
 
-use crate::patience::give_up_after;
 use crate::quiet::is_quiet;
 use crate::{ClientSink, WriteStep};
-use std::io::{self, ErrorKind, Read, Write};
+use std::alloc::Global;
+use std::fs::File;
+use std::io::{self, ErrorKind};
 use std::marker::Model;
-use std::net::{Shutdown, TcpStream};
+use std::rt::Files;
 use std::time::{Clock, Duration};
+use wire::Outward;
 
 /// How many milliseconds one call of the system waits for room. A client that reads a little at a time leaves room that only the next call
 /// sees, so this is a part of the second.
@@ -17,6 +21,10 @@ const PATIENCE: u64 = 1_000;
 
 /// How many milliseconds the writing of what is left may take, once the sink knows that it ends soon.
 const LEFT: u64 = 10_000;
+
+/// How many milliseconds of a delivery pass before the system is asked whether the client's machine has everything. It is asked again after
+/// twice as long, as its answer takes some milliseconds.
+const UNASKED: u64 = 2_000;
 
 /// How often a write is tried. More than fit into the time that it has.
 const TRIES: u32 = 10_000;
@@ -29,18 +37,19 @@ const REST: usize = 4_096;
 
 /// The link of a client as a sink, a TCP stream with no buffer between: each try of a write is one call of the system.
 ///
-/// It is seen as the number of its faults, and its contents are not modelled. A write is a fault if the client reads nothing for a second; a client that
-/// is slow but reads what it is sent keeps its link. Once the sink knows that it ends soon, all that is left has ten seconds, however the
+/// It is seen as the bytes that the system took and the number of its faults. A write is a fault if the client reads nothing for a second; a
+/// client that is slow but reads what it is sent keeps its link. Once the sink knows that it ends soon, all that is left has ten seconds, however the
 /// client reads it. A write that a signal interrupts begins again.
 ///
 /// It delivers within the same ten seconds: it says that nothing follows, reads and drops what the client still sends, and closes once the
-/// client has closed its side. A socket that is closed while bytes of the client are unread is reset, and then the system drops what it had
+/// client has closed its side. It closes after two seconds if the client's machine has acknowledged all bytes and the end, as nobody is owed
+/// anything then. A socket that is closed while bytes of the client are unread is reset, and then the system drops what it had
 /// still to send.
 #[derive(Drop)]
 pub struct LinkSink<R> {
     machine: R,
-    /// None once it is closed.
-    stream: Option<TcpStream>,
+    alloc: Global,
+    wire: Outward,
     /// Whether a write failed.
     broken: bool,
     // When the time for what is left is over, by the machine's clock.
@@ -49,11 +58,11 @@ pub struct LinkSink<R> {
 }
 
 impl<R> Model for LinkSink<R> {
-    ghost use Rattle.std.specs.Prelude.{ℕ};
+    ghost use Rattle.gps_outside.specs.Sent.{Sent};
 
-    ghost Value = { ℕ };
+    ghost Value = { Sent };
 
-    ghost view = { λ s. s.faults };
+    ghost view = { λ s. record { bytes = s.wire.bytes; faults = s.faults } };
 }
 
 fn timed_out() -> io::Error {
@@ -61,13 +70,14 @@ fn timed_out() -> io::Error {
 }
 
 impl<R> LinkSink<R> {
-    /// Writes to a TCP stream whose writes time out after [`STEP`].
-    pub(crate) fn of_stream(machine: R, stream: TcpStream) -> LinkSink<R>
-        ensures { result ≡ 0 }
+    /// Writes to a stream whose writes time out after [`STEP`].
+    pub(crate) fn new(machine: R, alloc: Global, wire: Outward) -> LinkSink<R>
+        ensures { result ≡ record { bytes = wire.bytes; faults = 0 } }
     {
         LinkSink {
             machine,
-            stream: Some(stream),
+            alloc,
+            wire,
             broken: false,
             end: None,
             faults: 0,
@@ -84,8 +94,10 @@ impl<R> LinkSink<R> {
 
 impl<R: Clock> LinkSink<R> {
     /// Writes, and tries again until some bytes were written or the time is over.
-    fn write_out(&self, mut stream: &TcpStream, piece: &[u8]) -> io::Result<usize>
-        ensures { IfOk result (λ n. n ≤ length piece.now) }
+    fn write_out(&mut self, piece: &[u8]) -> io::Result<usize>
+        ensures fits { WritesAtMost result piece.now }
+        ensures took { Took result piece.now self.old.bytes self.new.bytes }
+        ensures faults { self.new.faults ≡ self.old.faults }
     {
         let mut since = self.machine.monotonic()?;
         let mut now = since;
@@ -93,7 +105,7 @@ impl<R: Clock> LinkSink<R> {
             if self.is_late(now) {
                 return Err(timed_out());
             }
-            match stream.write(piece) {
+            match self.wire.write(piece) {
                 Err(error) if error.kind() == ErrorKind::Interrupted => {
                     now = self.machine.monotonic()?;
                     since = now;
@@ -110,68 +122,6 @@ impl<R: Clock> LinkSink<R> {
         Err(timed_out())
     }
 
-    fn write_once(&self, piece: &[u8]) -> io::Result<usize>
-        ensures { IfOk result (λ n. n ≤ length piece.now) }
-    {
-        match &self.stream {
-            Some(stream) => self.write_out(stream, piece),
-            None => Err(io::Error::from(ErrorKind::NotConnected)),
-        }
-    }
-}
-
-impl<R: Clock> LinkSink<R> {
-    /// Reads and drops what the client still sends, until it has closed its side.
-    fn drop_rest(&self, mut stream: &TcpStream) -> io::Result<()> {
-        let mut buf = [0u8; REST];
-        'reads: for _ in 0..READS {
-            match stream.read(&mut buf) {
-                Ok(0) => return Ok(()),
-                Ok(_) => {}
-                Err(error) if is_quiet(&error) => {}
-                Err(error) => return Err(error),
-            }
-            if self.is_late(self.machine.monotonic()?) {
-                break;
-            }
-        }
-        Err(timed_out())
-    }
-
-    /// From here on nobody else reads the stream: its time-out says so to the link's source. The system reports a reset once, to the first
-    /// read after it, and each later read is at the end.
-    fn take_reading(&self) {
-        if let Some(stream) = &self.stream {
-            let _ = stream.set_read_timeout(Some(Duration::from_millis(STEP)));
-        }
-    }
-
-    /// Says that nothing follows, and waits until the client has closed its side too.
-    fn part(&self, stream: &TcpStream) -> io::Result<()> {
-        stream.shutdown(Shutdown::Write)?;
-        self.drop_rest(stream)
-    }
-
-    /// Whether the client has closed its side in time, after all that was written.
-    fn has_parted(&self) -> bool {
-        match &self.stream {
-            Some(stream) if !self.broken => self.part(stream).is_ok(),
-            _ => false,
-        }
-    }
-
-    /// A read of the stream that waits ends at once. The system keeps what the client has not accepted yet until it accepts nothing for this number of
-    /// milliseconds.
-    fn close(&mut self, kept: u64)
-        ensures { self.new ≡ self.old }
-    {
-        if let Some(stream) = &self.stream {
-            give_up_after(stream, kept);
-            let _ = stream.shutdown(Shutdown::Both);
-        }
-        self.stream = None;
-    }
-
     /// From the first time on, all that is left has ten seconds.
     fn set_end(&mut self)
         ensures { self.new ≡ self.old }
@@ -185,15 +135,66 @@ impl<R: Clock> LinkSink<R> {
     }
 }
 
-impl<R: Clock + Drop> ClientSink for LinkSink<R> {
-    ghost use Rattle.std.specs.Prelude.{None};
+impl<R: Clock + Files<File = File>> LinkSink<R> {
+    /// Reads and drops what the client still sends, until it has closed its side. A time-out: it has not, though it may have everything.
+    fn drop_rest(&mut self) -> io::Result<()>
+        ensures { self.new ≡ self.old }
+    {
+        let mut buf = [0u8; REST];
+        let since = self.machine.monotonic()?;
+        let mut unasked = Duration::from_millis(UNASKED);
+        'reads: for _ in 0..READS {
+            match self.wire.skip(&mut buf) {
+                Ok(0) => return Ok(()),
+                Ok(_) => {}
+                Err(error) if is_quiet(&error) => {}
+                Err(error) => return Err(error),
+            }
+            let now = self.machine.monotonic()?;
+            if self.is_late(now) {
+                break;
+            }
+            if now.saturating_sub(since) >= unasked {
+                if self.wire.is_acknowledged(&self.machine, self.alloc) {
+                    break;
+                }
+                unasked = unasked.saturating_add(unasked);
+            }
+        }
+        Err(timed_out())
+    }
 
-    ghost faults = { λ s. s };
+    /// From here on nobody else reads the stream: its time-out says so to the link's source. The system reports a reset once, to the first
+    /// read after it, and each later read is at the end.
+    fn take_reading(&self) {
+        self.wire.set_read_timeout(Duration::from_millis(STEP));
+    }
 
-    ghost written = { λ _. None };
+    /// Says that nothing follows, and waits until the client has closed its side too.
+    fn part(&mut self) -> io::Result<()>
+        ensures { self.new ≡ self.old }
+    {
+        self.wire.end()?;
+        self.drop_rest()
+    }
+
+    /// Whether the client has closed its side in time, after all that was written.
+    fn has_parted(&mut self) -> bool
+        ensures { self.new ≡ self.old }
+    {
+        self.wire.is_stream() && !self.broken && self.part().is_ok()
+    }
+}
+
+impl<R: Clock + Files<File = File> + Drop> ClientSink for LinkSink<R> {
+    ghost use Rattle.std.specs.Prelude.{Some};
+
+    ghost faults = { λ s. s.faults };
+
+    ghost written = { λ s. Some s.bytes };
 
     fn write(&mut self, piece: &[u8]) -> WriteStep {
-        match self.write_once(piece) {
+        match self.write_out(piece) {
             Ok(n) if n > 0 => WriteStep::Wrote(n),
             _ => {
                 self.broken = true;
@@ -208,12 +209,13 @@ impl<R: Clock + Drop> ClientSink for LinkSink<R> {
         self.set_end();
     }
 
-    /// Waits until the client has closed its side, within what is left of the ten seconds, and closes. If a write had failed, it closes at once.
+    /// Waits until the client has closed its side, within what is left of the ten seconds, or two once its machine has everything, and closes. If a
+    /// write had failed, it closes at once.
     fn deliver(&mut self) -> bool {
         self.set_end();
         self.take_reading();
         let parted = self.has_parted();
-        self.close(if parted { LEFT } else { PATIENCE });
+        self.wire.close(Some(if parted { LEFT } else { PATIENCE }));
         if !parted {
             self.faults = self.faults.saturating_add(1);
         }

@@ -5,7 +5,7 @@ ghost use Rattle.gps_outside.specs.Reads.{CountsQuiet, FailsOnly, FitsBuffer, Re
 ghost use Rattle.gps_outside.specs.ReadPlans.{given, by_entry, answer_of, held_after};
 
 use crate::plan::next_entry;
-use crate::{AtEnd, ReadPlan, ReadStep, Source};
+use crate::{AtEnd, ReadPlan, ReadStep, Source, Waits};
 use std::marker::Model;
 use std::vec::IntoIter;
 
@@ -138,6 +138,15 @@ impl Source for MemorySource {
     /// After its plan, while bytes are left.
     fn is_ready(&self) -> bool {
         self.plan.len() == 0 && !self.left().is_empty()
+    }
+}
+
+impl Waits for MemorySource {
+    /// It never waits.
+    fn set_wait(&mut self, _wait: Option<u32>) {}
+
+    fn is_there(&self) -> bool {
+        true
     }
 }
 

@@ -1,6 +1,7 @@
-ghost use Rattle.std.specs.Prelude.{◌≡◌, IfOk};
+ghost use Rattle.std.specs.Prelude.{◌≡◌, [], IfOk};
 
 use crate::link_sink::STEP;
+use crate::probes::probe;
 use crate::quiet::is_quiet;
 use crate::{Closer, Door, DoorStep, LinkSink, RealSource};
 use std::alloc::Global;
@@ -11,6 +12,7 @@ use std::net::{Net, SocketAddr, TcpListener, TcpStream};
 use std::os::fd::OwnedFd;
 use std::rt::Files;
 use std::time::{self, Duration};
+use wire::Outward;
 
 /// How many milliseconds one call of a door waits for a link. Nothing is lost by waiting, as a link is accepted at once; what
 /// ended meanwhile is joined after a call.
@@ -54,21 +56,25 @@ fn is_shut(error: &io::Error) -> bool {
 }
 
 /// Both directions of a client's link. Small pieces are sent at once, and a client that reads nothing for a second is a fault, so none holds
-/// the thread that serves it.
+/// the thread that serves it. A client whose machine vanishes without a word has ended 50 s after its last byte.
 fn link_of<R: time::Clock + Copy>(
     machine: R,
     alloc: Global,
     stream: TcpStream,
 ) -> io::Result<(RealSource<R>, LinkSink<R>)>
-    ensures { IfOk result (λ link. (link.0 ≡ record { faults = 0; quiets = 0 }) × (link.1 ≡ 0)) }
+    ensures { IfOk result (λ link. (link.0 ≡ record { faults = 0; quiets = 0 }) × (link.1 ≡ record { bytes = []; faults = 0 })) }
 {
     let wait = Duration::from_millis(READ_WAIT);
     stream.set_nodelay(true)?;
+    probe(&stream);
     stream.set_read_timeout(Some(wait))?;
     stream.set_write_timeout(Some(Duration::from_millis(STEP)))?;
     let other = stream.try_clone()?;
     let source = RealSource::of_link(machine, alloc, stream, wait)?;
-    Ok((source, LinkSink::of_stream(machine, other)))
+    Ok((
+        source,
+        LinkSink::new(machine, alloc, Outward::of_stream(other)),
+    ))
 }
 
 /// A TCP listener as a door. It counts its faults and quiets, and its links are not modelled.
@@ -126,7 +132,7 @@ impl<R: time::Clock + Copy> RealDoor<R> {
     }
 
     fn next_link(&self) -> io::Result<(RealSource<R>, LinkSink<R>)>
-        ensures { IfOk result (λ link. (link.0 ≡ record { faults = 0; quiets = 0 }) × (link.1 ≡ 0)) }
+        ensures { IfOk result (λ link. (link.0 ≡ record { faults = 0; quiets = 0 }) × (link.1 ≡ record { bytes = []; faults = 0 })) }
     {
         let (stream, _) = self.listener.accept()?;
         match link_of(self.machine, self.alloc, stream) {

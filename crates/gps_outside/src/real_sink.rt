@@ -1,77 +1,49 @@
-ghost use Rattle.std.specs.Prelude.{◌≡◌, ◌≤◌, length, IfOk};
+ghost use Rattle.std.specs.Prelude.{◌≡◌};
+ghost use Rattle.std.specs.Io.{WritesAtMost};
+ghost use Rattle.wire.specs.Calls.{Took};
 
 use crate::{Sink, WriteStep};
-use std::io::{self, ErrorKind, Stdout, Write};
+use std::io::{self, ErrorKind};
 use std::marker::Model;
-use std::net::{Shutdown, TcpStream};
+use wire::Outward;
 
 /// How often a write is tried that signals interrupt.
 const TRIES: u32 = 10_000;
 
-/// Where a real sink writes.
-#[derive(Drop)]
-enum Outlet {
-    Output(Stdout),
-    Stream(TcpStream),
-    Finished,
-}
-
 /// Standard output or a TCP stream as a sink, with no buffer between: each write is one call of the system.
 ///
-/// It is seen as the number of its faults, and its contents are not modelled. A write that fails is a fault, as one that timed out or
-/// took no byte; one that a signal interrupts is tried again.
+/// It is seen as the bytes that the system took and the number of its faults. A write that fails is a fault, as one that timed out or took
+/// no byte; one that a signal interrupts is tried again.
 #[derive(Drop)]
 pub struct RealSink {
-    outlet: Outlet,
+    wire: Outward,
     faults: u64,
 }
 
 impl Model for RealSink {
-    ghost use Rattle.std.specs.Prelude.{ℕ};
+    ghost use Rattle.gps_outside.specs.Sent.{Sent};
 
-    ghost Value = { ℕ };
+    ghost Value = { Sent };
 
-    ghost view = { λ s. s.faults };
+    ghost view = { λ s. record { bytes = s.wire.bytes; faults = s.faults } };
 }
 
 impl RealSink {
-    pub fn of_output(output: Stdout) -> RealSink
-        ensures { result ≡ 0 }
+    /// Writes standard output, or a TCP stream with the time-out that it has.
+    pub fn new(wire: Outward) -> RealSink
+        ensures { result ≡ record { bytes = wire.bytes; faults = 0 } }
     {
-        RealSink {
-            outlet: Outlet::Output(output),
-            faults: 0,
-        }
-    }
-
-    /// Writes to a TCP stream, with the time-out that it has.
-    pub fn of_stream(stream: TcpStream) -> RealSink
-        ensures { result ≡ 0 }
-    {
-        RealSink {
-            outlet: Outlet::Stream(stream),
-            faults: 0,
-        }
-    }
-
-    fn write_once(&mut self, piece: &[u8]) -> io::Result<usize>
-        ensures faults { self.new ≡ self.old }
-        ensures most { IfOk result (λ n. n ≤ length piece.now) }
-    {
-        match &mut self.outlet {
-            Outlet::Output(output) => output.write(piece),
-            Outlet::Stream(stream) => stream.write(piece),
-            Outlet::Finished => Err(io::Error::from(ErrorKind::NotConnected)),
-        }
+        RealSink { wire, faults: 0 }
     }
 
     /// Writes, and once more if a signal came before a byte was written.
     fn write_out(&mut self, piece: &[u8]) -> io::Result<usize>
-        ensures faults { self.new ≡ self.old }
-        ensures most { IfOk result (λ n. n ≤ length piece.now) }
+        ensures fits { WritesAtMost result piece.now }
+        ensures took { Took result piece.now self.old.bytes self.new.bytes }
+        ensures faults { self.new.faults ≡ self.old.faults }
     {
         'tries: for _ in 0..TRIES {
-            match self.write_once(piece) {
+            match self.wire.write(piece) {
                 Err(error) if error.kind() == ErrorKind::Interrupted => {}
                 other => return other,
             }
@@ -81,11 +53,11 @@ impl RealSink {
 }
 
 impl Sink for RealSink {
-    ghost use Rattle.std.specs.Prelude.{None};
+    ghost use Rattle.std.specs.Prelude.{Some};
 
-    ghost faults = { λ s. s };
+    ghost faults = { λ s. s.faults };
 
-    ghost written = { λ _. None };
+    ghost written = { λ s. Some s.bytes };
 
     fn write(&mut self, piece: &[u8]) -> WriteStep {
         match self.write_out(piece) {
@@ -99,9 +71,6 @@ impl Sink for RealSink {
 
     /// A stream is shut down on both sides, so that a read of it that waits ends at once, and dropped.
     fn finish(&mut self) {
-        if let Outlet::Stream(stream) = &self.outlet {
-            let _ = stream.shutdown(Shutdown::Both);
-        }
-        self.outlet = Outlet::Finished;
+        self.wire.close(None);
     }
 }

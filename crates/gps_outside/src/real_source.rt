@@ -1,8 +1,7 @@
 ghost use Rattle.std.specs.Prelude.{◌≡◌, IfOk};
 
 use crate::inlet::{AHEAD, Awaited, Inlet, Link};
-use crate::kept_pipe::KeptPipe;
-use crate::{Listening, ReadStep, Source};
+use crate::{Listening, ReadStep, Source, Waits};
 use gps_fixed::{Bytes, NoMemory};
 use std::alloc::Global;
 use std::fs::File;
@@ -24,6 +23,8 @@ use std::time::{Clock, Duration};
 pub struct RealSource<R> {
     machine: R,
     inlet: Inlet,
+    /// How many milliseconds a read of a device or a host waits for bytes; none: a second.
+    wait: Option<i32>,
     faults: u64,
     quiets: u64,
 }
@@ -43,6 +44,7 @@ impl<R> RealSource<R> {
         RealSource {
             machine,
             inlet,
+            wait: None,
             faults: 0,
             quiets: 0,
         }
@@ -92,14 +94,17 @@ impl<R> RealSource<R> {
     }
 
     /// Reads the pipe of this path, and waits for no writer: until the first bytes of one the pipe is open at both ends. A writer that comes
-    /// and goes meanwhile without bytes is not seen. That the path is gone, or that of another file, is a fault.
+    /// and goes meanwhile without bytes is not seen. That the path is gone, or that of another file, is a fault. A pipe that may not be
+    /// written is opened for reading alone, by the first read, which waits for a writer.
+    ///
+    /// After the end it stays open until the source is resumed, finished or dropped, so that what the next writer writes is kept.
     pub fn of_kept_pipe(machine: R, alloc: Global, path: Bytes) -> io::Result<RealSource<R>>
     where
         R: Files<File = File> + Drop,
         ensures { IfOk result (λ s. s ≡ record { faults = 0; quiets = 0 }) }
     {
-        let pipe = KeptPipe::open(&machine, alloc, path)?;
-        Ok(RealSource::new(machine, Inlet::Kept(pipe)))
+        let inlet = Inlet::of_kept_pipe(&machine, alloc, path)?;
+        Ok(RealSource::new(machine, inlet))
     }
 
     /// Reads what a host sends at this HOST:PORT, unless the daemon itself listens there. Its first read connects.
@@ -132,6 +137,21 @@ impl<R> RealSource<R> {
         Ok(RealSource::new(machine, Inlet::Link(Link::new(alloc, stream, wait, now))))
     }
 
+    /// Whether it is a pipe that has ended and stays open, so that it may be resumed.
+    pub fn is_left_open(&self) -> bool {
+        self.inlet.is_left_open()
+    }
+
+    /// Goes on with a pipe that has ended and stays open, and gives what was written since. False: nobody has come, and the pipe may not be
+    /// written, so that it cannot wait for a writer. A fault if the path is no longer that of the pipe, and the pipe holds no bytes.
+    pub fn resume(&mut self) -> io::Result<bool>
+    where
+        R: Files<File = File>,
+        ensures { self.new ≡ self.old }
+    {
+        self.inlet.resume(&self.machine)
+    }
+
     /// What its next read waits for, before it can give bytes. None once it is open.
     pub fn awaited(&self) -> Option<Awaited> {
         self.inlet.awaited()
@@ -153,6 +173,15 @@ impl<R> RealSource<R> {
     }
 }
 
+impl<R: Files<File = File> + Net<Stream = TcpStream> + Clock> RealSource<R> {
+    /// Opens what the next read would open, which may take long. If that fails, the next read is the fault.
+    pub fn open(&mut self)
+        ensures { self.new ≡ self.old }
+    {
+        self.inlet.begin(&self.machine);
+    }
+}
+
 impl<R: Files<File = File> + Net<Stream = TcpStream> + Clock + Drop> Source for RealSource<R> {
     ghost use Rattle.std.specs.Prelude.{None};
 
@@ -165,7 +194,7 @@ impl<R: Files<File = File> + Net<Stream = TcpStream> + Clock + Drop> Source for 
     ghost keeps_at_fault = { λ _. Unit {0} };
 
     fn read(&mut self, buf: &mut [u8]) -> ReadStep {
-        match self.inlet.read(&self.machine, buf) {
+        match self.inlet.read(&self.machine, self.wait, buf) {
             Ok(0) => ReadStep::End,
             Ok(n) => ReadStep::Got(n),
             Err(_) => {
@@ -187,5 +216,23 @@ impl<R: Files<File = File> + Net<Stream = TcpStream> + Clock + Drop> Source for 
     /// Closes the file or the stream; what came ahead is dropped.
     fn finish(&mut self) {
         self.inlet = Inlet::Ended;
+    }
+}
+
+impl<R: Files<File = File> + Net<Stream = TcpStream> + Clock + Drop> Waits for RealSource<R> {
+    /// Of a terminal, another device, a pipe or a host.
+    fn set_wait(&mut self, wait: Option<u32>) {
+        self.wait = match wait {
+            Some(wait) => Some(i32::try_from(wait).unwrap_or(i32::MAX)),
+            None => None,
+        };
+    }
+
+    fn open(&mut self) {
+        self.inlet.begin(&self.machine);
+    }
+
+    fn is_there(&self) -> bool {
+        self.awaited().is_none()
     }
 }

@@ -61,14 +61,14 @@ no_more script (Some stream) most sink sink' is played =
     let full = played.ends.0 in
     omega (arith, left, both, some, full, is)
 
-none_refused : (script : List ℕ) (after : Option Stream) (most : ℕ) (sink sink' : Option (List ℕ)) → most ≡ length script
-    → HasPlayed BadLine (closing_rules default_queue) most (Some (record { taken = []; left = script })) after sink sink'
+none_refused : (number : ℕ) (script : List ℕ) (after : Option Stream) (most : ℕ) (sink sink' : Option (List ℕ)) → most ≡ length script
+    → HasPlayed (BadLine number) (closing_rules default_queue) most (Some (record { taken = []; left = script })) after sink sink'
     → (seed size : ℕ) → size ≤ 10_000 → script ≡ workload_of seed size → ⊥
-none_refused script after most sink sink' is played seed size few of =
+none_refused number script after most sink sink' is played seed size few of =
     let whole : (whole_course (closing_rules default_queue) script).refused ≡ None =
     ap (λ s. (whole_course (closing_rules default_queue) s).refused) of ∙ playable seed size few in
-    let ended : (BadLine ≡ Done) ⊎ (BadLine ≡ NoMemory) =
-    completes BadLine (closing_rules default_queue) most (silent (Some (record { taken = []; left = script })) after) (unbroken sink sink') played
+    let ended : (BadLine number ≡ Done) ⊎ (BadLine number ≡ NoMemory) =
+    completes (BadLine number) (closing_rules default_queue) most (silent (Some (record { taken = []; left = script })) after) (unbroken sink sink') played
     (none_failed (Some (record { taken = []; left = script })) after sink sink')
     (omega (arith, is), whole) (λ rose. omega (arith, rose), λ rose. omega (arith, rose), λ rose. omega (arith, rose)) in
     elim ended [
@@ -87,7 +87,7 @@ caused TooQuiet script most after sink is played cause seed size few of =
     let rose : RoseBy 1000 0 0 = quiet_long 0 0 cause.0.1 in omega (arith, rose)
 caused WriteFault script most after sink is played cause seed size few of = cause.1
 caused Full script most after sink is played cause seed size few of = no_more script after most sink.before.written sink.after.written is played
-caused BadLine script most after sink is played cause seed size few of = none_refused script after most sink.before.written sink.after.written is played seed size few of
+caused (BadLine number) script most after sink is played cause seed size few of = none_refused number script after most sink.before.written sink.after.written is played seed size few of
 caused NoMemory script most after sink is played cause seed size few of = cause.1
 
 -- out of memory before the first line

@@ -30,5 +30,5 @@ GeneratedCause ReadFault sink = ⊥
 GeneratedCause TooQuiet sink = ⊥
 GeneratedCause WriteFault sink = WriteFailed sink
 GeneratedCause Full sink = ⊥
-GeneratedCause BadLine sink = ⊥
+GeneratedCause (BadLine number) sink = ⊥
 GeneratedCause NoMemory sink = NoWriteFailed sink

@@ -10,7 +10,7 @@ use crate::Head;
 use crate::asking::ask;
 use crate::cutter::HeadCutter;
 use crate::reading::read_on;
-use gps_outside::{ReadStep, Sink, Source};
+use gps_outside::{ReadStep, Sink, Source, Waits};
 use gps_report::Name;
 use std::marker::Model;
 use upstream_laws::Stage;
@@ -160,5 +160,15 @@ impl<S: Source, K: Sink> Source for Upstream<S, K> {
             Head::Reading | Head::Done => self.read_on(buf),
             Head::Bad | Head::Unsent => ReadStep::End,
         }
+    }
+}
+
+impl<S: Waits, K: Sink> Waits for Upstream<S, K> {
+    fn set_wait(&mut self, wait: Option<u32>) {
+        self.source.set_wait(wait);
+    }
+
+    fn is_there(&self) -> bool {
+        self.source.is_there()
     }
 }

@@ -1,8 +1,10 @@
 -- Device words read one after another.
-use Rattle.std.proofs.Common.{◌≡◌, ℕ, ◌+◌, ◌<◌, List, [], ◌∷◌, ◌++◌, length, map, take, drop, slice_index_or, suc, Option, Some, None, refl, sym, ap, ◌∙◌}
+use Rattle.std.proofs.Common.{◌≡◌, ℕ, ◌+◌, ◌<◌, List, [], ◌∷◌, ◌++◌, length, map, take, drop, slice_index_or, suc, Option, Some, None, refl, sym, ap, append-nil, get_or, ◌∙◌}
 use Rattle.std.specs.Prelude.{option_and_then, option_map}
+use Rattle.std.specs.List.{flat_map}
 use Rattle.std.proofs.Math.Seq.{split_at}
-use Rattle.std.proofs.lemmas.List.{map-append, map_more}
+use Rattle.std.proofs.lemmas.List.{map-append, map_more, take_more}
+use Rattle.std.proofs.lemmas.List.Concat.{flat_map-append}
 use Rattle.gps_words.specs.Devices.{edges_for, edges_of, word_in, words_in}
 use Rattle.gps_words.specs.declared.device.DeviceWord.{DeviceWord}
 
@@ -66,3 +68,10 @@ next_is_none shows texts i d near none =
 pub none_read : (words : List DeviceWord) → words ≡ [] → words_in [] ≡ Some words
 unfolding words_in
 none_read words none = ap (λ w. Some w) (sym none)
+
+-- one more of what each makes a list of
+pub flat_next : {X A : Type 0} (f : X → List A) (xs : List X) (i : ℕ) (x : X) → i < length xs → x ≡ get_or xs i x
+    → flat_map f (take (i + 1) xs) ≡ flat_map f (take i xs) ++ f x
+flat_next f xs i x near is =
+    ap (flat_map f) (take_more xs i x near) ∙ flat_map-append f (take i xs) (get_or xs i x ∷ [])
+    ∙ ap (λ l. flat_map f (take i xs) ++ l) (append-nil (f (get_or xs i x)) ∙ ap f (sym is))

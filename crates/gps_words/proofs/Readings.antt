@@ -1,5 +1,6 @@
 -- Words that clap takes, and words that it refuses, for a command built as its definition says.
-use Rattle.std.proofs.Common.{◌≡◌, ◌&&◌, Bool, true, false, List, [], ◌∷◌, Option, None, inl, inr, cond, ap, sym, ◌∙◌, refl}
+use Rattle.std.proofs.Common.{◌≡◌, ◌&&◌, Bool, true, false, List, [], ◌∷◌, Option, Some, None, Ok, Err, inl, inr, cond, ap, sym, ◌∙◌, refl}
+use Rattle.std.specs.Option.{ok_or}
 use Rattle.clap.specs.Faults.{is_simple_and_free}
 use Rattle.clap.specs.Kinds.{HasKind, Kinds}
 use Rattle.clap.specs.Matches.{found_of}
@@ -57,3 +58,11 @@ pub read_refused : {X : Type 0} (wanted app : App) (read : List Row → Option X
 unfolding read_by
 read_refused wanted app read words built taken =
     ap (λ a. read_by a read words) (sym built) ∙ passed (are_taken app words) _ _ taken
+
+pub some_of : {X F : Type 0} (o : Option X) (fault : F) (x : X) → Ok x ≡ ok_or o fault → o ≡ Some x
+some_of None fault x e = absurd (cc)
+some_of (Some y) fault x e = cc
+
+pub none_of : {X F : Type 0} (o : Option X) (fault f : F) → Err f ≡ ok_or o fault → o ≡ None
+none_of None fault f e = refl
+none_of (Some y) fault f e = absurd (cc)

@@ -147,7 +147,7 @@ abbrev served : List Text → Option Serve
 served words = serve_asked_of (codes "serve" ∷ words)
 
 abbrev defaults : ServeNumbers
-defaults = record { queue = 4_096; history = 16_777_216; wait = 0; monitor = 0; reopen = None }
+defaults = record { queue = 4_096; history = 16_777_216; wait = 0; monitor = 0; reopen = None; cycle_gap = None; report = None }
 
 one_device : served (codes "g=file:x" ∷ []) ≡ Some (record {
   devices = record { names = codes "g" ∷ []; inputs = File (codes "x") ∷ []; edges = None ∷ [] };
@@ -184,6 +184,31 @@ stopped_and_reopened : served (codes "--stop" ∷ codes "/run/stop" ∷ codes "g
 })
 unfolding clap_on_literals serve_on_literals
 stopped_and_reopened = refl
+
+gap_and_report : served (codes "--cycle-gap" ∷ codes "100" ∷ codes "g=file:x" ∷ codes "--report=86400" ∷ []) ≡ Some (record {
+  devices = record { names = codes "g" ∷ []; inputs = File (codes "x") ∷ []; edges = None ∷ [] };
+  listen = codes "127.0.0.1:2947";
+  numbers = record defaults { cycle_gap = Some 100; report = Some 86_400 };
+  stop = None;
+})
+unfolding clap_on_literals serve_on_literals
+gap_and_report = refl
+
+no_gap : served (codes "--cycle-gap=0" ∷ codes "g=file:x" ∷ []) ≡ None
+unfolding clap_on_literals serve_on_literals
+no_gap = refl
+
+over_ten_seconds : served (codes "--cycle-gap=10001" ∷ codes "g=file:x" ∷ []) ≡ None
+unfolding clap_on_literals serve_on_literals
+over_ten_seconds = refl
+
+reported_too_often : served (codes "--report=9" ∷ codes "g=file:x" ∷ []) ≡ None
+unfolding clap_on_literals serve_on_literals
+reported_too_often = refl
+
+over_a_day : served (codes "--report=86401" ∷ codes "g=file:x" ∷ []) ≡ None
+unfolding clap_on_literals serve_on_literals
+over_a_day = refl
 
 no_path_of_stop : served (codes "--stop=" ∷ codes "g=file:x" ∷ []) ≡ None
 unfolding clap_on_literals serve_on_literals

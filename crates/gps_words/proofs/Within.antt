@@ -15,8 +15,8 @@ use Rattle.gps_words.specs.declared.device.Target.{Target}
 use Rattle.gps_words.specs.declared.device.Target.TheVariants.{Device, Edges}
 use Rattle.gps_words.specs.declared.serve.ServeNumbers.{ServeNumbers}
 use Rattle.gps_words.specs.Devices.{Lists, are_devices, devices_in, devices_of, edges_of, input_of, inputs_of, is_address, is_count, lists_of, name_of, names_of, path_in, words_in}
-use Rattle.gps_words.specs.Serve.{Serve, if_address, listen_in, devices_among, monitor_in, numbers_in, reopen_in, serve_app, serve_asked_of, serve_in, serve_of, stop_in, stop_or, wait_in}
-use Rattle.gps_words.specs.Within.{IsPath, IsSeconds, IsWithin}
+use Rattle.gps_words.specs.Serve.{Serve, cycle_gap_in, if_address, listen_in, devices_among, monitor_in, numbers_in, reopen_in, report_in, serve_app, serve_asked_of, serve_in, serve_of, stop_in, stop_or, wait_in}
+use Rattle.gps_words.specs.Within.{IsBetween, IsPath, IsWithin}
 
 pub some_is : {X : Type 0} (x y : X) → Some x ≡ Some y → x ≡ y
 some_is x y is = cc
@@ -47,43 +47,61 @@ pub record InRange (n : ServeNumbers) : Type 0 where
   pub history_high : n.history ≤ 33_554_432
   pub wait : n.wait ≤ 64
   pub monitor : n.monitor ≤ 1_000_000
-  pub reopen : IfSome n.reopen IsSeconds
+  pub reopen : IfSome n.reopen (IsBetween 1 3_600)
+  pub cycle_gap : IfSome n.cycle_gap (IsBetween 1 10_000)
+  pub report : IfSome n.report (IsBetween 10 86_400)
 
--- each of the five is read
-record AreRead (q h w m : Option ℕ) (r : Option (Option ℕ)) (n : ServeNumbers) : Type 0 where
+-- each of the seven is read
+record AreRead (q h w m : Option ℕ) (r g t : Option (Option ℕ)) (n : ServeNumbers) : Type 0 where
   pub queue : q ≡ Some n.queue
   pub history : h ≡ Some n.history
   pub wait : w ≡ Some n.wait
   pub monitor : m ≡ Some n.monitor
   pub reopen : r ≡ Some n.reopen
+  pub cycle_gap : g ≡ Some n.cycle_gap
+  pub report : t ≡ Some n.report
 
-five : (queue history wait monitor : Option ℕ) (reopen : Option (Option ℕ)) (n : ServeNumbers)
-    → option_and_then (λ q. option_and_then (λ h. option_and_then (λ w. option_and_then (λ m. option_map (λ r. record { queue = q; history = h; wait = w; monitor = m; reopen = r }) reopen) monitor) wait) history) queue ≡ Some n
-    → AreRead queue history wait monitor reopen n
-five (Some q) (Some h) (Some w) (Some m) (Some r) n is =
-    let same : record { queue = q; history = h; wait = w; monitor = m; reopen = r } ≡ n = some_is _ n is in
+-- what was read, if each value was there
+read_in_turn : {A B : Type 0} (f : A → Option B) (o : Option A) (b : B) → option_and_then f o ≡ Some b → (a : A) × ((o ≡ Some a) × (f a ≡ Some b))
+read_in_turn f None b is = absurd (cc)
+read_in_turn f (Some a) b is = (a, (refl, is))
+
+read_last : {A B : Type 0} (f : A → B) (o : Option A) (b : B) → option_map f o ≡ Some b → (a : A) × ((o ≡ Some a) × (f a ≡ b))
+read_last f None b is = absurd (cc)
+read_last f (Some a) b is = (a, (refl, some_is (f a) b is))
+
+seven : (queue history wait monitor : Option ℕ) (reopen gap report : Option (Option ℕ)) (n : ServeNumbers)
+    → option_and_then (λ q. option_and_then (λ h. option_and_then (λ w. option_and_then (λ m. option_and_then (λ r. option_and_then (λ g. option_map (λ t.
+    record { queue = q; history = h; wait = w; monitor = m; reopen = r; cycle_gap = g; report = t }) report) gap) reopen) monitor) wait) history) queue ≡ Some n
+    → AreRead queue history wait monitor reopen gap report n
+seven queue history wait monitor reopen gap report n is =
+    let q = read_in_turn _ queue n is in
+    let h = read_in_turn _ history n q.1.1 in
+    let w = read_in_turn _ wait n h.1.1 in
+    let m = read_in_turn _ monitor n w.1.1 in
+    let r = read_in_turn _ reopen n m.1.1 in
+    let g = read_in_turn _ gap n r.1.1 in
+    let t = read_last _ report n g.1.1 in
     record {
-      queue = ap (λ (x : ServeNumbers). Some x.queue) same;
-      history = ap (λ (x : ServeNumbers). Some x.history) same;
-      wait = ap (λ (x : ServeNumbers). Some x.wait) same;
-      monitor = ap (λ (x : ServeNumbers). Some x.monitor) same;
-      reopen = ap (λ (x : ServeNumbers). Some x.reopen) same;
+      queue = q.1.0 ∙ ap (λ (x : ServeNumbers). Some x.queue) t.1.1;
+      history = h.1.0 ∙ ap (λ (x : ServeNumbers). Some x.history) t.1.1;
+      wait = w.1.0 ∙ ap (λ (x : ServeNumbers). Some x.wait) t.1.1;
+      monitor = m.1.0 ∙ ap (λ (x : ServeNumbers). Some x.monitor) t.1.1;
+      reopen = r.1.0 ∙ ap (λ (x : ServeNumbers). Some x.reopen) t.1.1;
+      cycle_gap = g.1.0 ∙ ap (λ (x : ServeNumbers). Some x.cycle_gap) t.1.1;
+      report = t.1.0 ∙ ap (λ (x : ServeNumbers). Some x.report) t.1.1;
     }
-five None history wait monitor reopen n is = absurd (cc)
-five (Some q) None wait monitor reopen n is = absurd (cc)
-five (Some q) (Some h) None monitor reopen n is = absurd (cc)
-five (Some q) (Some h) (Some w) None reopen n is = absurd (cc)
-five (Some q) (Some h) (Some w) (Some m) None n is = absurd (cc)
 
 -- the number of an option that may be left out
-seconds_read : (o : Option ℕ) (r : Option ℕ) → ((n : ℕ) → o ≡ Some n → IsSeconds n) → option_map (λ n. Some n) o ≡ Some r → IfSome r IsSeconds
-seconds_read None r range is = absurd (cc)
-seconds_read (Some n) r range is = subst (λ x. IfSome x IsSeconds) (some_is (Some n) r is) (range n refl)
+between_read : (least most : ℕ) (o : Option ℕ) (r : Option ℕ) → ((n : ℕ) → o ≡ Some n → IsBetween least most n) → option_map (λ n. Some n) o ≡ Some r
+    → IfSome r (IsBetween least most)
+between_read least most None r range is = absurd (cc)
+between_read least most (Some n) r range is = subst (λ x. IfSome x (IsBetween least most)) (some_is (Some n) r is) (range n refl)
 
-seconds_range : (text : Option Text) (r : Option ℕ) → number_if 1 3_600 text ≡ Some r → IfSome r IsSeconds
-seconds_range None r is = subst (λ x. IfSome x IsSeconds) (some_is None r is) tt
-seconds_range (Some text) r is =
-    seconds_read (number_in 1 3_600 text) r (λ n at. number_range 1 1 3_600 (Some text) n (omega arith) (omega arith) at) is
+between : (least most : ℕ) (text : Option Text) (r : Option ℕ) → least ≤ most → number_if least most text ≡ Some r → IfSome r (IsBetween least most)
+between least most None r room is = subst (λ x. IfSome x (IsBetween least most)) (some_is None r is) tt
+between least most (Some text) r room is =
+    between_read least most (number_in least most text) r (λ n at. number_range least least most (Some text) n (omega arith) room at) is
 
 path_read : (b : Bool) (text : Text) (p : Option Text) → (b ≡ true → IsPath text) → option_map (λ q. Some q) (if b then Some text else None) ≡ Some p → IfSome p IsPath
 path_read true text p some is = subst (λ x. IfSome x IsPath) (some_is (Some text) p is) (some refl)
@@ -96,7 +114,7 @@ stop_path (Some text) p is = path_read (nat_lt 0 (length text)) text p (λ e. lt
 numbers_range : (rows : List Row) (n : ServeNumbers) → numbers_in rows ≡ Some n → InRange n
 unfolding numbers_in
 numbers_range rows n is =
-    let f = five (queue_in rows) (history_in rows) (wait_in rows) (monitor_in rows) (reopen_in rows) n is in
+    let f = seven (queue_in rows) (history_in rows) (wait_in rows) (monitor_in rows) (reopen_in rows) (cycle_gap_in rows) (report_in rows) n is in
     let q = number_range 4_096 1 65_536 (first_of (codes "queue") rows) n.queue (omega arith) (omega arith) f.queue in
     let h = number_range 16_777_216 1 33_554_432 (first_of (codes "history") rows) n.history (omega arith) (omega arith) f.history in
     let w = number_range 0 0 64 (first_of (codes "wait") rows) n.wait (omega arith) (omega arith) f.wait in
@@ -108,7 +126,9 @@ numbers_range rows n is =
       history_high = h.1;
       wait = w.1;
       monitor = m.1;
-      reopen = seconds_range (first_of (codes "reopen") rows) n.reopen f.reopen;
+      reopen = between 1 3_600 (first_of (codes "reopen") rows) n.reopen (omega arith) f.reopen;
+      cycle_gap = between 1 10_000 (first_of (codes "cycle-gap") rows) n.cycle_gap (omega arith) f.cycle_gap;
+      report = between 10 86_400 (first_of (codes "report") rows) n.report (omega arith) f.report;
     }
 
 -- one input for each name
@@ -167,6 +187,8 @@ rows_within rows s is =
       wait = n.wait;
       monitor = n.monitor;
       reopen = n.reopen;
+      cycle_gap = n.cycle_gap;
+      report = n.report;
       stop = stop_path (first_of (codes "stop") rows) s.stop p.1;
     }
 

@@ -1,5 +1,5 @@
--- What the words of `serve` ask for: `serve [--listen HOST:PORT] [--queue N] [--history N] [--wait N] [--monitor N] [--reopen SECONDS] [--stop PATH]
--- WORD ..`, with 1 to 16 device words among the options.
+-- What the words of `serve` ask for: `serve [--listen HOST:PORT] [--queue N] [--history N] [--wait N] [--monitor N] [--reopen SECONDS]
+-- [--cycle-gap MS] [--report SECONDS] [--stop PATH] WORD ..`, with 1 to 16 device words among the options.
 use Rattle.std.specs.Prelude.{ℕ, List, [], ◌∷◌, codes, Option, Some, None, option_and_then, option_map, unwrap_or, if◌then◌else◌}
 use Rattle.std.specs.Str.{bytes_eq}
 use Rattle.clap.specs.Simple.{App, with_rule}
@@ -30,7 +30,8 @@ shown options = record {
 abbrev pub serve_app : App
 serve_app =
     with_rule (with_options (bare_app (codes "serve"))
-    (codes "listen" ∷ codes "queue" ∷ codes "history" ∷ codes "wait" ∷ codes "monitor" ∷ codes "reopen" ∷ codes "stop" ∷ []))
+    (codes "listen" ∷ codes "queue" ∷ codes "history" ∷ codes "wait" ∷ codes "monitor" ∷ codes "reopen" ∷ codes "cycle-gap" ∷ codes "report"
+    ∷ codes "stop" ∷ []))
     (list_rule (codes "device"))
 
 -- `--wait`: how many sessions devices wait for
@@ -45,11 +46,20 @@ monitor_in rows = number_or 0 0 1_000_000 (first_of (codes "monitor") rows)
 abbrev pub reopen_in : List Row → Option (Option ℕ)
 reopen_in rows = number_if 1 3_600 (first_of (codes "reopen") rows)
 
+-- `--cycle-gap`: after how many milliseconds of silence the sentences of one moment are complete; never if it is left out
+abbrev pub cycle_gap_in : List Row → Option (Option ℕ)
+cycle_gap_in rows = number_if 1 10_000 (first_of (codes "cycle-gap") rows)
+
+-- `--report`: after how many seconds the daemon says each time what it does; never if it is left out
+abbrev pub report_in : List Row → Option (Option ℕ)
+report_in rows = number_if 10 86_400 (first_of (codes "report") rows)
+
 unfoldable pub numbers_in : List Row → Option ServeNumbers
 numbers_in rows =
-    option_and_then (λ queue. option_and_then (λ history. option_and_then (λ wait. option_and_then (λ monitor. option_map (λ reopen.
-    record { queue = queue; history = history; wait = wait; monitor = monitor; reopen = reopen })
-    (reopen_in rows)) (monitor_in rows)) (wait_in rows)) (history_in rows)) (queue_in rows)
+    option_and_then (λ queue. option_and_then (λ history. option_and_then (λ wait. option_and_then (λ monitor. option_and_then (λ reopen.
+    option_and_then (λ cycle_gap. option_map (λ report.
+    record { queue = queue; history = history; wait = wait; monitor = monitor; reopen = reopen; cycle_gap = cycle_gap; report = report })
+    (report_in rows)) (cycle_gap_in rows)) (reopen_in rows)) (monitor_in rows)) (wait_in rows)) (history_in rows)) (queue_in rows)
 
 -- `--listen`: where clients connect
 abbrev pub listen_in : List Row → Text

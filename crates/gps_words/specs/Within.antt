@@ -5,9 +5,9 @@ use Rattle.gps_words.specs.Serve.{Serve}
 use Rattle.gps_words.specs.declared.command.CommandLine.{CommandLine}
 use Rattle.gps_words.specs.declared.command.CommandLine.TheVariants.{Decode, Pseudo, Replay, Generate, Lines}
 
--- how long a place is away before it is opened again
-abbrev pub IsSeconds : ℕ → Type 0
-IsSeconds seconds = (1 ≤ seconds) × (seconds ≤ 3_600)
+-- a number from the least to the most
+abbrev pub IsBetween : ℕ → ℕ → ℕ → Type 0
+IsBetween least most n = (least ≤ n) × (n ≤ most)
 
 -- a path is not empty
 abbrev pub IsPath : List ℕ → Type 0
@@ -23,7 +23,9 @@ pub record IsWithin (s : Serve) : Type 0 where
   pub history_high : s.numbers.history ≤ most_history
   pub wait : s.numbers.wait ≤ 64
   pub monitor : s.numbers.monitor ≤ 1_000_000
-  pub reopen : IfSome s.numbers.reopen IsSeconds
+  pub reopen : IfSome s.numbers.reopen (IsBetween 1 3_600)
+  pub cycle_gap : IfSome s.numbers.cycle_gap (IsBetween 1 10_000)
+  pub report : IfSome s.numbers.report (IsBetween 10 86_400)
   pub stop : IfSome s.stop IsPath
 
 abbrev pub IsHistory : ℕ → Type 0

@@ -4,7 +4,7 @@ ghost use Rattle.gps_words.specs.Options.{are_taken};
 ghost use Rattle.clap.specs.Words.{found_of, rows_of};
 ghost use Rattle.gps_words.specs.Devices.{shown_devices};
 ghost use Rattle.gps_words.specs.Within.{IsWithin};
-ghost use Rattle.gps_words.specs.Serve.{devices_among, if_address, listen_in, monitor_in, numbers_in, reopen_in, serve_app, serve_asked_of, serve_in, serve_of, serve_of_numbers, serve_with, shown, stop_in, stop_or, wait_in};
+ghost use Rattle.gps_words.specs.Serve.{cycle_gap_in, devices_among, if_address, listen_in, monitor_in, numbers_in, reopen_in, report_in, serve_app, serve_asked_of, serve_in, serve_of, serve_of_numbers, serve_with, shown, stop_in, stop_or, wait_in};
 
 use crate::WordsFault;
 use crate::device::{Input, is_address, path};
@@ -30,6 +30,10 @@ pub struct ServeNumbers {
     pub monitor: u32,
     /// After how many seconds, 1 to 3,600, a place that has ended or failed is opened again; never if there is none.
     pub reopen: Option<u32>,
+    /// After how many milliseconds of silence, 1 to 10,000, the sentences of one moment are complete; never if there is none.
+    pub cycle_gap: Option<u32>,
+    /// Every how many seconds, 10 to 86,400, the daemon says what it does; never if there is none.
+    pub report: Option<u32>,
 }
 
 /// The options of `serve`. The devices are in three lists of one length, in the order of their numbers.
@@ -67,6 +71,20 @@ fn reopen(matches: &ArgMatches) -> Option<Option<u32>>
     number_if_given(matches.get_str("reopen"), 1, 3_600)
 }
 
+#[tactic(auto, using(crate::proofs::Given::first_of_rows))]
+fn cycle_gap(matches: &ArgMatches) -> Option<Option<u32>>
+    ensures { result ≡ cycle_gap_in (rows_of (found_of matches.now)) }
+{
+    number_if_given(matches.get_str("cycle-gap"), 1, 10_000)
+}
+
+#[tactic(auto, using(crate::proofs::Given::first_of_rows))]
+fn report(matches: &ArgMatches) -> Option<Option<u32>>
+    ensures { result ≡ report_in (rows_of (found_of matches.now)) }
+{
+    number_if_given(matches.get_str("report"), 10, 86_400)
+}
+
 #[tactic(auto, unfolding(crate::specs::Serve::numbers_in))]
 fn numbers(matches: &ArgMatches) -> Option<ServeNumbers>
     ensures { result ≡ numbers_in (rows_of (found_of matches.now)) }
@@ -76,12 +94,16 @@ fn numbers(matches: &ArgMatches) -> Option<ServeNumbers>
     let wait = wait(matches)?;
     let monitor = monitor(matches)?;
     let reopen = reopen(matches)?;
+    let cycle_gap = cycle_gap(matches)?;
+    let report = report(matches)?;
     Some(ServeNumbers {
         queue,
         history,
         wait,
         monitor,
         reopen,
+        cycle_gap,
+        report,
     })
 }
 
@@ -118,8 +140,16 @@ fn stop(alloc: Global, matches: &ArgMatches) -> Result<Option<Option<Bytes>>, No
 }
 
 /// The options that have a value.
-const OPTIONS: [&str; 7] = [
-    "listen", "queue", "history", "wait", "monitor", "reopen", "stop",
+const OPTIONS: [&str; 9] = [
+    "listen",
+    "queue",
+    "history",
+    "wait",
+    "monitor",
+    "reopen",
+    "cycle-gap",
+    "report",
+    "stop",
 ];
 
 fn command<'a>(alloc: Global) -> Result<clap::Command<'a>, AllocError>

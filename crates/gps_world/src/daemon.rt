@@ -4,7 +4,9 @@ ghost use Rattle.gps_outside.specs.Reads.{FitsBuffer};
 use crate::deadline::Deadline;
 use crate::head_source::HeadSource;
 use gps_fixed::Bytes;
-use gps_outside::{ConnectFault, Listening, ReadStep, RealSink, RealSource, Source, connect};
+use gps_outside::{
+    ConnectFault, Listening, ReadStep, RealSink, RealSource, Source, Waits, connect,
+};
 use gps_upstream::{Head, Upstream};
 use std::fs::File;
 use std::io::{self, ErrorKind};
@@ -12,6 +14,7 @@ use std::net::{Net, TcpStream};
 use std::rt::Files;
 use std::str;
 use std::time::{Clock, Duration};
+use wire::Outward;
 
 /// How many seconds after it was connected the head of a daemon must have ended.
 const HEAD_WAIT: u64 = 10;
@@ -80,7 +83,7 @@ fn connection_over<R: Files<File = File> + Net<Stream = TcpStream> + Clock + Cop
     stream.set_read_timeout(Some(Duration::from_secs(TICK)))?;
     stream.set_write_timeout(Some(Duration::from_secs(TICK)))?;
     let source = RealSource::of_stream(machine, stream.try_clone()?);
-    let sink = RealSink::of_stream(stream);
+    let sink = RealSink::new(Outward::of_stream(stream));
     let end = Deadline::after(&machine, Duration::from_secs(HEAD_WAIT))?;
     let source = HeadSource::new(machine, source, end);
     Ok(Connection {
@@ -155,13 +158,25 @@ impl<R: Files<File = File> + Net<Stream = TcpStream> + Clock + Copy> Daemon<R> {
         }
     }
 
+    /// It is in this state from now on.
+    fn turn(&mut self, state: State<R>) {
+        self.state = state;
+    }
+
     /// Connects, if that was not done yet.
     fn open(&mut self) -> Result<(), DaemonFault> {
         if let State::Waiting(address, listening) = &self.state {
             let connection = connection_to(self.machine, address, listening)?;
-            self.state = State::Open(connection);
+            self.turn(State::Open(connection));
         }
         Ok(())
+    }
+
+    /// Connects, if that was not done yet. If that fails, the next read is the fault.
+    pub(crate) fn begin(&mut self) {
+        if let Err(fault) = self.open() {
+            self.turn(State::Broken(fault));
+        }
     }
 
     fn read_open(&mut self, buf: &mut [u8]) -> Result<ReadStep, DaemonFault>
@@ -184,12 +199,12 @@ impl<R: Files<File = File> + Net<Stream = TcpStream> + Clock + Copy> Daemon<R> {
         match self.read_open(buf) {
             Ok(step) => {
                 if let ReadStep::End = step {
-                    self.state = State::Ended;
+                    self.turn(State::Ended);
                 }
                 step
             }
             Err(fault) => {
-                self.state = State::Broken(fault);
+                self.turn(State::Broken(fault));
                 ReadStep::Failed
             }
         }
@@ -199,7 +214,14 @@ impl<R: Files<File = File> + Net<Stream = TcpStream> + Clock + Copy> Daemon<R> {
 impl<R: Files<File = File> + Net<Stream = TcpStream> + Clock + Copy> Daemon<R> {
     /// Closes the connection.
     pub(crate) fn finish(&mut self) {
-        self.state = State::Ended;
+        self.turn(State::Ended);
+    }
+
+    /// The next reads wait for packets for this number of milliseconds; none: for as long as they do of themselves.
+    pub(crate) fn set_wait(&mut self, wait: Option<u32>) {
+        if let State::Open(connection) = &mut self.state {
+            connection.upstream.set_wait(wait);
+        }
     }
 
     /// Whether its next read connects.

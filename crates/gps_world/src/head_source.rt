@@ -4,7 +4,7 @@ ghost use Rattle.gps_outside.specs.Reads.{FailsOnly, FitsBuffer};
 ghost use Rattle.gps_outside.specs.declared.source.ReadStep.{ReadStep};
 
 use crate::deadline::Deadline;
-use gps_outside::{ReadStep, RealSource, Source};
+use gps_outside::{ReadStep, RealSource, Source, Waits};
 use std::fs::File;
 use std::net::{Net, TcpStream};
 use std::rt::Files;
@@ -78,5 +78,15 @@ impl<R: Files<File = File> + Net<Stream = TcpStream> + Clock + Copy> Source for 
             self.quiets = self.quiets.saturating_add(1);
         }
         step
+    }
+}
+
+impl<R: Files<File = File> + Net<Stream = TcpStream> + Clock + Copy> Waits for HeadSource<R> {
+    fn set_wait(&mut self, wait: Option<u32>) {
+        self.source.set_wait(wait);
+    }
+
+    fn is_there(&self) -> bool {
+        self.source.is_there()
     }
 }

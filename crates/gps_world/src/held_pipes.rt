@@ -3,12 +3,9 @@ use arrayvec::ArrayVec;
 use gps_fixed::Bytes;
 use std::alloc::Global;
 use std::fs::{self, File, OpenOptions};
-use std::io::{self, Write};
-use std::net::TcpStream;
-use std::os::fd::OwnedFd;
 use std::os::unix::fs::FileTypeExt;
 use std::rt::Files;
-use std::str;
+use std::{io, str};
 
 /// Named pipes that are open at both ends, so that no reader of theirs waits for a writer. Takes no memory.
 #[derive(Drop)]
@@ -17,28 +14,21 @@ pub struct HeldPipes {
     files: ArrayVec<Option<File>, 16, Global>,
 }
 
-/// A write that would wait fails from now on. A file has no call for this, but shares what it is open on with a stream.
-fn never_wait(file: &File) -> io::Result<()> {
-    TcpStream::from(OwnedFd::from(file.try_clone()?)).set_nonblocking(true)
-}
-
-/// Opens a pipe at both ends, which does not wait, and puts a line feed into it. None: there is no pipe.
+/// Opens a pipe at both ends, which does not wait: a reader that waits for a writer goes on, and its read waits a second for bytes. None: there
+/// is no pipe. Nothing is written into it, as its reader would hand it on.
 ///
-/// What was opened is looked at once more, as another file may have taken its place meanwhile. A pipe that is full needs no byte, as nobody
-/// waits for one.
+/// What was opened is looked at once more, as another file may have taken its place meanwhile.
 fn rouse<R: Files<File = File>>(machine: &R, path: &str) -> io::Result<Option<File>> {
     if !fs::metadata(machine, path)?.file_type().is_fifo() {
         return Ok(None);
     }
-    let mut file = OpenOptions::new()
+    let file = OpenOptions::new()
         .read(true)
         .write(true)
         .open(machine, path)?;
     if !file.metadata()?.file_type().is_fifo() {
         return Ok(None);
     }
-    never_wait(&file)?;
-    let _ = file.write(b"\n");
     Ok(Some(file))
 }
 
@@ -59,7 +49,7 @@ impl HeldPipes {
         }
     }
 
-    /// Puts a line feed into a pipe, and holds it.
+    /// Opens a pipe at both ends, and holds it.
     pub(crate) fn rouse<R: Files<File = File>>(&mut self, machine: &R, path: &Bytes) {
         let _ = self.files.try_push(rouse_path(machine, path));
     }
@@ -83,7 +73,7 @@ impl WaitingPipes {
         let _ = self.paths.try_push(path.copy().ok());
     }
 
-    /// Puts a line feed into each of these pipes, and holds them: no reader of theirs waits for a writer any more.
+    /// Opens each of these pipes at both ends, and holds them: no reader of theirs waits for a writer any more.
     pub fn rouse<R: Files<File = File>>(&self, alloc: Global, machine: &R) -> HeldPipes {
         let mut held = HeldPipes::none(alloc);
         for path in self.paths.iter() {

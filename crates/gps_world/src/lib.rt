@@ -10,6 +10,7 @@ mod head_source;
 mod held_pipes;
 mod loss;
 mod memory_world;
+mod open_files;
 mod opener;
 mod place;
 mod reading;

@@ -1,30 +1,32 @@
 ghost use Rattle.std.specs.Prelude.{◌<◌, length};
 ghost use Rattle.gps_outside.specs.Reads.{FitsBuffer};
 
-use crate::opener::{Found, Inlet, Opener};
+use crate::opener::{Found, Inlet, Opener, Opening};
 use crate::{DaemonFault, Loss, Place};
 use gps_outside::{Awaited, ReadStep, Source};
 use std::fs::File;
-use std::io;
 use std::net::{Net, TcpStream};
 use std::rt::Files;
 use std::time::{Clock, Duration};
+use std::{io, mem};
 
 /// No read of a place that is away sleeps longer, in seconds.
 const NAP: u64 = 1;
 
 /// How a place is opened again.
 #[derive(Drop)]
-pub(crate) struct Again<R> {
+pub(crate) struct Again<R: Files<File = File> + Net<Stream = TcpStream> + Clock + Copy> {
     opener: Opener<R>,
     machine: R,
     place: Place,
     wait: Duration,
     /// When it is opened next, by the machine's clock.
     next: Duration,
+    /// A named pipe that has ended, and stays open until then: what a writer writes meanwhile is kept.
+    left: Option<Found<R>>,
 }
 
-impl<R: Copy> Again<R> {
+impl<R: Files<File = File> + Net<Stream = TcpStream> + Clock + Copy> Again<R> {
     /// The place is opened again after this time.
     pub(crate) fn new(machine: R, opener: Opener<R>, place: Place, wait: Duration) -> Again<R> {
         Again {
@@ -33,23 +35,75 @@ impl<R: Copy> Again<R> {
             place,
             wait,
             next: Duration::ZERO,
+            left: None,
         }
+    }
+
+    /// Opens it for the first time.
+    pub(crate) fn open_first(&self) -> io::Result<Found<R>> {
+        self.opener.open(&self.place, Opening::First)
     }
 }
 
-impl<R: Clock> Again<R> {
-    /// The place is away from now on.
-    fn leave(&mut self) {
+/// Whether it is a named pipe that has ended, and stays open.
+fn is_left_open<R: Files<File = File> + Net<Stream = TcpStream> + Clock + Copy>(
+    found: &Option<Found<R>>,
+) -> bool {
+    match found {
+        Some(found) => found.inlet.is_left_open(),
+        None => false,
+    }
+}
+
+impl<R: Files<File = File> + Net<Stream = TcpStream> + Clock + Copy> Again<R> {
+    /// It is opened again later.
+    fn put_off(&mut self) {
         if let Ok(now) = self.machine.monotonic() {
             self.next = now.saturating_add(self.wait);
         }
     }
 
+    /// What stays open until the place is opened again is this from now on.
+    fn keep(&mut self, left: Option<Found<R>>) {
+        self.left = left;
+    }
+
+    /// The place is away from now on. What was there is closed, but for a named pipe that has ended.
+    fn leave(&mut self, found: Option<Found<R>>) {
+        self.put_off();
+        if is_left_open(&found) {
+            self.keep(found);
+        } else {
+            drop(found);
+            self.opener.leave();
+        }
+    }
+
     /// How long it is still away; none if it is time to open it.
-    fn left(&self) -> Option<Duration> {
+    fn left_time(&self) -> Option<Duration> {
         match self.machine.monotonic() {
             Ok(now) if now < self.next => Some(self.next.saturating_sub(now)),
             _ => None,
+        }
+    }
+
+    /// Goes on with a named pipe that stayed open. None if there is none, or its path is no longer that of this pipe; false if nobody has come.
+    fn resume(&mut self) -> Option<bool> {
+        match &mut self.left {
+            Some(found) => found.inlet.resume().ok(),
+            None => None,
+        }
+    }
+
+    /// Opens it again. None: it is a named pipe to which nobody has come.
+    fn open(&mut self) -> io::Result<Option<Found<R>>> {
+        match self.resume() {
+            Some(true) => Ok(self.left.take()),
+            Some(false) => Ok(None),
+            None => {
+                self.keep(None);
+                Ok(Some(self.opener.open(&self.place, Opening::Later)?))
+            }
         }
     }
 }
@@ -113,12 +167,20 @@ impl<R: Files<File = File> + Net<Stream = TcpStream> + Clock + Copy> Reading<R> 
         }
     }
 
+    /// It is in this state from now on.
+    fn turn(&mut self, state: State<R>) {
+        self.state = state;
+    }
+
     /// It gives nothing until it is opened again.
     fn lose(&mut self, loss: Loss) {
+        let found = match mem::replace(&mut self.state, State::Away) {
+            State::There(found) => Some(found),
+            State::Away => None,
+        };
         if let Some(again) = &mut self.again {
-            again.leave();
+            again.leave(found);
         }
-        self.state = State::Away;
         self.loss = Some(loss);
     }
 
@@ -134,6 +196,15 @@ impl<R: Files<File = File> + Net<Stream = TcpStream> + Clock + Copy> Reading<R> 
             ReadStep::End => Some(Loss::Ended),
             ReadStep::Failed if !found.is_own() => Some(found.loss(is_first)),
             _ => None,
+        }
+    }
+
+    /// Opens what the next read would open, if its place is opened only once.
+    pub(crate) fn begin(&mut self) {
+        if self.again.is_none() {
+            if let State::There(found) = &mut self.state {
+                found.inlet.begin();
+            }
         }
     }
 
@@ -161,14 +232,15 @@ impl<R: Files<File = File> + Net<Stream = TcpStream> + Clock + Copy> Reading<R> 
         let Some(again) = &mut self.again else {
             return false;
         };
-        if let Some(left) = again.left() {
+        if let Some(left) = again.left_time() {
             again.machine.sleep(left.min(Duration::from_secs(NAP)));
             return true;
         }
-        match again.opener.open(&again.place) {
-            Ok(found) => self.state = State::There(found),
+        match again.open() {
+            Ok(Some(found)) => self.turn(State::There(found)),
+            Ok(None) => again.put_off(),
             Err(error) => {
-                again.leave();
+                again.put_off();
                 self.loss = Some(Loss::Unopened(Some(error)));
             }
         }
@@ -233,6 +305,13 @@ impl<R: Files<File = File> + Net<Stream = TcpStream> + Clock + Copy> Reading<R> 
                 },
             ) => daemon.fault(),
             _ => None,
+        }
+    }
+
+    /// The next reads wait for bytes for this number of milliseconds; none: for as long as they do of themselves.
+    pub(crate) fn set_wait(&mut self, wait: Option<u32>) {
+        if let State::There(found) = &mut self.state {
+            found.inlet.set_wait(wait);
         }
     }
 

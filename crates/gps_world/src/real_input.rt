@@ -3,7 +3,7 @@ ghost use Rattle.std.specs.Prelude.{◌≡◌};
 use crate::opener::{Found, Inlet};
 use crate::reading::Reading;
 use crate::{DaemonFault, Loss};
-use gps_outside::{Awaited, ReadStep, RealSource, Source};
+use gps_outside::{Awaited, ReadStep, RealSource, Source, Waits};
 use std::fs::File;
 use std::io;
 use std::marker::Model;
@@ -51,6 +51,13 @@ impl<R: Files<File = File> + Net<Stream = TcpStream> + Clock + Copy> RealInput<R
             returns: false,
         };
         RealInput::new(Reading::of_found(found, None))
+    }
+
+    /// Opens what the next read would open, which may take long, if its place is opened only once. If that fails, the next read is the fault.
+    pub fn open(&mut self)
+        ensures { self.new ≡ self.old }
+    {
+        self.reading.begin();
     }
 
     /// What its next read waits for, before it can give bytes. None once it is open, and while it is away.
@@ -107,5 +114,20 @@ impl<R: Files<File = File> + Net<Stream = TcpStream> + Clock + Copy> Source for 
     /// Closes what it reads. It is not opened again.
     fn finish(&mut self) {
         self.reading.finish();
+    }
+}
+
+impl<R: Files<File = File> + Net<Stream = TcpStream> + Clock + Copy> Waits for RealInput<R> {
+    fn set_wait(&mut self, wait: Option<u32>) {
+        self.reading.set_wait(wait);
+    }
+
+    /// A place that is opened again is opened by its read.
+    fn open(&mut self) {
+        self.reading.begin();
+    }
+
+    fn is_there(&self) -> bool {
+        !self.is_away() && self.loss().is_none() && self.awaited().is_none()
     }
 }

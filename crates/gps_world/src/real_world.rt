@@ -1,7 +1,7 @@
 ghost use Rattle.std.specs.Prelude.{◌≡◌, IfOk};
 ghost use Rattle.gps_world.specs.Asking.{asked_nothing};
 
-use crate::opener::{Opener, text_of};
+use crate::opener::{Opener, Opening, text_of};
 use crate::reading::{Again, Reading};
 use crate::{Asked, HeldPipes, Opened, Place, RealGate, RealInput, WaitingPipes, World};
 use gps_fixed::Bytes;
@@ -21,7 +21,8 @@ use std::{io, time};
 /// source.
 ///
 /// If places are opened again, one that ended, failed or is not there yet gives a source all the same, but a regular file. A
-/// host where the daemon itself listens is a fault for ever.
+/// host where the daemon itself listens is a fault for ever. While a place is away, a folder or a regular file in it is looked at again later, and
+/// so is a named pipe or terminal that is open under another name.
 #[derive(Drop)]
 pub struct RealWorld<R> {
     machine: R,
@@ -57,7 +58,7 @@ impl<R: Copy> RealWorld<R> {
         RealWorld {
             machine,
             alloc,
-            opener: Opener::new(machine, alloc, reopen.is_some()),
+            opener: Opener::new(machine, alloc),
             reopen,
             asked: Asked::nothing(alloc),
             are_pipes: [false; 16],
@@ -102,25 +103,28 @@ impl<R> RealWorld<R>
 where
     R: Files<File = File> + Net<Listener = TcpListener, Stream = TcpStream> + time::Clock + Copy,
 {
-    /// How a place is opened again, if it is.
-    fn again(&self, place: &Place) -> io::Result<Option<Again<R>>> {
-        let Some(wait) = self.reopen else {
-            return Ok(None);
-        };
-        let place = place.copy()?;
-        Ok(Some(Again::new(self.machine, self.opener.share(), place, wait)))
+    /// Opens a place that is opened again after this time.
+    fn open_again(&self, place: &Place, wait: Duration) -> io::Result<RealInput<R>>
+        ensures { IfOk result (λ input. input ≡ record { faults = 0; quiets = 0 }) }
+    {
+        let opener = self.opener.of_input(self.asked.places().len());
+        let again = Again::new(self.machine, opener, place.copy()?, wait);
+        match again.open_first() {
+            Ok(found) => Ok(RealInput::new(Reading::of_found(found, Some(again)))),
+            Err(_) if self.opener.may_come(place) => Ok(RealInput::new(Reading::of_away(again))),
+            Err(error) => Err(error),
+        }
     }
 
     fn open(&self, place: &Place) -> io::Result<RealInput<R>>
         ensures { IfOk result (λ input. input ≡ record { faults = 0; quiets = 0 }) }
     {
-        let again = self.again(place)?;
-        match (self.opener.open(place), again) {
-            (Ok(found), again) => Ok(RealInput::new(Reading::of_found(found, again))),
-            (Err(_), Some(again)) if self.opener.may_come(place) => {
-                Ok(RealInput::new(Reading::of_away(again)))
+        match self.reopen {
+            Some(wait) => self.open_again(place, wait),
+            None => {
+                let found = self.opener.open(place, Opening::Only)?;
+                Ok(RealInput::new(Reading::of_found(found, None)))
             }
-            (Err(error), _) => Err(error),
         }
     }
 }

@@ -2,49 +2,39 @@
 //! receiver or a recorded script sends on standard input. Help and the version are answered without running any of them.
 #![tactic(auto)]
 
-ghost use Rattle.std.specs.Prelude.{◌≤◌};
+ghost use Rattle.std.specs.Prelude.{◌≡◌, ◌≤◌, IfSome, map, string_bytes};
+ghost use Rattle.gps_words.specs.Serve.{serve_asked_of};
+ghost use Rattle.gps_world.specs.Asking.{asked_nothing};
+ghost use Rattle.serve_workers.specs.Writing.{AllowsClients};
 ghost use Rattle.serve_end_parts.specs.Lines.{text_of};
 ghost use Rattle.gpsrelay.specs.Closing.{WritesClosing};
+ghost use Rattle.gpsrelay.specs.Served.{devices_asked};
 
-mod first_bytes;
-mod link_count;
-mod messages;
-mod place_text;
-mod progress;
-mod reasons;
-mod run;
-mod same_place;
 mod serve;
-mod standard_streams;
-mod stopping;
-mod streams;
-mod system;
-mod telling;
-mod telling_door;
-mod telling_source;
-mod terminal_check;
-mod told_device;
 
 use command_outcome::CommandOutcome;
-use gps_fixed::{Bytes, NoMemory};
+use command_run::{
+    CountedInput, CountedOutput, REFUSED, StandardStreams, answer, run_words, tell_end,
+    tell_no_memory, tell_no_text, tell_refused,
+};
+use gps_fixed::NoMemory;
 use gps_help::question_in;
 use gps_outside::{RealClock, RealSink, RealSource, Sink, write_all};
 use gps_serve::Served;
-use gps_words::{WordsFault, asked, serve_asked};
+use gps_words::{ServeOptions, WordsFault, serve_asked};
 use gps_world::World;
-use messages::Speaker;
-use reasons::{answer, say, tell_end, tell_no_memory, tell_no_text, tell_refused, tell_same_place};
-use standard_streams::StandardStreams;
+use serve::serve_main;
+use serve_messages::{
+    Beside, DaemonMachine, Machine, MessageForm, Setup, Tell, TellingWorld, Weight, share,
+    tell_bad_places, tell_report,
+};
 use std::alloc::Global;
-use std::fs::File;
 use std::io::{Eprint, ErrorKind, IsTerminal};
 use std::process::ExitCode;
-use std::rt::Files;
-use std::sync::Wait;
-use std::{env, io};
-use stopping::{Machine, start_stop};
-use streams::{CountedInput, CountedOutput};
-use telling::TellingWorld;
+use std::sync::{Arc, Wait};
+use std::thread::Threads;
+use std::{env, io, time};
+use wire::Outward;
 
 /// Why the command line could not be read: it is not UTF-8, or there was no memory for it.
 fn fault_of(error: &io::Error) -> WordsFault {
@@ -70,21 +60,17 @@ fn words_of_call(rt: &HostRuntime) -> Result<Vec<String>, WordsFault> {
     }
 }
 
-/// Does what the words ask for, over the real streams and the machine's clock, and says how it ended.
-fn run_outside(rt: HostRuntime, words: &[String]) -> Result<u8, NoMemory> {
+/// Does what the words of a command ask for, over the real streams and the machine's clock, and says how it ended.
+fn run_command(rt: HostRuntime, words: &[String]) -> Result<u8, NoMemory> {
     let is_shown = rt.stderr().is_terminal() && !rt.stdout().is_terminal();
     let input = RealSource::of_input(rt, rt.alloc(), rt.stdin())?;
     let mut source = CountedInput::new(rt.alloc(), rt, input, is_shown);
-    let mut sink = CountedOutput::new(RealSink::of_output(rt.stdout()));
+    let mut sink = CountedOutput::new(RealSink::new(Outward::of_output(rt.stdout())));
     let mut clock = RealClock::new(rt);
-    let status = run::run(rt.alloc(), words, &mut source, &mut sink, &mut clock);
+    let outcome = run_words(rt.alloc(), words, &mut source, &mut sink, &mut clock);
     source.end_progress();
-    match asked(rt.alloc(), words) {
-        Ok(command) => tell_end(&rt, &command, status, &source, &sink),
-        Err(WordsFault::Refused) => {}
-        Err(WordsFault::NoMemory) => tell_no_memory(&rt),
-    }
-    Ok(status)
+    tell_end(&rt, rt.alloc(), words, outcome, &source, &sink);
+    Ok(outcome.status())
 }
 
 /// Writes the closing lines of a run of the daemon, and gives its status: that of the run, if they are written.
@@ -112,21 +98,16 @@ fn close<W: World, K: Sink, R: Wait + Copy>(
 }
 
 /// Says why the daemon ended.
-fn tell_status<R: Eprint>(rt: &R, status: u8) {
+fn tell_status<V: Tell>(voice: &V, status: u8) {
     match status {
-        3 => say(rt, "a device could not be opened or failed; see above"),
-        4 => say(
-            rt,
+        3 => voice.tell_fault("a device could not be opened or failed; see above"),
+        4 => voice.tell_fault(
             "standard output: the closing lines could not be written: its reader has gone, it is closed, or the disk is full",
         ),
-        7 => say(
-            rt,
+        7 => voice.tell_fault(
             "out of memory, or the system started no thread: raise the limits, or give a smaller --history or --queue",
         ),
-        8 => say(
-            rt,
-            "it could not listen, or could accept no more clients; see above",
-        ),
+        8 => voice.tell_fault("it could not listen, or could accept no more clients; see above"),
         _ => {}
     }
 }
@@ -139,30 +120,124 @@ fn are_for_daemon(words: &[String]) -> bool {
     }
 }
 
-/// Whether two words of the daemon name one FIFO or terminal. If so, says it.
-fn has_same_place<R: Eprint + Files<File = File>>(rt: &R, alloc: Global, words: &[String]) -> bool {
-    match serve_asked(alloc, words) {
-        Ok(options) => tell_same_place(rt, &options),
-        Err(_) => false,
-    }
+/// Says that there is no memory, and gives the status for it.
+fn end_without_memory(rt: &HostRuntime) -> u8 {
+    tell_no_memory(rt);
+    CommandOutcome::NoMemory.status()
 }
 
-/// After how many seconds a place is opened again, and the path that stops the daemon.
-fn asked_of_service(alloc: Global, words: &[String]) -> (Option<u32>, Option<Bytes>) {
-    match serve_asked(alloc, words) {
-        Ok(options) => (options.numbers.reopen, options.stop),
-        Err(_) => (None, None),
-    }
+/// What the daemon's world is begun with. `notice` is the socket of a service manager that waits until it listens.
+fn setup_of(
+    options: &ServeOptions,
+    beside: &Beside,
+    notice: Option<String>,
+) -> Result<Setup, NoMemory> {
+    let numbers = options.numbers;
+    Ok(Setup {
+        reopen: numbers.reopen,
+        gap: numbers.cycle_gap,
+        stop: share(&beside.stop),
+        tally: Arc::try_clone(&beside.tally)?,
+        is_reported: numbers.report.is_some(),
+        notice,
+    })
 }
 
-/// Does what the words of a command ask for.
-fn run_filter(rt: HostRuntime, words: &[String]) -> u8 {
-    match run_outside(rt, words) {
-        Ok(status) => status,
-        Err(NoMemory) => {
-            tell_no_memory(&rt);
-            CommandOutcome::NoMemory.status()
+/// Writes the closing lines of a run of the daemon, says its last numbers and why it ended, and gives its status.
+fn end_daemon<W: World, K: Sink, R: Wait + Copy + time::Clock + Eprint>(
+    rt: R,
+    beside: &Beside,
+    is_reported: bool,
+    served: &Served<W, R>,
+    sink: &mut K,
+) -> u8
+    requires { K.takes sink.old }
+{
+    let status = close(beside.alloc, served, sink);
+    let voice = beside.speaker.voice(rt);
+    if is_reported {
+        tell_report(&rt, &voice, &beside.tally);
+    }
+    tell_status(&voice, status);
+    beside.speaker.end(&rt);
+    status
+}
+
+/// Serves over this world until its end, writes the closing lines, and gives the status.
+fn run_daemon<W: World, K: Sink, R: Threads + Wait + Copy + Send + Sync + time::Clock + Eprint>(
+    rt: R,
+    words: &[String],
+    world: W,
+    beside: &Beside,
+    is_reported: bool,
+    sink: &mut K,
+) -> u8
+    requires asked { W.asked world ≡ asked_nothing }
+    requires writes { IfSome (serve_asked_of (map string_bytes words.now))
+        (λ s. AllowsClients W.Out.asks W.Out.written W.Out.allows (devices_asked (W.behind world) s)) }
+    requires takes { K.takes sink.old }
+{
+    let served = serve_main(rt, beside.alloc, words, world);
+    end_daemon(rt, beside, is_reported, &served, sink)
+}
+
+/// What is to be done yet after the words were looked at.
+enum Left {
+    Nothing { status: u8 },
+    Serving(ServeOptions),
+}
+
+/// What stands before a fault on standard error.
+fn head_of_faults(rt: &HostRuntime) -> &'static str {
+    MessageForm::of_errors(rt).head(Weight::Fault)
+}
+
+/// What the words of `serve` ask for. If they are invalid, or a place of theirs is, that is said.
+fn left_of_serve(rt: &HostRuntime, words: &[String]) -> Left {
+    match serve_asked(rt.alloc(), words) {
+        Ok(options) => {
+            if tell_bad_places(rt, &options, head_of_faults(rt)) {
+                Left::Nothing { status: REFUSED }
+            } else {
+                Left::Serving(options)
+            }
         }
+        Err(WordsFault::Refused) => {
+            tell_refused(rt, rt.alloc(), words, head_of_faults(rt));
+            Left::Nothing { status: REFUSED }
+        }
+        Err(WordsFault::NoMemory) => Left::Nothing {
+            status: end_without_memory(rt),
+        },
+    }
+}
+
+/// Answers a question, or does a command. The daemon is left, since only `main` may start threads.
+fn do_words(rt: HostRuntime, words: &[String]) -> Left {
+    if let Some(question) = question_in(words) {
+        let mut sink = RealSink::new(Outward::of_output(rt.stdout()));
+        return Left::Nothing {
+            status: answer(&rt, question.answer(), &mut sink),
+        };
+    }
+    if are_for_daemon(words) {
+        return left_of_serve(&rt, words);
+    }
+    let status = match run_command(rt, words) {
+        Ok(status) => status,
+        Err(NoMemory) => end_without_memory(&rt),
+    };
+    Left::Nothing { status }
+}
+
+/// Says why the words could not be read, and gives the status for it.
+fn end_unread(rt: &HostRuntime, fault: WordsFault) -> u8 {
+    match fault {
+        WordsFault::Refused => {
+            tell_no_text(rt);
+            REFUSED
+        }
+        WordsFault::NoMemory => end_without_memory(rt),
     }
 }
 
@@ -171,51 +246,27 @@ fn main(rt: HostRuntime) -> ExitCode {
     let _taken = StandardStreams::take(&rt);
     let words = match words_of_call(&rt) {
         Ok(words) => words,
-        Err(WordsFault::Refused) => {
-            tell_no_text(&rt);
-            return ExitCode::from(run::REFUSED);
-        }
-        Err(WordsFault::NoMemory) => {
-            tell_no_memory(&rt);
-            return ExitCode::from(CommandOutcome::NoMemory.status());
-        }
+        Err(fault) => return ExitCode::from(end_unread(&rt, fault)),
     };
     let words = words.as_slice();
-    if let Some(question) = question_in(words) {
-        let mut sink = RealSink::of_output(rt.stdout());
-        return ExitCode::from(answer(&rt, question, &mut sink));
-    }
-    let status = if are_for_daemon(words) {
-        let alloc = rt.alloc();
-        if has_same_place(&rt, alloc, words) {
-            return ExitCode::from(run::REFUSED);
+    let status = match do_words(rt, words) {
+        Left::Nothing { status } => status,
+        Left::Serving(options) => {
+            let notice = env::var(&rt, "NOTIFY_SOCKET").ok();
+            let form = MessageForm::of_errors(&rt);
+            let Ok(beside) = Beside::start(rt, Machine(rt), rt.alloc(), form, &options) else {
+                return ExitCode::from(end_without_memory(&rt));
+            };
+            let Ok(setup) = setup_of(&options, &beside, notice) else {
+                return ExitCode::from(end_without_memory(&rt));
+            };
+            let is_reported = setup.is_reported;
+            let machine = DaemonMachine::new(rt, &beside.lookups);
+            let voice = beside.speaker.voice(rt);
+            let world = TellingWorld::new(rt.alloc(), rt, machine, voice, setup);
+            let mut sink = RealSink::new(Outward::of_output(rt.stdout()));
+            run_daemon(rt, words, world, &beside, is_reported, &mut sink)
         }
-        let Ok(speaker) = Speaker::start(rt, alloc) else {
-            tell_no_memory(&rt);
-            return ExitCode::from(CommandOutcome::NoMemory.status());
-        };
-        let voice = speaker.voice(rt);
-        let (reopen, path) = asked_of_service(alloc, words);
-        let Ok(stop) = start_stop(rt, Machine(rt), alloc, &speaker, path) else {
-            tell_no_memory(&rt);
-            return ExitCode::from(CommandOutcome::NoMemory.status());
-        };
-        let mut sink = RealSink::of_output(rt.stdout());
-        let served = serve::serve_main(
-            rt,
-            alloc,
-            words,
-            TellingWorld::new(alloc, rt, voice, reopen, stop),
-        );
-        let status = close(alloc, &served, &mut sink);
-        tell_status(&voice, status);
-        speaker.end(&rt);
-        status
-    } else {
-        run_filter(rt, words)
     };
-    if status == run::REFUSED {
-        tell_refused(&rt, rt.alloc(), words);
-    }
     ExitCode::from(status)
 }

@@ -14,8 +14,8 @@ ghost use Rattle.gps_serve.specs.Outcome.{OutcomeHasCause};
 ghost use Rattle.gps_serve.specs.Whole.{IsWhole};
 ghost use Rattle.gpsrelay.specs.Served.{AsksFor, AsksWhole, HaveEdges, HeldBehind, devices_asked, edge_place_of, fault_status, place_of, places_of, told_by};
 
-use crate::run::REFUSED;
 use command_outcome::CommandOutcome;
+use command_run::REFUSED;
 use gps_fixed::{Bytes, NoMemory};
 use gps_serve::{Plan, Served, serve};
 use gps_words::{Input, ServeNumbers, ServeOptions, WordsFault, serve_asked};
@@ -91,6 +91,8 @@ fn plan_of(alloc: Global, options: ServeOptions) -> Result<Plan, NoMemory>
         wait,
         monitor,
         reopen: _,
+        cycle_gap: _,
+        report: _,
     } = numbers;
     let inputs = places_of(alloc, inputs)?;
     let edges = edge_places_of(alloc, edges)?;

@@ -5,6 +5,8 @@
 #[cfg(test)]
 mod cues;
 #[cfg(test)]
+mod cycle_gaps;
+#[cfg(test)]
 mod daemon;
 #[cfg(test)]
 mod daemon_upstream;

@@ -1,5 +1,5 @@
 -- What the counts of the source and of the sink say when a play breaks off.
-use Rattle.std.proofs.Common.{◌≡◌, ℕ, Err, sym, subst}
+use Rattle.std.proofs.Common.{◌≡◌, ℕ, Err}
 use Rattle.command_outcome.specs.Calls.{SinkCall, SourceCall}
 use Rattle.command_outcome.specs.declared.outcome.CommandOutcome.{CommandOutcome}
 use Rattle.command_outcome.specs.Outcomes.{HasCause, NoReadFailed}
@@ -10,7 +10,7 @@ use Rattle.line_player.specs.Outcomes.{outcome_of}
 
 has_cause : (fault : Fault) (source : SourceCall) (sink : SinkCall)
     → NoReadFailed source → WriteCause {X = Unit {0}} (Err fault) sink.before.faults sink.after.faults → HasCause (outcome_of fault) source sink
-has_cause BadLine source sink sound wrote = (sound, wrote)
+has_cause (BadLine number) source sink sound wrote = (sound, wrote)
 has_cause Sink source sink sound wrote = (sound, wrote)
 has_cause NoMemory source sink sound wrote = (sound, wrote)
 
@@ -18,6 +18,4 @@ has_cause NoMemory source sink sound wrote = (sound, wrote)
 pub broken : (fault : Fault) (outcome : CommandOutcome) (source : SourceCall) (sink : SinkCall) (sunk : ℕ)
     → outcome ≡ outcome_of fault → NoReadFailed source → sunk ≡ sink.before.faults → WriteCause {X = Unit {0}} (Err fault) sunk sink.after.faults
     → HasCause outcome source sink
-broken fault outcome source sink sunk is sound same wrote =
-    subst (λ o. HasCause o source sink) (sym is)
-    (has_cause fault source sink sound (subst (λ n. WriteCause {X = Unit {0}} (Err fault) n sink.after.faults) same wrote))
+broken fault outcome source sink sunk is sound same wrote = rw is (has_cause fault source sink sound (rw same at wrote))

@@ -1,21 +1,19 @@
 -- If nothing outside fails, and no line is refused, a play ends by itself.
-use Rattle.std.proofs.Common.{◌≡◌, ℕ, ◌+◌, ◌≤◌, ◌<◌, ◌⊎◌, ◌||◌, inl, inr, Bool, true, false, List, [], ◌∷◌, ◌++◌, length, map, fold, cond, nat_lt, ltb-true, Option, Some, None, if◌then◌else◌, refl, sym, ◌∙◌, ap, subst, append_assoc, length-append, arith}
+use Rattle.std.proofs.Common.{◌≡◌, ℕ, ◌+◌, ◌≤◌, ◌<◌, ◌⊎◌, ◌||◌, inl, inr, Bool, true, false, List, [], ◌∷◌, ◌++◌, length, map, fold, nat_lt, ltb-true, Option, Some, None, refl, sym, ◌∙◌, ap, append_assoc, arith}
+use Rattle.std.proofs.lemmas.Bool.{lt-ltb}
 use Rattle.std.proofs.lemmas.List.{map-append}
 use Rattle.std.proofs.lemmas.List.Folds.{list_any-append}
-use Rattle.gps_outside.specs.Counts.{Rose, RoseBy}
-use Rattle.gps_outside.proofs.ReadSteps.{rose_by_many}
-use Rattle.gps_outside.specs.Told.{Stream, Goes}
-use Rattle.gps_outside.specs.ReadSteps.{PassesMore}
+use Rattle.gps_outside.specs.Told.{Stream}
 use Rattle.line_cut.specs.declared.limit.Limit.{Limit}
 use Rattle.line_cut.specs.declared.limit.Limit.TheVariants.{Text, Whole}
 use Rattle.line_cut.specs.Limits.{is_too_long, most}
-use Rattle.line_cut.specs.Lines.{has_feed, is_feed, last_lines, lines, open_line, with_first}
+use Rattle.line_cut.specs.Lines.{has_feed, is_feed, last_lines, lines, open_line}
 use Rattle.line_cut.proofs.Splits.{lines_go_on, lines_none, open_goes_on, open_plain, open_whole}
 use Rattle.line_cut.proofs.Texts.{long_stays, text_bounds}
 use Rattle.command_outcome.specs.declared.outcome.CommandOutcome.{CommandOutcome}
 use Rattle.command_outcome.specs.declared.outcome.CommandOutcome.TheVariants.{Done, ReadFault, TooQuiet, WriteFault, Full, BadLine, NoMemory}
 use Rattle.line_player.specs.Rules.{Rules, effect_within, text_in}
-use Rattle.line_player.specs.Courses.{Course, course_of, course_so_far, ended_texts, whole_course, with_line}
+use Rattle.line_player.specs.Courses.{Course, course_so_far, ended_texts, whole_course, with_line}
 use Rattle.command_outcome.specs.Calls.{SinkCall, SourceCall}
 use Rattle.command_outcome.specs.Outcomes.{HasCause, NothingFails}
 use Rattle.command_outcome.specs.Ends.{HasReadAll, HasReadSoFar, IsWithin as HoldsFew}
@@ -23,7 +21,7 @@ use Rattle.command_outcome.proofs.Statuses.{quiet_long}
 use Rattle.command_outcome.proofs.Limits.{no_more}
 use Rattle.line_player.specs.Played.{IsWithin, HasPlayed}
 use Rattle.line_player.specs.LineSteps.{ended_course}
-use Rattle.line_player.proofs.Courses.{course_on, long_is, more_than, next_line, so_far_ended, stops}
+use Rattle.line_player.proofs.Courses.{course_on, long_is, next_line, so_far_ended, stops}
 use Rattle.line_player.proofs.Dues.{last_some}
 
 -- the first line of bytes that begin with some without a line feed
@@ -38,14 +36,10 @@ first_line [] some = absurd (cc)
 first_line (c ∷ bytes) some = go (is_feed c) refl some (first_line bytes)
   where
     go : (b : Bool) → is_feed c ≡ b → (b || has_feed bytes) ≡ true → (has_feed bytes ≡ true → Begins [] bytes) → Begins [] (c ∷ bytes)
-    go true is has behind = record { more = c ∷ []; others = lines bytes; is = ap (λ b. if b then (c ∷ []) ∷ lines bytes else with_first c (lines bytes)) is }
+    go true is has behind = record { more = c ∷ []; others = lines bytes; is = rw is }
     go false is has behind =
         let found : Begins [] bytes = behind has in
-        record {
-          more = c ∷ found.more;
-          others = found.others;
-          is = ap (λ b. if b then (c ∷ []) ∷ lines bytes else with_first c (lines bytes)) is ∙ ap (with_first c) found.is;
-        }
+        record { more = c ∷ found.more; others = found.others; is = rw (is, found.is) }
 
 begins_with : (front rest : List ℕ) → has_feed front ≡ false → has_feed rest ≡ true → Begins front (front ++ rest)
 unfolding lines
@@ -56,11 +50,7 @@ begins_with (c ∷ front) rest plain some = go (is_feed c) refl plain (begins_wi
     go true is has behind = absurd (cc)
     go false is has behind =
         let found : Begins front (front ++ rest) = behind has some in
-        record {
-          more = found.more;
-          others = found.others;
-          is = ap (λ b. if b then (c ∷ []) ∷ lines (front ++ rest) else with_first c (lines (front ++ rest))) is ∙ ap (with_first c) found.is;
-        }
+        record { more = found.more; others = found.others; is = rw (is, found.is) }
 
 text_within : (limit : Limit) (line : List ℕ) → length (text_in limit line) ≤ length line
 text_within (Text n) line = (text_bounds line).0
@@ -90,7 +80,7 @@ first_long rules front rest plain long = go (has_feed rest) refl
         record {
           text = text_in rules.limit (front ++ b.more);
           others = map (text_in rules.limit) b.others ++ last_lines (open_line whole);
-          is = ap (λ l. map (text_in rules.limit) l ++ last_lines (open_line whole)) b.is;
+          is = rw b.is;
           long = long_is rules.limit (front ++ b.more) ∙ long_stays rules.limit front b.more long;
         }
     go false ends =
@@ -99,10 +89,8 @@ first_long rules front rest plain long = go (has_feed rest) refl
         record {
           text = whole;
           others = [];
-          is = ap (λ l. map (text_in rules.limit) l ++ last_lines (open_line whole)) (lines_none whole none)
-              ∙ ap last_lines (open_whole whole none)
-              ∙ last_some whole some;
-          long = more_than (most rules.limit) (length whole)
+          is = rw (lines_none whole none, open_whole whole none) (last_some whole some);
+          long = lt-ltb _ _
               (omega (arith, ltb-true (most rules.limit) (length (text_in rules.limit whole)) past, text_within rules.limit whole));
         }
 
@@ -116,19 +104,15 @@ none_before rules course texts none = go course.refused refl
 
 effect_beyond : {X : Type 0} (rules : Rules X) (state : X) (text : List ℕ) → nat_lt (most rules.limit) (length text) ≡ true → effect_within rules state text ≡ None
 unfolding effect_within
-effect_beyond rules state text long = ap (λ b. cond b None (rules.effect state text)) long
+effect_beyond rules state text long = rw long
 
 -- the whole course of more bytes goes on from the ended lines
 whole_more : {X : Type 0} (rules : Rules X) (bytes more : List ℕ)
     → whole_course rules (bytes ++ more)
     ≡ fold (with_line rules) (ended_course rules bytes) (ended_texts rules (open_line bytes ++ more) ++ last_lines (open_line (open_line bytes ++ more)))
 whole_more rules bytes more =
-    let last : List (List ℕ) = last_lines (open_line (bytes ++ more)) in
-    ap (λ l. course_of rules (map (text_in rules.limit) l ++ last)) (lines_go_on bytes more)
-    ∙ ap (λ t. course_of rules (t ++ last)) (map-append (text_in rules.limit) (lines bytes) (lines (open_line bytes ++ more)))
-    ∙ ap (course_of rules) (append_assoc (ended_texts rules bytes) (ended_texts rules (open_line bytes ++ more)) last)
-    ∙ course_on rules (ended_texts rules bytes) (ended_texts rules (open_line bytes ++ more) ++ last)
-    ∙ ap (λ o. fold (with_line rules) (ended_course rules bytes) (ended_texts rules (open_line bytes ++ more) ++ last_lines o)) (open_goes_on bytes more)
+    rw (lines_go_on bytes more, map-append (text_in rules.limit) (lines bytes) (lines (open_line bytes ++ more)), append_assoc, open_goes_on bytes more)
+    (course_on rules (ended_texts rules bytes) (ended_texts rules (open_line bytes ++ more) ++ last_lines (open_line (open_line bytes ++ more))))
 
 -- what is refused once is refused of more bytes too
 unrefused : {X : Type 0} (rules : Rules X) (bytes more : List ℕ) → (whole_course rules (bytes ++ more)).refused ≡ None → (course_so_far rules bytes).refused ≡ None
@@ -185,9 +169,9 @@ completes TooQuiet rules limit source sink played cause within sound = absurd (s
 completes WriteFault rules limit source sink played cause within sound = absurd (sound.2 cause.1)
 completes Full rules limit source sink played cause within sound =
     absurd (no_more limit played.bytes source.before.content source.after.content (few rules limit source.before.content within) played.ends.0 played.ends.1)
-completes BadLine rules limit source sink played cause within sound =
+completes (BadLine number) rules limit source sink played cause within sound =
     elim played.ends [
-      | inl early ↦ absurd (early.1.0 (reads_on rules limit played.bytes source.before.content source.after.content within early.0))
-      | inr last ↦ absurd (last.1.0 (reads_all rules limit played.bytes source.before.content source.after.content within last.0))
+      | inl early ↦ let found = early.1.0 in let none = reads_on rules limit played.bytes source.before.content source.after.content within early.0 in absurd (cc)
+      | inr last ↦ let found = last.1.0 in let none = reads_all rules limit played.bytes source.before.content source.after.content within last.0 in absurd (cc)
     ]
 completes NoMemory rules limit source sink played cause within sound = inr refl

@@ -1,5 +1,6 @@
 -- The lines of a piece, run one after the other.
 use Rattle.std.proofs.Common.{◌≡◌, ℕ, ◌+◌, ◌-◌, ◌⊎◌, inl, inr, false, List, [], ◌∷◌, ◌++◌, length, take, drop, Some, None, Ok, refl, sym, ◌∙◌, ap, subst, append_assoc, arith}
+use Rattle.std.proofs.lemmas.Bool.{le-ltb}
 use Rattle.std.proofs.lemmas.List.{append-nil, take-append-drop, take_rest, take_all, drop_all}
 use Rattle.line_cut.specs.declared.limit.Limit.{Limit}
 use Rattle.line_cut.specs.declared.limit.Limit.TheVariants.{Text, Whole}
@@ -11,9 +12,9 @@ use Rattle.line_cut.specs.Standing.{GivesLine, GivesTooLong, GivesNone, IsStep, 
 use Rattle.line_player.specs.declared.plays_lines.LineStep.{LineStep}
 use Rattle.line_player.specs.declared.plays_lines.LineStep.TheVariants.{Made, Refused}
 use Rattle.line_player.specs.Rules.{Rules, effect_within, text_in}
-use Rattle.line_player.specs.Courses.{Course, course_so_far, gone_on, with_line}
+use Rattle.line_player.specs.Courses.{Course, course_so_far, gone_on}
 use Rattle.line_player.specs.LineSteps.{IsAt, RunsLines, StepDone, ended_course}
-use Rattle.line_player.proofs.Courses.{effect_long, effect_short, ended_next, ended_same, next_line, not_more, refused_on, so_far_long}
+use Rattle.line_player.proofs.Courses.{effect_long, effect_short, ended_next, ended_same, next_line, refused_on, so_far_long}
 
 -- So far this part of the piece was used, and what its lines write follows what the buffer held.
 pub record UnderWay {X : Type 0} (rules : Rules X) (bytes piece rest : List ℕ) (cutter : LineCutterView) (count : ℕ) (stands : X → Type 0) (out out' : List ℕ) : Type 0 where
@@ -26,18 +27,12 @@ pub record UnderWay {X : Type 0} (rules : Rules X) (bytes piece rest : List ℕ)
 
 pub begun : {X : Type 0} (rules : Rules X) (bytes piece : List ℕ) (cutter : LineCutterView) (count : ℕ) (stands : X → Type 0) (out : List ℕ)
     → IsAt rules bytes cutter count stands → UnderWay rules bytes piece piece cutter count stands out out
-begun rules bytes piece cutter count stands out at = record {
-  used = [];
-  split = refl;
-  at = subst (λ b. IsAt rules b cutter count stands) (sym (append-nil bytes)) at;
-  more = [];
-  added = sym (append-nil out);
-  wrote = ap (λ b. (ended_course rules b).written) (append-nil bytes) ∙ sym (append-nil (ended_course rules bytes).written);
-}
+begun rules bytes piece cutter count stands out at =
+    record { used = []; split = refl; at = rw append-nil at; more = []; added = sym (append-nil out); wrote = simp append-nil }
 
 pub none_long : (limit : Limit) → is_too_long limit [] ≡ false
-none_long (Text n) = not_more n 0 (omega arith)
-none_long (Whole n) = not_more n 0 (omega arith)
+none_long (Text n) = le-ltb n 0 (omega arith)
+none_long (Whole n) = le-ltb n 0 (omega arith)
 
 -- the rest after the first n bytes, as a slice shows it
 rest_is : (n : ℕ) (rest : List ℕ) → rest ≡ take n rest ++ take (length rest - n) (drop n rest)
@@ -47,11 +42,7 @@ rest_is n rest = sym (rw take_rest (take-append-drop n rest))
 whole_is : {X : Type 0} (rules : Rules X) (bytes piece rest : List ℕ) (cutter : LineCutterView) (count : ℕ) (stands : X → Type 0) (out out' : List ℕ) (n : ℕ)
     → (u : UnderWay rules bytes piece rest cutter count stands out out')
     → bytes ++ piece ≡ ((bytes ++ u.used) ++ take n rest) ++ drop n rest
-whole_is rules bytes piece rest cutter count stands out out' n u =
-    ap (λ p. bytes ++ p) u.split
-    ∙ sym (append_assoc bytes u.used rest)
-    ∙ ap (λ r. (bytes ++ u.used) ++ r) (sym (take-append-drop n rest))
-    ∙ sym (append_assoc (bytes ++ u.used) (take n rest) (drop n rest))
+whole_is rules bytes piece rest cutter count stands out out' n u = rw (u.split, append_assoc, take-append-drop n rest, append_assoc)
 
 pub line_made : {X : Type 0} (rules other : Rules X) (bytes piece rest text : List ℕ) (cutter cutter' : LineCutterView) (count : ℕ) (stands stands' : X → Type 0)
     (out out' out'' : List ℕ) (line : WholeLine) (n : ℕ) (became : LineStep)
@@ -62,10 +53,9 @@ pub line_made : {X : Type 0} (rules other : Rules X) (bytes piece rest text : Li
 line_made rules other bytes piece rest text cutter cutter' count stands stands' out out' out'' line n became u steps stays same is round made_so =
     let b : List ℕ = bytes ++ u.used in
     let step : IsStep cutter cutter' b rest (next.Line line n) = steps b u.at.cut in
-    let g : GivesLine rules.limit b rest (spelling line) n = subst (λ l. GivesLine l b rest (spelling line) n) u.at.limit step.gives in
+    let g : GivesLine rules.limit b rest (spelling line) n = rw u.at.limit at step.gives in
     let c : Course _ = ended_course rules b in
-    let t : StepDone (Ok Made) rules c.state text stands' out' out'' =
-    subst (λ t. StepDone (Ok t) rules c.state text stands' out' out'') made_so (subst (λ r. StepDone (Ok became) r c.state text stands' out' out'') same (round c.state u.at.made)) in
+    let t : StepDone (Ok Made) rules c.state text stands' out' out'' = rw (made_so, same) at (round c.state u.at.made) in
     let made : ended_course rules (b ++ take n rest) ≡ gone_on c (Some t.0) =
     ended_next rules b (b ++ take n rest) (spelling line) g.lines
     ∙ next_line rules c (text_in rules.limit (spelling line)) (Some t.0) u.at.none
@@ -73,21 +63,18 @@ line_made rules other bytes piece rest text cutter cutter' count stands stands' 
     let whole : b ++ take n rest ≡ bytes ++ (u.used ++ take n rest) = append_assoc bytes u.used (take n rest) in
     record {
       used = u.used ++ take n rest;
-      split = u.split ∙ ap (λ r. u.used ++ r) (rest_is n rest) ∙ sym (append_assoc u.used (take n rest) (take (length rest - n) (drop n rest)));
+      split = u.split ∙ rw append_assoc (ap (λ r. u.used ++ r) (rest_is n rest));
       at = subst (λ x. IsAt rules x cutter' (count + 1) stands') whole (record {
         limit = stays ∙ u.at.limit;
         cut = step.stands;
         short = ap (is_too_long rules.limit) g.opens ∙ none_long rules.limit;
         none = ap (λ x. x.refused) made;
-        number = ap (λ x. x.count) made ∙ ap (λ k. k + 1) u.at.number;
+        number = rw (made, u.at.number);
         made = subst stands' (ap (λ x. x.state) (sym made)) t.2;
       });
       more = u.more ++ t.0.written;
       added = t.3 ∙ ap (λ o. o ++ t.0.written) u.added ∙ append_assoc out u.more t.0.written;
-      wrote = ap (λ x. (ended_course rules x).written) (sym whole)
-          ∙ ap (λ x. x.written) made
-          ∙ ap (λ w. w ++ t.0.written) u.wrote
-          ∙ append_assoc (ended_course rules bytes).written u.more t.0.written;
+      wrote = ap (λ x. (ended_course rules x).written) (sym whole) ∙ rw (made, u.wrote) (append_assoc _ u.more t.0.written);
     }
 
 -- if the next line is refused
@@ -117,10 +104,9 @@ pub line_refused : {X : Type 0} (rules other : Rules X) (bytes piece rest text :
 line_refused rules other bytes piece rest text cutter cutter' count stands stands' out out' out'' line n became u steps same is round refused_so =
     let b : List ℕ = bytes ++ u.used in
     let step : IsStep cutter cutter' b rest (next.Line line n) = steps b u.at.cut in
-    let g : GivesLine rules.limit b rest (spelling line) n = subst (λ l. GivesLine l b rest (spelling line) n) u.at.limit step.gives in
+    let g : GivesLine rules.limit b rest (spelling line) n = rw u.at.limit at step.gives in
     let c : Course _ = ended_course rules b in
-    let t : StepDone (Ok Refused) rules c.state text stands' out' out'' =
-    subst (λ t. StepDone (Ok t) rules c.state text stands' out' out'') refused_so (subst (λ r. StepDone (Ok became) r c.state text stands' out' out'') same (round c.state u.at.made)) in
+    let t : StepDone (Ok Refused) rules c.state text stands' out' out'' = rw (refused_so, same) at (round c.state u.at.made) in
     refused_there rules bytes piece rest cutter count stands stands' out out' out'' cutter' u
     (ap (course_so_far rules) (whole_is rules bytes piece rest cutter count stands out out' n u)
     ∙ ended_refused rules b (b ++ take n rest) (drop n rest) (spelling line) g.lines u.at.none
@@ -148,12 +134,8 @@ long_refused rules bytes rest n none g = go g.lines
     go (inl ended) = ended_refused rules bytes onward (drop n rest) line ended.0 none effect
     go (inr still) =
         let nothing : drop n rest ≡ [] = drop_all n rest (omega (arith, still.0)) in
-        ap (λ r. course_so_far rules (onward ++ r)) nothing
-        ∙ ap (course_so_far rules) (append-nil onward)
-        ∙ so_far_long rules onward (ap (is_too_long rules.limit) still.2 ∙ g.long)
-        ∙ ap (λ x. with_line rules (ended_course rules onward) (text_in rules.limit x)) still.2
-        ∙ ap (λ c. with_line rules c (text_in rules.limit line)) (ended_same rules bytes onward still.1)
-        ∙ next_line rules (ended_course rules bytes) (text_in rules.limit line) None none effect
+        rw (nothing, append-nil onward, so_far_long rules onward (rw still.2 g.long), still.2, still.1)
+        (next_line rules (ended_course rules bytes) (text_in rules.limit line) None none effect)
 
 pub too_long : {X : Type 0} (rules : Rules X) (bytes piece rest : List ℕ) (cutter cutter' : LineCutterView) (count : ℕ) (stands : X → Type 0)
     (out out' : List ℕ) (n : ℕ)
@@ -162,7 +144,7 @@ pub too_long : {X : Type 0} (rules : Rules X) (bytes piece rest : List ℕ) (cut
 too_long rules bytes piece rest cutter cutter' count stands out out' n u steps =
     let b : List ℕ = bytes ++ u.used in
     let step : IsStep cutter cutter' b rest (next.TooLong n) = steps b u.at.cut in
-    let g : GivesTooLong rules.limit b rest n = subst (λ l. GivesTooLong l b rest n) u.at.limit step.gives in
+    let g : GivesTooLong rules.limit b rest n = rw u.at.limit at step.gives in
     refused_there rules bytes piece rest cutter count stands stands out out' out' cutter' u
     (ap (course_so_far rules) (whole_is rules bytes piece rest cutter count stands out out' n u) ∙ long_refused rules b rest n u.at.none g)
     refl
@@ -170,7 +152,7 @@ too_long rules bytes piece rest cutter cutter' count stands out out' n u steps =
 -- the open line is not too long if the rest brought nothing, or too little
 still_short : (limit : Limit) (bytes rest : List ℕ) → is_too_long limit (open_line bytes) ≡ false → GivesNone limit bytes rest
     → is_too_long limit (open_line (bytes ++ rest)) ≡ false
-still_short limit bytes [] short g = ap (λ b. is_too_long limit (open_line b)) (append-nil bytes) ∙ short
+still_short limit bytes [] short g = rw append-nil short
 still_short limit bytes (c ∷ rest) short g = g.fits (omega arith)
 
 pub all_run : {X : Type 0} (rules : Rules X) (bytes piece rest : List ℕ) (cutter cutter' : LineCutterView) (count : ℕ) (stands : X → Type 0)
@@ -180,7 +162,7 @@ pub all_run : {X : Type 0} (rules : Rules X) (bytes piece rest : List ℕ) (cutt
 all_run rules bytes piece rest cutter cutter' count stands out out' u steps stays =
     let b : List ℕ = bytes ++ u.used in
     let step : IsStep cutter cutter' b rest next.Used = steps b u.at.cut in
-    let g : GivesNone rules.limit b rest = subst (λ l. GivesNone l b rest) u.at.limit step.gives in
+    let g : GivesNone rules.limit b rest = rw u.at.limit at step.gives in
     let whole : b ++ rest ≡ bytes ++ piece = append_assoc bytes u.used rest ∙ ap (λ p. bytes ++ p) (sym u.split) in
     let same : ended_course rules (b ++ rest) ≡ ended_course rules b = ended_same rules b (b ++ rest) g.lines in (
       subst (λ x. IsAt rules x cutter' count stands) whole (record {

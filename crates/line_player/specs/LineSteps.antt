@@ -1,5 +1,5 @@
 -- What a player's line does, and what the parts of a play say: how far it is, what is due, and what was written.
-use Rattle.std.specs.Prelude.{◌≡◌, ◌≢◌, ◌⊎◌, ℕ, ◌+◌, false, List, ◌++◌, Option, Some, None, Result, Ok, Err}
+use Rattle.std.specs.Prelude.{◌≡◌, ◌⊎◌, ℕ, ◌+◌, false, List, ◌++◌, Option, Some, None, Result, Ok, Err}
 use Rattle.gps_fixed.specs.declared.no_memory.NoMemory.{NoMemory}
 use Rattle.gps_outside.specs.Counts.{Rose}
 use Rattle.gps_outside.specs.Told.{Goes, Appends, AppendsPart}
@@ -10,6 +10,8 @@ use Rattle.line_player.specs.declared.plays_lines.EndStep.{EndStep}
 use Rattle.line_player.specs.declared.plays_lines.EndStep.TheVariants.{More, Last}
 use Rattle.line_player.specs.declared.plays_lines.LineStep.{LineStep}
 use Rattle.line_player.specs.declared.plays_lines.LineStep.TheVariants.{Made, Refused}
+use Rattle.line_player.specs.declared.lines.Round.{Round}
+use Rattle.line_player.specs.declared.lines.Round.TheVariants.{Run, RefusedAt}
 use Rattle.line_player.specs.declared.fault.Fault.{Fault}
 use Rattle.line_player.specs.declared.fault.Fault.TheVariants.{BadLine, Sink, NoMemory as NoMemoryFault}
 use Rattle.line_player.specs.Rules.{Effect, Rules}
@@ -63,15 +65,15 @@ RunsLast (Ok Refused) rules bytes count stands out out' =
 RunsLast (Err _) rules bytes count stands out out' = Unit {0}
 
 -- the buffer holds what is due after this, whether a line is refused or not
-abbrev pub IsDue : Result LineStep NoMemory → Option ℕ → List ℕ → List ℕ → List ℕ → Type 0
-IsDue (Ok Made) refused before due out = (refused ≡ None) × (due ≡ before ++ out)
-IsDue (Ok Refused) refused before due out = (refused ≢ None) × (due ≡ before ++ out)
+abbrev pub IsDue : Result Round NoMemory → Option ℕ → List ℕ → List ℕ → List ℕ → Type 0
+IsDue (Ok Run) refused before due out = (refused ≡ None) × (due ≡ before ++ out)
+IsDue (Ok (RefusedAt number)) refused before due out = (refused ≡ Some number) × (due ≡ before ++ out)
 IsDue (Err _) refused before due out = Unit {0}
 
 -- the same at the text's end; if no line is refused, what the end writes is still left
-abbrev pub IsDueAtEnd : Result LineStep NoMemory → Option ℕ → List ℕ → List ℕ → (List ℕ → Type 0) → List ℕ → Type 0
-IsDueAtEnd (Ok Made) refused before due ends out = (refused ≡ None) × ((left : List ℕ) × ends left × (due ≡ before ++ (out ++ left)))
-IsDueAtEnd (Ok Refused) refused before due ends out = (refused ≢ None) × (due ≡ before ++ out)
+abbrev pub IsDueAtEnd : Result Round NoMemory → Option ℕ → List ℕ → List ℕ → (List ℕ → Type 0) → List ℕ → Type 0
+IsDueAtEnd (Ok Run) refused before due ends out = (refused ≡ None) × ((left : List ℕ) × ends left × (due ≡ before ++ (out ++ left)))
+IsDueAtEnd (Ok (RefusedAt number)) refused before due ends out = (refused ≡ Some number) × (due ≡ before ++ out)
 IsDueAtEnd (Err _) refused before due ends out = Unit {0}
 
 -- what is due after this, some bytes more
@@ -83,20 +85,20 @@ pub record Written (P : List ℕ → List ℕ → List ℕ → Type 0) (before d
 -- what was due after this was written, or a prefix of it, or nothing
 abbrev pub Writes : {X : Type 0} → Result X Fault → Option ℕ → List ℕ → List ℕ → Option (List ℕ) → Option (List ℕ) → Type 0
 Writes (Ok _) refused before due sink sink' = (refused ≡ None) × Written Appends before due sink sink'
-Writes (Err BadLine) refused before due sink sink' = (refused ≢ None) × Written Appends before due sink sink'
+Writes (Err (BadLine number)) refused before due sink sink' = (refused ≡ Some number) × Written Appends before due sink sink'
 Writes (Err Sink) refused before due sink sink' = Written AppendsPart before due sink sink'
 Writes (Err NoMemoryFault) refused before due sink sink' = sink ≡ sink'
 
 -- the same at the text's end: out of memory, a part of what was due may be written
 abbrev pub WritesAtEnd : {X : Type 0} → Result X Fault → Option ℕ → List ℕ → List ℕ → Option (List ℕ) → Option (List ℕ) → Type 0
 WritesAtEnd (Ok _) refused before due sink sink' = (refused ≡ None) × Written Appends before due sink sink'
-WritesAtEnd (Err BadLine) refused before due sink sink' = (refused ≢ None) × Written Appends before due sink sink'
+WritesAtEnd (Err (BadLine number)) refused before due sink sink' = (refused ≡ Some number) × Written Appends before due sink sink'
 WritesAtEnd (Err Sink) refused before due sink sink' = Written AppendsPart before due sink sink'
 WritesAtEnd (Err NoMemoryFault) refused before due sink sink' = (sink ≡ sink') ⊎ Written AppendsPart before due sink sink'
 
 -- the writing of an end breaks off: a part of it was written, and no line is refused there
 abbrev pub EndBreaks : Fault → List ℕ → Option (List ℕ) → Option (List ℕ) → Type 0
-EndBreaks BadLine all sink sink' = ⊥
+EndBreaks (BadLine number) all sink sink' = ⊥
 EndBreaks Sink all sink sink' = Goes (AppendsPart all) sink sink'
 EndBreaks NoMemoryFault all sink sink' = Goes (AppendsPart all) sink sink'
 
@@ -115,6 +117,6 @@ WritesEnd (Err fault) all sink sink' = EndBreaks fault all sink sink'
 -- the sink's faults rose exactly if the sink failed
 abbrev pub WriteCause : {X : Type 0} → Result X Fault → ℕ → ℕ → Type 0
 WriteCause (Ok _) before after = after ≡ before
-WriteCause (Err BadLine) before after = after ≡ before
+WriteCause (Err (BadLine number)) before after = after ≡ before
 WriteCause (Err Sink) before after = Rose before after
 WriteCause (Err NoMemoryFault) before after = after ≡ before

@@ -5,6 +5,6 @@ use Rattle.line_player.specs.declared.fault.Fault.{Fault}
 use Rattle.line_player.specs.declared.fault.Fault.TheVariants as fault
 
 abbrev pub outcome_of : Fault → CommandOutcome
-outcome_of fault.BadLine = BadLine
+outcome_of (fault.BadLine number) = BadLine number
 outcome_of fault.Sink = WriteFault
 outcome_of fault.NoMemory = NoMemory

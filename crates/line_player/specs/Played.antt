@@ -1,5 +1,5 @@
 -- What a play promises of the bytes that it reads and of those that it writes.
-use Rattle.std.specs.Prelude.{◌≡◌, ◌≢◌, ℕ, ◌≤◌, List, length, Option, Some, None}
+use Rattle.std.specs.Prelude.{◌≡◌, ℕ, ◌≤◌, List, length, Option, Some, None}
 use Rattle.gps_outside.specs.Told.{Stream}
 use Rattle.command_outcome.specs.declared.outcome.CommandOutcome.{CommandOutcome}
 use Rattle.command_outcome.specs.declared.outcome.CommandOutcome.TheVariants.{Done, ReadFault, TooQuiet, WriteFault, Full, BadLine, NoMemory}
@@ -7,14 +7,14 @@ use Rattle.command_outcome.specs.Ends.{Ends, Wrote}
 use Rattle.line_player.specs.Rules.{Rules}
 use Rattle.line_player.specs.Courses.{course_so_far, output_of, whole_course, written_so_far}
 
--- A line was refused if a play ends by it, and none otherwise; nothing is said of a play that broke off. The number is that of the refused line.
+-- The line of this number was refused if a play ends by it, and none otherwise; nothing is said of a play that broke off.
 abbrev pub HasRefused : CommandOutcome → Option ℕ → Type 0
 HasRefused Done refused = refused ≡ None
 HasRefused ReadFault refused = refused ≡ None
 HasRefused TooQuiet refused = refused ≡ None
 HasRefused WriteFault refused = Unit {0}
 HasRefused Full refused = refused ≡ None
-HasRefused BadLine refused = refused ≢ None
+HasRefused (BadLine number) refused = refused ≡ Some number
 HasRefused NoMemory refused = Unit {0}
 
 -- what the lines so far write, as soon as they are known

@@ -6,8 +6,8 @@ use command_outcome::CommandOutcome;
 /// Why a play goes no further.
 #[derive(Clone, Copy, Debug, PartialEq, Eq)]
 pub(crate) enum Fault {
-    /// A line was refused.
-    BadLine,
+    /// The line of this number was refused.
+    BadLine { number: u64 },
     /// The sink failed.
     Sink,
     NoMemory,
@@ -19,7 +19,7 @@ impl Fault {
         ensures { result ≡ outcome_of self }
     {
         match self {
-            Fault::BadLine => CommandOutcome::BadLine,
+            Fault::BadLine { number } => CommandOutcome::BadLine { number },
             Fault::Sink => CommandOutcome::WriteFault,
             Fault::NoMemory => CommandOutcome::NoMemory,
         }

@@ -3,6 +3,7 @@ ghost use Rattle.line_cut.specs.Standing.{StandsFor, spelling};
 ghost use Rattle.line_player.specs.Rules.{text_in};
 ghost use Rattle.line_player.specs.Courses.{bad_line, course_so_far, output_of, whole_course, written_so_far};
 ghost use Rattle.line_player.specs.LineSteps.{EndPart, IsAt, IsDue, IsDueAtEnd, RunsLast, RunsLines, StepDone};
+ghost use Rattle.line_player.specs.declared.lines.Round.{Round};
 ghost use Rattle.line_player.specs.declared.plays_lines.EndStep.{EndStep};
 ghost use Rattle.line_player.specs.declared.plays_lines.LineStep.{LineStep};
 
@@ -13,6 +14,15 @@ use std::alloc::Global;
 
 /// At the end this many bytes are written before more are added.
 const ENOUGH_DUE: usize = 65_536;
+
+/// What became of the lines that were known.
+#[derive(Clone, Copy)]
+pub(crate) enum Round {
+    /// Each of them was run.
+    Run,
+    /// The line of this number was refused, and those before it were run.
+    RefusedAt { number: u64 },
+}
 
 /// The lines of a text as its pieces come: how many were run, and what is due and not yet written.
 #[derive(Drop)]
@@ -122,16 +132,17 @@ impl Lines {
     }
 
     /// Adds the refusal of the next line to what is due.
-    fn refuse(&mut self) -> Result<LineStep, NoMemory>
+    fn refuse(&mut self) -> Result<Round, NoMemory>
         requires room { self.old.count < 2 ^ 64 - 1 }
-        ensures refused { IfOk result (λ round. round ≡ LineStep.Refused) }
+        ensures refused { IfOk result (λ round. round ≡ Round.RefusedAt (self.old.count + 1)) }
         ensures due { OnOk result (self.new.due ≡ self.old.due ++ bad_line (self.old.count + 1)) }
         ensures cutter { self.new.cutter ≡ self.old.cutter }
         ensures count { self.new.count ≡ self.old.count }
         ensures limit { self.new.limit ≡ self.old.limit }
     {
-        push_bad_line(&mut self.due, self.count + 1)?;
-        Ok(LineStep::Refused)
+        let number = self.count + 1;
+        push_bad_line(&mut self.due, number)?;
+        Ok(Round::RefusedAt { number })
     }
 
     /// Adds what the lines of a piece write to what is due.
@@ -139,7 +150,7 @@ impl Lines {
         &mut self,
         player: &mut P,
         piece: &[u8],
-    ) -> Result<LineStep, NoMemory>
+    ) -> Result<Round, NoMemory>
         // The count has room, and the player has run the lines that were read before.
         requires room { self.old.count + length piece.now < 2 ^ 64 - 1 }
         requires limit { self.old.limit ≡ (P.rules player.old).limit }
@@ -150,7 +161,7 @@ impl Lines {
             → IsDue result (course_so_far (P.rules player.old) (bytes ++ piece.now)).refused
             (written_so_far (P.rules player.old) bytes) (written_so_far (P.rules player.old) (bytes ++ piece.now)) self.new.due }
         ensures at { (bytes : List ℕ) → IsAt (P.rules player.old) bytes self.old.cutter self.old.count (P.stands player.old)
-            → result ≡ Ok LineStep.Made → IsAt (P.rules player.old) (bytes ++ piece.now) self.new.cutter self.new.count (P.stands player.new) }
+            → result ≡ Ok Round.Run → IsAt (P.rules player.old) (bytes ++ piece.now) self.new.cutter self.new.count (P.stands player.new) }
 
         // The count rises by at most the length of the piece. The limit and the rules stay.
         ensures number { self.new.count ≤ self.old.count + length piece.now }
@@ -159,7 +170,7 @@ impl Lines {
     {
         self.due.clear();
         match self.run(player, piece)? {
-            LineStep::Made => Ok(LineStep::Made),
+            LineStep::Made => Ok(Round::Run),
             LineStep::Refused => self.refuse(),
         }
     }
@@ -180,7 +191,7 @@ impl Lines {
     }
 
     /// Adds what the last line writes to what is due, and ends the lines.
-    pub(crate) fn finish<P: PlaysLines>(&mut self, player: &mut P) -> Result<LineStep, NoMemory>
+    pub(crate) fn finish<P: PlaysLines>(&mut self, player: &mut P) -> Result<Round, NoMemory>
         requires room { self.old.count < 2 ^ 64 - 1 }
         requires known { (bytes : List ℕ) × IsAt (P.rules player.old) bytes self.old.cutter self.old.count (P.stands player.old) }
         ensures due { (bytes : List ℕ) → IsAt (P.rules player.old) bytes self.old.cutter self.old.count (P.stands player.old)
@@ -191,7 +202,7 @@ impl Lines {
         match self.run_last(player)? {
             LineStep::Made => {
                 player.end()?;
-                Ok(LineStep::Made)
+                Ok(Round::Run)
             }
             LineStep::Refused => self.refuse(),
         }

@@ -4,13 +4,13 @@ ghost use Rattle.command_outcome.specs.Calls.{sink_call, source_call};
 ghost use Rattle.command_outcome.specs.Outcomes.{HasCause, NothingFails};
 ghost use Rattle.line_player.specs.Played.{IsWithin, HasPlayed};
 ghost use Rattle.line_player.specs.LineSteps.{IsAt, IsDue, WriteCause, Writes, WritesAtEnd, WritesEnd, WritesPart};
+ghost use Rattle.line_player.specs.declared.lines.Round.{Round};
 ghost use Rattle.line_player.specs.declared.plays_lines.EndStep.{EndStep};
-ghost use Rattle.line_player.specs.declared.plays_lines.LineStep.{LineStep};
 ghost use Rattle.command_outcome.specs.declared.outcome.CommandOutcome.{CommandOutcome};
 
 use crate::fault::Fault;
-use crate::lines::Lines;
-use crate::plays_lines::{EndStep, LineStep, PlaysLines};
+use crate::lines::{Lines, Round};
+use crate::plays_lines::{EndStep, PlaysLines};
 use command_outcome::CommandOutcome;
 use gps_fixed::NoMemory;
 use gps_outside::{Intake, IntakeStep, Sink, Source, write_all};
@@ -19,31 +19,27 @@ use std::alloc::Global;
 
 /// Writes what is due, unless there was no memory for it.
 #[tactic(auto, using(crate::proofs::Writing::made, crate::proofs::Writing::refused, crate::proofs::Writing::broken))]
-fn write_due<K: Sink>(
-    round: Result<LineStep, NoMemory>,
-    due: &[u8],
-    sink: &mut K,
-) -> Result<(), Fault>
+fn write_due<K: Sink>(round: Result<Round, NoMemory>, due: &[u8], sink: &mut K) -> Result<(), Fault>
     requires takes { K.takes sink.old }
     ensures takes { K.takes sink.new }
     ensures wrote { (refused : Option ℕ) (before all : List ℕ) → IsDue round refused before all due.now
         → Writes result refused before all (K.written sink.old) (K.written sink.new) }
-    ensures made { IfOk result (λ _. round ≡ Ok LineStep.Made) }
+    ensures made { IfOk result (λ _. round ≡ Ok Round.Run) }
     ensures cause { WriteCause result (K.faults sink.old) (K.faults sink.new) }
     ensures faults_stay { K.faults sink.old ≤ K.faults sink.new }
 {
     match round {
         Err(NoMemory) => Err(Fault::NoMemory),
-        Ok(LineStep::Made) => {
+        Ok(Round::Run) => {
             if write_all(sink, due) {
                 Ok(())
             } else {
                 Err(Fault::Sink)
             }
         }
-        Ok(LineStep::Refused) => {
+        Ok(Round::RefusedAt { number }) => {
             if write_all(sink, due) {
-                Err(Fault::BadLine)
+                Err(Fault::BadLine { number })
             } else {
                 Err(Fault::Sink)
             }
@@ -165,10 +161,10 @@ fn close<P: PlaysLines, K: Sink>(
     ensures faults_stay { K.faults sink.old ≤ K.faults sink.new }
 {
     match lines.finish(player) {
-        Ok(LineStep::Made) => write_end(lines, player, sink),
-        Ok(LineStep::Refused) => {
+        Ok(Round::Run) => write_end(lines, player, sink),
+        Ok(Round::RefusedAt { number }) => {
             if write_all(sink, lines.due()) {
-                Err(Fault::BadLine)
+                Err(Fault::BadLine { number })
             } else {
                 Err(Fault::Sink)
             }

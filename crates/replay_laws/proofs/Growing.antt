@@ -45,10 +45,12 @@ pub record Gained (lines : Selection) (end : ℕ) (stretches : List Stretch) (h 
   pub gained : List (List ℕ)
   pub is : items_to lines end stretches (h ++ more) ≡ items_to lines (length h) stretches h ++ gained
 
-grown : (lines : Selection) (end : ℕ) (stretches : List Stretch) (h more : List Report) → AreInOrder (length h) stretches → length h ≤ end → end ≤ length (h ++ more)
-    → Gained lines end stretches h more
-grown lines end [] h more order from to = record { gained = []; is = refl }
-grown lines end (stretch ∷ rest) h more order from to =
+-- the items of a run that is not closed before this end: those that it had, and what its last policy selects of the reports up to the end
+pub items_up_to : (lines : Selection) (end : ℕ) (stretch : Stretch) (rest : List Stretch) (h more : List Report) → AreInOrder (length h) (stretch ∷ rest) → length h ≤ end
+    → end ≤ length (h ++ more)
+    → items_to lines end (stretch ∷ rest) (h ++ more)
+    ≡ items_to lines (length h) (stretch ∷ rest) h ++ selected lines (last_watched stretch.policy rest) (take (end - length h) more)
+items_up_to lines end stretch rest h more order from to =
     let n : ℕ = end - length h in
     let front : List Report = take n more in
     let back : List Report = drop n more in
@@ -60,13 +62,18 @@ grown lines end (stretch ∷ rest) h more order from to =
     let whole : h ++ more ≡ (h ++ front) ++ back = ap (λ (l : List Report). h ++ l) (sym (take-append-drop n more)) ∙ sym (append_assoc h front back) in
     let later : AreInOrder end (stretch ∷ rest) = order_longer (length h) end (stretch ∷ rest) from order in
     let inside : end ≤ length (h ++ front) = omega (arith, size) in
+    ap (λ (l : List Report). items_to lines end (stretch ∷ rest) l) whole
+    ∙ items_stay lines end (stretch ∷ rest) (h ++ front) back inside later
+    ∙ ap (λ (k : ℕ). items_to lines k (stretch ∷ rest) (h ++ front)) (sym size)
+    ∙ items_grow lines stretch rest h front order
+
+grown : (lines : Selection) (end : ℕ) (stretches : List Stretch) (h more : List Report) → AreInOrder (length h) stretches → length h ≤ end → end ≤ length (h ++ more)
+    → Gained lines end stretches h more
+grown lines end [] h more order from to = record { gained = []; is = refl }
+grown lines end (stretch ∷ rest) h more order from to =
     record {
-      gained = selected lines (last_watched stretch.policy rest) front;
-      is =
-          ap (λ (l : List Report). items_to lines end (stretch ∷ rest) l) whole
-          ∙ items_stay lines end (stretch ∷ rest) (h ++ front) back inside later
-          ∙ ap (λ (k : ℕ). items_to lines k (stretch ∷ rest) (h ++ front)) (sym size)
-          ∙ items_grow lines stretch rest h front order;
+      gained = selected lines (last_watched stretch.policy rest) (take (end - length h) more);
+      is = items_up_to lines end stretch rest h more order from to;
     }
 
 -- where a closing is

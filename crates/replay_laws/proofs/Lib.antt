@@ -13,3 +13,11 @@ pub mod Endings
 pub mod Printed
 pub mod Others
 pub mod Escapes
+pub mod Steps
+pub mod Hearing
+pub mod Filling
+pub mod Answering
+pub mod Answered
+pub mod AnsweredLaws
+pub mod Ended
+pub mod Units

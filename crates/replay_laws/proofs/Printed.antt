@@ -8,10 +8,10 @@ use Rattle.std.proofs.lemmas.List.Folds.{concat-append}
 use Rattle.session_core.specs.declared.mark.Close.{Close}
 use Rattle.session_core.specs.declared.mark.Close.TheVariants.{DaemonEnd}
 use Rattle.line_cut.specs.Limits.{most}
-use Rattle.line_cut.specs.Lines.{AreLines, line_cut, lines}
+use Rattle.line_cut.specs.Lines.{AreLines, line_cut, lines, open_line}
 use Rattle.line_cut.proofs.Splits.{only_lines}
 use Rattle.line_player.specs.Rules.{Effect, Rules, effect_within}
-use Rattle.line_player.specs.Courses.{Course, bad_line, due_at_end, gone_on, new_course, whole_course, with_line}
+use Rattle.line_player.specs.Courses.{Course, bad_line, course_of, course_so_far, due_at_end, due_so_far, ended_texts, gone_on, long_texts, new_course, whole_course, with_line}
 use Rattle.line_player.proofs.Courses.{next_line, stops}
 use Rattle.book_log.specs.Entries.{Entry, ended, stops_in}
 use Rattle.book_log.specs.History.{history_after}
@@ -25,7 +25,7 @@ use Rattle.replay_player.specs.Effects.{EventEffect, effect}
 use Rattle.replay_player.specs.Ends.{all_ended, counted, ended_at, shut, written_at_end}
 use Rattle.replay_player.specs.States.{State, came, new_state}
 use Rattle.gps_replay.specs.Run.{effect_of, of_line, rules_of, run}
-use Rattle.replay_laws.specs.Outputs.{IsDrained, RefusesALine, RefusesNoLine, all_lines, end_state, is_of, last_state, lines_taken, monitor_lines, session_lines}
+use Rattle.replay_laws.specs.Outputs.{IsDrained, RefusesALine, RefusesNoLine, all_lines, end_state, is_of, last_state, lines_taken, monitor_lines, output_so_far, session_lines, state_so_far}
 use Rattle.replay_laws.specs.Readings.{EndedReading, is_by, line_of, readings_at, readings_at_line, readings_from, readings_of}
 use Rattle.replay_laws.proofs.Growing.{HasClosing, closed_has}
 use Rattle.replay_laws.proofs.Rows.{bad_is_line, bad_of_no_monitor, bad_of_no_session}
@@ -133,8 +133,11 @@ new_wrote =
       others = refl;
     }
 
+pub lines_reach : (queue : ℕ) (texts : List (List ℕ)) → Reaches (readings_of queue texts) [] (course_of (rules_of queue) texts)
+lines_reach queue texts = reaches queue texts (new_course (rules_of queue)) [] refl refl new_wrote
+
 pub reached : (queue : ℕ) (script : List ℕ) → Reaches (readings_of queue (line_cut script)) [] (whole_course (rules_of queue) script)
-reached queue script = reaches queue (line_cut script) (new_course (rules_of queue)) [] refl refl new_wrote
+reached queue script = lines_reach queue (line_cut script)
 
 -- ---- the whole output
 
@@ -251,6 +254,36 @@ refused_sessions queue script s c some there = by_refused (whole_course (rules_o
         let o : Output queue script (Some number) = output queue script (Some number) is in
         let told : Told (last_state queue script).names (last_state queue script).log o.rows s c = o.wrote.sessions.told s c there in
         ap (λ (l : List (List ℕ)). session_rows s l) o.lines ∙ joined_rows (is_of (codes "s") s) o.rows (bad_line number ∷ []) (bad_of_none s number) ∙ told.written
+
+-- what is written before the end is read
+pub sessions_so_far : (queue : ℕ) (bytes : List ℕ) (s : ℕ) (c : Client) → slice_get (state_so_far queue bytes).clients s ≡ Some c
+    → session_lines s (output_so_far queue bytes) ≡ lines_taken s (state_so_far queue bytes) c
+sessions_so_far queue bytes s c there = by_refused (course_so_far (rules_of queue) bytes).refused
+  where
+    texts : List (List ℕ)
+    texts = ended_texts (rules_of queue) bytes ++ long_texts (rules_of queue) (open_line bytes)
+
+    course : Course State
+    course = course_so_far (rules_of queue) bytes
+
+    r : Reaches (readings_of queue texts) [] course
+    r = lines_reach queue texts
+
+    mine : session_rows s r.all ≡ lines_taken s course.state c
+    mine = (r.wrote.sessions.told s c there).written
+
+    by_refused : (o : Option ℕ) → session_lines s (due_so_far course o) ≡ lines_taken s course.state c
+    by_refused None = ap (λ (l : List ℕ). session_lines s l) r.written ∙ ap (λ (l : List (List ℕ)). session_rows s l) (lines_back r.all r.wrote.lines) ∙ mine
+    by_refused (Some number) =
+        let rows : List (List ℕ) = r.all ++ bad_line number ∷ [] in
+        let bytes_are : due_so_far course (Some number) ≡ concat rows =
+        ap (λ (l : List ℕ). l ++ bad_line number) r.written
+        ∙ ap (λ (l : List ℕ). concat r.all ++ l) (sym (append-nil (bad_line number)))
+        ∙ sym (concat-append r.all (bad_line number ∷ [])) in
+        ap (λ (l : List ℕ). session_lines s l) bytes_are
+        ∙ ap (λ (l : List (List ℕ)). session_rows s l) (lines_back rows (lines_joined r.all (bad_line number ∷ []) r.wrote.lines (bad_is_line number, tt)))
+        ∙ joined_rows (is_of (codes "s") s) r.all (bad_line number ∷ []) (bad_of_none s number)
+        ∙ mine
 
 -- a number that no session has
 

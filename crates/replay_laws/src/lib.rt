@@ -7,5 +7,7 @@ mod laws;
 pub use laws::{
     an_output_is_its_lines, closings_are_the_other_lines, item_lines_tell_their_items,
     loads_write_their_readings, monitors_are_written_their_readings,
-    monitors_take_published_samples, sessions_are_written_their_items,
+    monitors_take_published_samples, sessions_answer_their_requests,
+    sessions_are_closed_for_a_cause, sessions_are_written_as_they_are_taken,
+    sessions_are_written_their_items, units_are_written_their_samples,
 };

@@ -1,6 +1,5 @@
 ghost use Rattle.std.specs.Prelude.{◌≡◌, ◌*◌, ◌≤◌, [], ◌∷◌, IfOk};
-ghost use Rattle.shm_segment.specs.Publishing.{opened};
-ghost use Rattle.shm_segment.specs.Words.{words_of};
+ghost use Rattle.shm_segment.specs.Publishing.{opened, words_now};
 ghost use Rattle.shm_consumer.specs.Taking.{untaken};
 
 use crate::giver::Giver;
@@ -44,7 +43,7 @@ impl HandOff {
         ensures first { IfOk result (λ r. r.0.first ≡ first) }
         ensures giver { IfOk result (λ r. r.1 ≡ opened r.0) }
         ensures taker { IfOk result (λ r. r.2 ≡ untaken r.0) }
-        ensures words { words_of first [] 0 ≡ 1 ∷ 2 * first ∷ 0 ∷ 0 ∷ 0 ∷ 0 ∷ 0 ∷ 0 ∷ 0 ∷ 0 ∷ 0 ∷ 0 ∷ [] }
+        ensures words { IfOk result (λ r. words_now r.1 ≡ 1 ∷ 2 * first ∷ 0 ∷ 0 ∷ 0 ∷ 0 ∷ 0 ∷ 0 ∷ 0 ∷ 0 ∷ 0 ∷ 0 ∷ []) }
     {
         let words = [1, 2 * u64::from(first), 0, 0, 0, 0, 0, 0, 0, 0, 0, 0];
         let (table, mut seat) = HandTable::of_words(alloc, &words, &first)?;

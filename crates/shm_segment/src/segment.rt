@@ -1,6 +1,5 @@
-ghost use Rattle.std.specs.Prelude.{◌≡◌, ℕ, ◌*◌, ◌≤◌, [], ◌∷◌, IfOk};
-ghost use Rattle.shm_segment.specs.Publishing.{opened};
-ghost use Rattle.shm_segment.specs.Words.{words_of};
+ghost use Rattle.std.specs.Prelude.{◌≡◌, ◌*◌, ◌≤◌, [], ◌∷◌, IfOk};
+ghost use Rattle.shm_segment.specs.Publishing.{opened, words_now};
 
 use crate::publisher::Publisher;
 use crate::rule::SegmentRule;
@@ -39,7 +38,7 @@ impl Segment {
     pub fn new(alloc: Global, first: u32) -> Result<(Segment, Publisher), NoMemory>
         requires { first ≤ 1073741823 }
         ensures opened { IfOk result (λ r. (r.0.first ≡ first) × (r.1 ≡ opened r.0)) }
-        ensures words { words_of first [] 0 ≡ 1 ∷ 2 * first ∷ 0 ∷ 0 ∷ 0 ∷ 0 ∷ 0 ∷ 0 ∷ 0 ∷ 0 ∷ 0 ∷ 0 ∷ [] }
+        ensures words { IfOk result (λ r. words_now r.1 ≡ 1 ∷ 2 * first ∷ 0 ∷ 0 ∷ 0 ∷ 0 ∷ 0 ∷ 0 ∷ 0 ∷ 0 ∷ 0 ∷ 0 ∷ []) }
     {
         let words = [1, 2 * u64::from(first), 0, 0, 0, 0, 0, 0, 0, 0, 0, 0];
         let (table, seat) = SegmentTable::of_words(alloc, &words, &first)?;

@@ -5,7 +5,7 @@ use Rattle.std.specs.List.{list_all}
 use Rattle.std.specs.Str.{chars, is_utf8}
 use Rattle.std.proofs.lemmas.Bool.{and_from, and_parts, and_right, le-ltb, leb-true, lt-ltb, ltb-true, or_from}
 use Rattle.std.proofs.lemmas.List.{append_assoc, length-append}
-use Rattle.std.proofs.lemmas.Str.{IsUtf8-from_ascii}
+use Rattle.std.proofs.lemmas.Str.{IsUtf8-from_ascii, is_utf8-from_IsUtf8}
 use Rattle.json.specs.Token.{Token}
 use Rattle.json.specs.Token as token
 use Rattle.json.specs.Lex as lexer
@@ -23,7 +23,6 @@ use Rattle.watch_policy.specs.declared.change.Change.{Change}
 use Rattle.gps_command.specs.Commands.{is_trailing, json_of, trimmed, watch_in, words_command}
 use Rattle.gps_command.specs.Requests.{open_length, requests, requests_from}
 use Rattle.gps_command.specs.Texts.{IsInside, IsRequest, IsText, empty_inside, empty_text, inner_byte, plain_byte, whole_string}
-use Rattle.gps_command.proofs.JsonTexts.{utf8_tested}
 use Rattle.gps_command.proofs.Sets.{reads_requests}
 use Rattle.upstream_laws.specs.Carried.{request}
 use Rattle.upstream_laws.specs.Asking.{IsUnderstood, RequestIsUnderstood}
@@ -163,7 +162,7 @@ ascii_name (b ∷ name) rest all more =
     and_from (is_ascii b) (list_all is_ascii (name ++ rest)) (lt-ltb b 128 (omega (arith, o.ascii))) (ascii_name name rest parts.1 more)
 
 utf8_object : (name : List ℕ) → list_all is_name_byte name ≡ true → is_utf8 (object name) ≡ true
-utf8_object name all = utf8_tested (object name) (IsUtf8-from_ascii (object name) (ascii_from (object name) (ascii_name name (codes "\"}") all refl)))
+utf8_object name all = is_utf8-from_IsUtf8 (object name) (IsUtf8-from_ascii (object name) (ascii_from (object name) (ascii_name name (codes "\"}") all refl)))
 
 -- nothing is cut off its end
 kept : (text : List ℕ) → trimmed (text ++ 125 ∷ []) ≡ text ++ 125 ∷ []

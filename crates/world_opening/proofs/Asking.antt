@@ -1,5 +1,5 @@
 -- Places that are asked for one after another.
-use Rattle.std.proofs.Common.{◌≡◌, ℕ, ◌≤◌, ◌<◌, ◌+◌, ◌⊎◌, inl, List, [], ◌∷◌, ◌++◌, length, Option, Some, None, refl, sym, ◌∙◌, ap, subst, append_assoc, arith}
+use Rattle.std.proofs.Common.{◌≡◌, ℕ, ◌≤◌, ◌<◌, ◌+◌, ◌⊎◌, inl, List, [], ◌∷◌, ◌++◌, length, Option, Some, None, refl, sym, ◌∙◌, ap, subst, append-nil, append_assoc, arith}
 use Rattle.std.specs.Option.{option_to_list}
 use Rattle.std.proofs.lemmas.List.{length-append}
 use Rattle.gps_world.specs.Asking.{Asking}
@@ -110,3 +110,24 @@ stopped_early inputs edges old new listen none stopped = (
   ),
   inl (stopped.1 ∙ none),
 )
+
+-- Places asked for in two parts: all of both, or the first part and some of the second.
+pub asked_both : (old mid new last first second : List Place) → mid ≡ old ++ first → new ≡ mid ++ second → last ≡ new → last ≡ old ++ (first ++ second)
+asked_both old mid new last first second one two same = same ∙ two ∙ ap (λ l. l ++ second) one ∙ append_assoc old first second
+
+pub asked_some : (old mid new first second rest : List Place) → mid ≡ old ++ first → mid ++ second ≡ new ++ rest → old ++ (first ++ second) ≡ new ++ rest
+asked_some old mid new first second rest one two = sym (append_assoc old first second) ∙ ap (λ l. l ++ second) (sym one) ∙ two
+
+pub no_more : {A : Type 0} (xs : List A) → length xs ≡ 0 → xs ≡ []
+no_more [] none = refl
+no_more (x ∷ xs) none = absurd (omega arith)
+
+-- at the start nothing was asked for, and at the end nothing is left
+pub begins_at : {places left : List Place} {old : Asking} {f : WorldFaults} → left ≡ places → IsAsking places left old old f f
+begins_at {places} {left} {old} {f} all =
+    let P : List Place → Type 0 = λ l. IsAsking places l old old f f in
+    subst P (sym all) (begins places old f)
+
+pub asked_all : {places left : List Place} {old new : Asking} {f g : WorldFaults} → IsAsking places left old new f g → length left ≡ 0
+    → (new.places ≡ old.places ++ places) × (new.address ≡ old.address)
+asked_all {places} {left} {old} {new} so none = (sym (append-nil new.places) ∙ ap (λ l. new.places ++ l) (sym (no_more left none)) ∙ so.asked, so.address)

@@ -1,5 +1,5 @@
 -- Sources that hold what was at their places, opened one after another.
-use Rattle.std.proofs.Common.{◌≡◌, ◌≢◌, ◌⊎◌, inl, inr, ℕ, ◌≤◌, ◌+◌, ◌==◌, true, false, Bool, cond, if◌then◌else◌, List, [], ◌∷◌, ◌++◌, map, Option, Some, None, is_some, length, refl, sym, ◌∙◌, ap, subst, append_assoc, arith}
+use Rattle.std.proofs.Common.{rules, ◌≡◌, ◌≢◌, ◌⊎◌, inl, inr, ℕ, ◌≤◌, ◌+◌, ◌==◌, true, false, Bool, cond, if◌then◌else◌, List, [], ◌∷◌, ◌++◌, map, Option, Some, None, is_some, length, refl, sym, ◌∙◌, ap, subst, append_assoc, arith}
 use Rattle.std.specs.List.{AllByRecursion, AllZip}
 use Rattle.std.proofs.lemmas.Bool.{eqb-true}
 use Rattle.std.proofs.lemmas.List.{append-nil, map-append}
@@ -13,7 +13,7 @@ use Rattle.gps_world.specs.Places.{same_place}
 use Rattle.gps_world.specs.declared.place.Place.{Place}
 use Rattle.gps_world.specs.declared.place.Place.TheVariants.{File, Tcp, Gpsd}
 use Rattle.world_opening.specs.Opening.{HasOneMore, IsEdgeHeld, IsHeld, IsNoneOf, IsOpening, IsOpeningEdges, IsOpeningInputs, behind_once, places_in, times_given}
-use Rattle.world_opening.proofs.Asking.{places_in_step}
+use Rattle.world_opening.proofs.Asking.{no_more, places_in_step}
 
 -- ---- how often a place is given
 
@@ -230,3 +230,28 @@ pub pairs_all : {S : Type 0} (sources : List (Option S)) (given now : List (Opti
     → map is_some sources ≡ map is_some given
 pairs_all sources given [] none so = sym (append-nil (map is_some sources)) ∙ so
 pairs_all sources given (place ∷ now) none so = absurd cc
+
+-- at the start nothing was opened, and at the end nothing is left
+pub none_held : {A X : Type 0} {places_of : List A → List Place} {R : A → X → Type 0} {behind : Place → Option (List ℕ)} {given left : List A} {sources : List X}
+    → left ≡ given → sources ≡ [] → IsOpening places_of R behind behind given left sources
+none_held {A} {X} {places_of} {R} {behind} {given} {left} {sources} all none = record {
+  done = [];
+  all = all;
+  others = λ other at. refl;
+  held = (let P : List X → Type 0 = λ l. AllZip R [] l in subst P (sym none) (search rules));
+}
+
+all_done : {A : Type 0} (done left given : List A) → done ++ left ≡ given → length left ≡ 0 → done ≡ given
+all_done done left given all none = sym (append-nil done) ∙ ap (λ l. done ++ l) (sym (no_more left none)) ∙ all
+
+pub all_held : {A X : Type 0} {places_of : List A → List Place} {R : A → X → Type 0} {behind behind' : Place → Option (List ℕ)} {given left : List A} {sources : List X}
+    → IsOpening places_of R behind behind' given left sources → length left ≡ 0 → AllZip R given sources
+all_held {A} {X} {places_of} {R} {behind} {behind'} {given} {left} {sources} so none =
+    let P : List A → Type 0 = λ l. AllZip R l sources in
+    subst P (all_done so.done left given so.all none) so.held
+
+pub others_stay : {A X : Type 0} {places_of : List A → List Place} {R : A → X → Type 0} {behind behind' : Place → Option (List ℕ)} {given left : List A} {sources : List X}
+    → IsOpening places_of R behind behind' given left sources → length left ≡ 0 → (other : Place) → IsNoneOf other (places_of given) → behind' other ≡ behind other
+others_stay {A} {X} {places_of} {R} {behind} {behind'} {given} {left} {sources} so none =
+    let P : List A → Type 0 = λ l. (other : Place) → IsNoneOf other (places_of l) → behind' other ≡ behind other in
+    subst P (all_done so.done left given so.all none) so.others

@@ -1,5 +1,5 @@
 -- Sources from which nothing was taken, opened one after another.
-use Rattle.std.proofs.Common.{ℕ, List, [], ◌∷◌, ◌++◌, Option, Some, None}
+use Rattle.std.proofs.Common.{◌≡◌, sym, subst, ℕ, List, [], ◌∷◌, ◌++◌, Option, Some, None}
 use Rattle.std.specs.Option.{option_to_list}
 use Rattle.gps_outside.specs.Links.{IsUnread}
 use Rattle.gps_outside.specs.Told.{Stream}
@@ -17,3 +17,6 @@ next_more content faults quiets [] None are is = tt
 next_more content faults quiets [] (Some source) are is = is
 next_more content faults quiets (None ∷ sources) source are is = next_more content faults quiets sources source are is
 next_more content faults quiets (Some first ∷ sources) source are is = (are.0, next_more content faults quiets sources source are.1 is)
+
+pub none_unread : {S : Type 0} (content : S → Option Stream) (faults quiets : S → ℕ) {sources : List S} → sources ≡ [] → AreUnread content faults quiets sources
+none_unread {S} content faults quiets none = let P : List S → Type 0 = λ l. AreUnread content faults quiets l in subst P (sym none) tt

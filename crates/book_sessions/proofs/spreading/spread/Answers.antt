@@ -1,4 +1,5 @@
-use Rattle.std.proofs.Common.{◌≡◌, ◌≤◌, ◌<◌, List, length, get_or, sym, ap, ◌∙◌, subst, arith}
+use Rattle.std.specs.List.{AllZip}
+use Rattle.std.proofs.Common.{◌≡◌, ◌≤◌, ◌<◌, List, length, get_or, sym, ap, ◌∙◌, subst, arith, take, take_all}
 use Rattle.std.specs.Int.{from_bool}
 use Rattle.gps_report.specs.declared.report.Report.{Report}
 use Rattle.session_core.specs.Allowing.{MayReport}
@@ -44,3 +45,22 @@ sessions-preserved g c =
       lines = c.report_row.ensures.lines;
       reports = c.report_row.ensures.reports ∙ c.sessions.invariant.reports;
     }
+
+pub report_row-requires-clause-shares : goal.report_row-requires-clause-shares
+report_row-requires-clause-shares g c =
+    let i = c.sessions.session-index in
+    let xs = c.args.sessions.now in
+    let x = c.session-item.result in
+    let here = left_here xs c.sessions.sessions i x c.sessions.invariant.rest in
+    omega (arith, count_left is_live xs i x c.sessions-test.true, ap (λ (s : SessionView). from_bool (is_live s)) here, c.sessions.invariant.shares)
+
+pub returns : goal.returns
+returns g c =
+    let i = c.sessions.session-index in
+    let xs = c.args.sessions.now in
+    let ys = c.sessions.sessions in
+    let R = Reports g.O.Outlet.exact (line_for c.args.names.now) c.args.first c.args.batch.reports in
+    let past : length ys ≤ i = omega (arith, c.sessions-test.false, c.sessions.auto.sessions) in
+    let P : List SessionView → Type 0 = λ l. AllZip R l ys in
+    let Q : List SessionView → Type 0 = λ l. AllZip R (take i xs) l in
+    subst P (take_all i xs c.sessions-test.false) (subst Q (take_all i ys past) c.sessions.invariant.so_far)

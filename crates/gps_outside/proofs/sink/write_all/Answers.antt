@@ -1,5 +1,4 @@
-use Rattle.std.proofs.Common.{◌∙◌, arith, subst, ◌≤◌, sym, refl}
-use Rattle.gps_outside.specs.Counts.{Rose}
+use Rattle.std.proofs.Common.{◌∙◌}
 use Rattle.gps_outside.proofs.Writing.{written_more, not_empty}
 use Rattle.gps_outside.proofs.sink.write_all.Goals as goal
 

@@ -1,5 +1,5 @@
 use Rattle.std.proofs.Common.{◌≡◌, ◌+◌, ◌∙◌, ap, arith, refl}
-use Rattle.gps_outside.proofs.ReadSteps.{quiet_at_last, quiet_sometimes, taken_none, taken_quiet}
+use Rattle.gps_outside.proofs.ReadSteps.{quiet_at_last, taken_none, taken_quiet}
 use Rattle.gps_outside.proofs.whole.read_all.Goals as goal
 
 pub rounds-init : goal.rounds-init

@@ -1,5 +1,4 @@
-use Rattle.std.proofs.Common.{◌≡◌, ◌+◌, refl, sym, ◌∙◌, ap, subst, arith}
-use Rattle.gps_outside.specs.Counts.{Rose}
+use Rattle.std.proofs.Common.{◌≡◌, ◌+◌, refl, sym, ◌∙◌, ap, arith}
 use Rattle.gps_outside.proofs.ReadSteps.{quiet_at_last}
 use Rattle.line_player.proofs.Causes.{broken}
 use Rattle.line_player.proofs.Reading.{after_piece, after_quiet, begun, broken_at_end, broken_in_last, broken_in_piece, by_rules, ended, filled, on_rules}
@@ -25,8 +24,8 @@ rounds-preserved-in-Ok g c =
     let round = c.in-Piece.ensures in
     let given = c.in-Ok.ensures in
     record {
-      under_way = on_rules _ _ _ _ _ _ _ _ _ _ _ _ _ _ _ given.rules_stay
-          (after_piece c.in-Piece.n _ _ _ _ _ _ _ _ _ _ _ _ _ _ _ _ _ _ _ _ _ _ _ before.under_way round.fits round.budget round.bytes round.fails_only round.counts_quiet given.wrote given.at given.number);
+      under_way = on_rules given.rules_stay (after_piece c.step.new.buf _ _ before.under_way c.in-Piece.n _ _ _ _ _ _ round.fits round.budget round.bytes
+          round.fails_only round.counts_quiet given.wrote given.at given.number);
       few = let same : c.step.new.self.quiets ≡ c.rounds.intake.quiets = ap (λ b. b.quiets) round.budget.1 in omega (arith, before.few, same);
       limit = given.limit_stays ∙ before.limit ∙ ap (λ r. r.limit) (sym given.rules_stay);
       rules = given.rules_stay ∙ before.rules;
@@ -56,34 +55,29 @@ pub returns-in-Err-clause-played : goal.returns-in-Err-clause-played
 returns-in-Err-clause-played g c =
     let before = c.rounds.invariant in
     let round = c.in-Piece.ensures in
-    by_rules _ _ _ _ _ _ _ _ before.rules
-    (broken_in_piece c.in-Piece.n _ _ _ _ _ _ _ _ _ _ _ _ _ _ _ _ _ _ _ _ _ before.under_way round.fits round.budget round.bytes round.fails_only round.counts_quiet c.in-Err.ensures.wrote _ c.outcome.ensures)
+    by_rules before.rules (broken_in_piece c.step.new.buf _ _ before.under_way c.in-Piece.n _ _ _ _ round.fits round.budget round.bytes round.fails_only round.counts_quiet c.in-Err.ensures.wrote _ c.outcome.ensures)
 
 pub returns-in-Ok-hand_on-clause-played : goal.returns-in-Ok-hand_on-clause-played
 returns-in-Ok-hand_on-clause-played g c =
     let before = c.rounds.invariant in
     let round = c.in-Last.ensures in
-    by_rules _ _ _ _ _ _ _ _ before.rules
-    (filled c.in-Last.n _ _ _ _ _ _ _ _ _ _ _ _ _ _ _ _ _ _ before.under_way round.fits round.budget round.bytes c.in-Ok-hand_on.ensures.wrote)
+    by_rules before.rules (filled c.step.new.buf _ _ before.under_way c.in-Last.n _ round.fits round.budget round.bytes c.in-Ok-hand_on.ensures.wrote)
 
 pub returns-in-Err-hand_on-clause-played : goal.returns-in-Err-hand_on-clause-played
 returns-in-Err-hand_on-clause-played g c =
     let before = c.rounds.invariant in
     let round = c.in-Last.ensures in
-    by_rules _ _ _ _ _ _ _ _ before.rules
-    (broken_in_last c.in-Last.n _ _ _ _ _ _ _ _ _ _ _ _ _ _ _ _ _ _ _ before.under_way round.fits round.budget round.bytes c.in-Err-hand_on.ensures.wrote _ c.outcome-in-Err-hand_on.ensures)
+    by_rules before.rules (broken_in_last c.step.new.buf _ _ before.under_way c.in-Last.n _ _ round.fits round.budget round.bytes c.in-Err-hand_on.ensures.wrote _ c.outcome-in-Err-hand_on.ensures)
 
 pub returns-in-Ok-close-clause-played : goal.returns-in-Ok-close-clause-played
 returns-in-Ok-close-clause-played g c =
     let before = c.rounds.invariant in
-    by_rules _ _ _ _ _ _ _ _ before.rules
-    (ended _ _ c.step.new.buf _ _ _ _ _ _ _ _ _ _ _ _ _ _ before.under_way c.in-End.ensures.bytes c.in-Ok-close.ensures.wrote)
+    by_rules before.rules (ended c.step.new.buf _ _ before.under_way c.in-End.ensures.bytes c.in-Ok-close.ensures.wrote)
 
 pub returns-in-Err-close-clause-played : goal.returns-in-Err-close-clause-played
 returns-in-Err-close-clause-played g c =
     let before = c.rounds.invariant in
-    by_rules _ _ _ _ _ _ _ _ before.rules
-    (broken_at_end _ _ c.step.new.buf _ _ _ _ _ _ _ _ _ _ _ _ _ _ _ before.under_way c.in-End.ensures.bytes c.in-Err-close.ensures.wrote _ c.outcome-in-Err-close.ensures)
+    by_rules before.rules (broken_at_end c.step.new.buf _ _ before.under_way _ c.in-End.ensures.bytes c.in-Err-close.ensures.wrote _ c.outcome-in-Err-close.ensures)
 
 pub returns-in-Err-clause-cause : goal.returns-in-Err-clause-cause
 returns-in-Err-clause-cause g c =
@@ -130,7 +124,7 @@ returns-in-Failed-clause-cause g c =
     let before = c.rounds.invariant in
     let round = c.in-Failed.ensures in (
       (
-        subst (λ n. Rose n (g.S.Source.faults c.step.new.source)) before.under_way.taken.no_fault (round.failed refl),
+        rw before.under_way.taken.no_fault at (round.failed refl),
         (c.rounds.intake.quiets, (before.few, round.counts_quiet ∙ before.under_way.taken.quiet)),
       ),
       before.sunk,

@@ -1,6 +1,8 @@
-use Rattle.std.proofs.Common.{rules, sym, ◌∙◌}
-use Rattle.world_opening.proofs.Asking.{edge_asks_at, edge_room_at, edge_stopped_at}
-use Rattle.world_opening.proofs.Held.{edge_more, pairs_all, pairs_more}
+use Rattle.std.proofs.Common.{rules, ap, length, sym, ◌∙◌}
+use Rattle.world_opening.proofs.Asking.{asked_all, begins_at, edge_asks_at, edge_room_at, edge_stopped_at, no_more}
+use Rattle.world_opening.proofs.Held.{all_held, edge_more, none_held, pairs_all, pairs_more}
+use Rattle.world_opening.specs.Opening.{places_in, sources_in}
+use Rattle.world_opening.proofs.Unread.{none_unread}
 use Rattle.world_opening.proofs.opening.open_edges.Goals as goal
 
 pub open_next-requires-after_bounds : goal.open_next-requires-after_bounds
@@ -21,3 +23,19 @@ places-preserved g c = record {
 
 pub returns-clause-pairs : goal.returns-clause-pairs
 returns-clause-pairs g c = pairs_all _ _ _ (sym c.places.place-iterator.rest.ok.0 ∙ c.in-None.ensures.steps.0) c.places.invariant.pairs
+
+pub returns-clause-asked : goal.returns-clause-asked
+returns-clause-asked g c = asked_all c.places.invariant.so (ap (λ l. length (places_in l)) (no_more _ (sym c.places.place-iterator.rest.ok.0 ∙ c.in-None.ensures.steps.0)))
+
+pub returns-clause-held : goal.returns-clause-held
+returns-clause-held g c = all_held c.places.invariant.held (sym c.places.place-iterator.rest.ok.0 ∙ c.in-None.ensures.steps.0)
+
+pub places-init : goal.places-init
+places-init g c = record {
+  so = begins_at (ap places_in c.into_iter-place-iterator.ensures.into_iter_gives.0);
+  tells = search rules;
+  unread = none_unread g.W.In.Source.content g.W.In.Source.faults g.W.In.Source.quiets (ap sources_in c.requires.empty);
+  held = none_held c.into_iter-place-iterator.ensures.into_iter_gives.0 c.requires.empty;
+  pairs = search rules;
+  count = search rules;
+}

@@ -27,3 +27,9 @@ returns-in-Ok-clause-after g c = λ later low after.
     let pushed : c.push_reserved.new.self.items ≡ old ++ opened (g.O.Outlet.name c.args.outlet) (g.O.Outlet.cap c.args.outlet) c.args.place ∷ [] =
     c.push_reserved.ensures.items ∙ ap (λ l. l ++ c.in-Ok.member ∷ []) c.make_room.ensures.members ∙ ap (λ (a : MemberView). old ++ a ∷ []) c.in-Ok.ensures.opened in
     after_admit c.args.place (g.O.Outlet.name c.args.outlet) (g.O.Outlet.cap c.args.outlet) old c.push_reserved.new.self.items pushed later low (subst P (sym c.self.view_is) after)
+
+pub returns-then-is_err-clause-after : goal.returns-then-is_err-clause-after
+returns-then-is_err-clause-after g c = λ later low after. let P : List MemberView → Type 0 = λ l. IsAfterAll later l in subst P (sym (c.make_room.ensures.members ∙ c.self.view_is)) after
+
+pub returns-in-Err-clause-after : goal.returns-in-Err-clause-after
+returns-in-Err-clause-after g c = λ later low after. let P : List MemberView → Type 0 = λ l. IsAfterAll later l in subst P (sym (c.make_room.ensures.members ∙ c.self.view_is)) after

@@ -2,7 +2,7 @@ use Rattle.std.proofs.Common.{List, get_or, sym, subst, arith, ◌<◌, length, 
 use Rattle.book_sessions.specs.MemberView.{MemberView}
 use Rattle.book_sessions.specs.Allowing.{MayReply}
 use Rattle.book_sessions.specs.Answering.{AnswersCut}
-use Rattle.book_sessions.specs.Roster.{IsAfterAll, Changes, IsOpenAt}
+use Rattle.book_sessions.specs.Roster.{IsAfterAll, Changes, IsOpenAt, IsAfter}
 use Rattle.book_sessions.proofs.Listening.{listening_heard}
 use Rattle.book_sessions.proofs.Places.{after_input}
 use Rattle.book_sessions.proofs.Rosters.{changed_roster}
@@ -37,3 +37,12 @@ returns-clause-after g c = λ later low after.
     let within : c.args.s < length c.self.inside.members.items = omega (arith, ap length c.self.view_is, c.requires.exists) in
     after_input g.O.Outlet.exact c.args.known.now c.args.names.now c.args.place c.args.s c.args.cut.requests.items c.args.cut.cutter c.self.inside.members.items c.input_at.new.members.items
     c.in_ok-watched.ensures.answers within later low (subst P (sym c.self.view_is) after)
+
+pub input_at-requires-clause-open : goal.input_at-requires-clause-open
+input_at-requires-clause-open g c = let P : List MemberView → Type 0 = λ l. IsOpenAt c.args.s l in subst P (sym c.self.view_is) c.requires.open
+
+pub input_at-requires-clause-after : goal.input_at-requires-clause-after
+input_at-requires-clause-after g c = let P : List MemberView → Type 0 = λ l. IsAfter c.args.place c.args.s l in subst P (sym c.self.view_is) c.requires.after
+
+pub returns-in_err-watched-clause-after : goal.returns-in_err-watched-clause-after
+returns-in_err-watched-clause-after g c = λ later low after. let P : List MemberView → Type 0 = λ l. IsAfterAll later l in subst P (sym (c.in_err-watched.ensures.err ∙ c.self.view_is)) after

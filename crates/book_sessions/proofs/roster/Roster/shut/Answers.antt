@@ -1,7 +1,8 @@
-use Rattle.std.proofs.Common.{List, subst, sym}
-use Rattle.std.specs.List.{AllZip}
+use Rattle.book_sessions.proofs.Walking.{numbers_within}
+use Rattle.std.proofs.Common.{List, subst, sym, ℕ, ◌<◌, length}
+use Rattle.std.specs.List.{AllZip, All}
 use Rattle.session_core.specs.declared.mark.Close.TheVariants.{DaemonEnd}
-use Rattle.book_sessions.specs.MemberView.{MemberView}
+use Rattle.book_sessions.specs.MemberView.{MemberView, is_open}
 use Rattle.book_sessions.specs.Roster.{IsAfterAll, Shuts}
 use Rattle.book_sessions.proofs.Listening.{listening_shut}
 use Rattle.book_sessions.proofs.Places.{after_shut}
@@ -26,3 +27,11 @@ returns-clause-after g c = λ later after.
     let P : List MemberView → Type 0 = λ l. IsAfterAll later l in
     let zip = shut_zip c.args.place DaemonEnd c.self.inside.live.items c.self.inside.members.items c.close_each.new.members.items c.self.invariant.0.live_ones c.close_each.ensures in
     after_shut c.args.place DaemonEnd c.self.inside.members.items c.close_each.new.members.items zip later (subst P (sym c.self.view_is) after)
+
+pub close_each-requires-clause-within : goal.close_each-requires-clause-within
+close_each-requires-clause-within g c =
+    let P : List ℕ → Type 0 = λ l. All (λ n. n < length c.self.inside.members.items) l in
+    subst P (sym c.self.invariant.0.live_ones) (numbers_within is_open c.self.inside.members.items)
+
+pub close_each-requires-clause-after : goal.close_each-requires-clause-after
+close_each-requires-clause-after g c = let P : List MemberView → Type 0 = λ l. IsAfterAll c.args.place l in subst P (sym c.self.view_is) c.requires

@@ -1,5 +1,6 @@
-use Rattle.std.proofs.Common.{◌≡◌, List, arith, length, subst, sym}
-use Rattle.std.specs.List.{AllZip}
+use Rattle.book_sessions.proofs.Walking.{numbers_within, numbers_count}
+use Rattle.std.proofs.Common.{◌≡◌, List, arith, length, subst, sym, ℕ, ◌<◌, ap}
+use Rattle.std.specs.List.{AllZip, All}
 use Rattle.std.specs.Vec.{vec_len}
 use Rattle.std.proofs.lemmas.Bool.{eqb-true}
 use Rattle.book_batch.specs.Lines.{line_for}
@@ -7,7 +8,7 @@ use Rattle.session_core.specs.Allowing.{MayReport}
 use Rattle.book_sessions.specs.Allowing.{MayReportEach}
 use Rattle.book_sessions.specs.MemberView.{MemberView, listens}
 use Rattle.book_sessions.specs.Spreading.{Spreads}
-use Rattle.book_sessions.specs.Roster.{IsAfterAll}
+use Rattle.book_sessions.specs.Roster.{IsAfterAll, listening_in}
 use Rattle.book_sessions.proofs.Allowing.{walk_over}
 use Rattle.book_sessions.proofs.Listening.{is_nil, listening_spread}
 use Rattle.book_sessions.proofs.Places.{after_spread}
@@ -50,3 +51,15 @@ returns-then-is_empty-clause-spreads g c =
     let none : length c.self.inside.listening.items ≡ 0 = omega (arith, zero) in
     subst P c.self.view_is (spread_to_none g.O.Outlet.exact c.args.names.now c.args.first c.args.batch.reports c.self.inside.listening.items c.self.inside.members.items
     c.self.invariant.1 (is_nil c.self.inside.listening.items none))
+
+pub receive_each-requires-clause-within : goal.receive_each-requires-clause-within
+receive_each-requires-clause-within g c =
+    let P : List ℕ → Type 0 = λ l. All (λ n. n < length c.self.inside.members.items) l in
+    subst P (sym c.self.invariant.1) (numbers_within listens c.self.inside.members.items)
+
+pub receive_each-requires-clause-shares : goal.receive_each-requires-clause-shares
+receive_each-requires-clause-shares g c =
+    omega (arith, ap length c.self.invariant.1, numbers_count listens c.self.inside.members.items, ap listening_in c.self.view_is, c.requires.shares)
+
+pub receive_each-requires-clause-after : goal.receive_each-requires-clause-after
+receive_each-requires-clause-after g c = let P : List MemberView → Type 0 = λ l. IsAfterAll c.args.first l in subst P (sym c.self.view_is) c.requires.after

@@ -1,4 +1,5 @@
 use Rattle.std.proofs.Common.{ℕ, [], sym, ap, ◌∙◌, arith}
+use Rattle.shm_segment.specs.Publishing.{words_now}
 use Rattle.shm_segment.proofs.Storing.{new_words}
 use Rattle.shm_consumer.specs.Views.{opener}
 use Rattle.shm_consumer.proofs.Parting.{new_holds, parts_as}
@@ -16,8 +17,5 @@ split_seat-taker-requires c =
       parts_as _ _ _ (made.4 ∙ ap (λ (first : ℕ). (opener first, [])) (sym made.5)),
     )
 
-pub returns-in_err-table-clause-words : goal.returns-in_err-table-clause-words
-returns-in_err-table-clause-words c = new_words c.args.first
-
 pub returns-clause-words : goal.returns-clause-words
-returns-clause-words c = new_words c.args.first
+returns-clause-words c = ap words_now c.of.ensures ∙ new_words c.args.first

@@ -1,11 +1,10 @@
+use Rattle.std.proofs.Common.{◌∙◌, ap}
+use Rattle.shm_segment.specs.Publishing.{words_now}
 use Rattle.shm_segment.proofs.Storing.{new_holds, new_words}
 use Rattle.shm_segment.proofs.segment.Segment.new.Goals as goal
 
 pub of_words-requires : goal.of_words-requires
 of_words-requires c = rw c.from.ensures (new_holds c.args.first c.requires)
 
-pub returns-in_err-table-clause-words : goal.returns-in_err-table-clause-words
-returns-in_err-table-clause-words c = new_words c.args.first
-
 pub returns-clause-words : goal.returns-clause-words
-returns-clause-words c = new_words c.args.first
+returns-clause-words c = ap words_now c.of.ensures ∙ new_words c.args.first

@@ -1,3 +1,5 @@
 pub mod Labels
 pub mod Numbers
 pub mod Pairs
+pub mod Rooms
+pub mod Rows

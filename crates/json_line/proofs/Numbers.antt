@@ -2,16 +2,6 @@
 use Rattle.std.proofs.Common.{◌≡◌, ℕ, ◌/◌, ◌%◌, ◌<◌, ◌≤◌, ◌+◌, ◌^◌, [], ◌∷◌, ◌++◌, length, ap, ◌∙◌, arith, append_assoc, length-append}
 use Rattle.std.proofs.lemmas.Fmt.{decimal_step, length-decimal-le}
 use Rattle.std.specs.Fmt.{decimal}
-use Rattle.gps_fixed.proofs.TextLaws.{decimal_one, decimal_two, decimal_three}
-
-pub one_long : (n : ℕ) → n < 10 → length (decimal n) ≡ 1
-one_long n h = ap length (decimal_one n h)
-
-pub two_long : (n : ℕ) → 10 ≤ n → n < 100 → length (decimal n) ≡ 2
-two_long n ten hundred = ap length (decimal_two n ten hundred)
-
-pub three_long : (n : ℕ) → 100 ≤ n → n < 1_000 → length (decimal n) ≡ 3
-three_long n hundred thousand = ap length (decimal_three n hundred thousand)
 
 -- a number of four digits or more, by its thousands and its last three digits
 pub in_thousands : (n : ℕ) → 1_000 ≤ n → n < 2 ^ 64

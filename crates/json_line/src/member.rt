@@ -1,4 +1,4 @@
-ghost use Rattle.std.specs.Prelude.{◌≡◌, ◌≤◌, ◌++◌, OnOk, length, take};
+ghost use Rattle.std.specs.Prelude.{◌≡◌, ◌≤◌, ◌+◌, ◌++◌, OnOk, length, take};
 ghost use Rattle.std.specs.Fmt.{decimal};
 ghost use Rattle.gps_fixed.specs.Text.{iso_of};
 ghost use Rattle.json_line.specs.Json.{fixed, hundredths, member, member_if, quoted, time, truth};
@@ -59,15 +59,16 @@ pub fn push_truth(out: &mut Bytes, key: Key, value: bool) -> Result<(), NoMemory
 /// Room for a label and a number, and more. They are put together on the stack, so that a member allocates once.
 const ROOM: usize = 48;
 
+/// A whole number.
 #[inline(always)]
 #[tactic(auto, unfolding(crate::specs::Json::member), using(crate::proofs::Labels::is_short))]
-fn place_member_of_whole(room: &mut [u8], key: Key, value: u64) -> usize
-    requires { 48 ≤ length room.old }
-    ensures bytes { take result room.new ≡ member key (decimal value) }
+pub fn place_member_of_whole(room: &mut [u8], at: usize, key: Key, value: u64) -> usize
+    requires { at + 48 ≤ length room.old }
+    ensures bytes { take result room.new ≡ take at room.old ++ member key (decimal value) }
     ensures room { length room.new ≡ length room.old }
-    ensures end { result ≤ 48 }
+    ensures end { result ≤ at + 48 }
 {
-    let behind = place_label(room, 0, key);
+    let behind = place_label(room, at, key);
     place_whole(room, behind, value)
 }
 
@@ -76,7 +77,7 @@ pub fn push_number(out: &mut Bytes, key: Key, value: u64) -> Result<(), NoMemory
     ensures { OnOk result (out.new ≡ out.old ++ member key (decimal value)) }
 {
     let mut room = [0u8; ROOM];
-    let end = place_member_of_whole(&mut room, key, value);
+    let end = place_member_of_whole(&mut room, 0, key, value);
     out.extend_from_slice(&room[..end])
 }
 
@@ -89,47 +90,56 @@ pub fn push_seconds(out: &mut Bytes, key: Key, at: Stamp) -> Result<(), NoMemory
     push_whole(out, at.sec.unsigned_abs())
 }
 
+/// A number with decimals.
 #[inline(always)]
 #[tactic(auto, unfolding(crate::specs::Json::member, crate::specs::Json::fixed), using(crate::proofs::Labels::is_short))]
-fn place_member_of_fixed(room: &mut [u8], key: Key, value: i64, decimals: u8) -> usize
+pub fn place_member_of_fixed(
+    room: &mut [u8],
+    at: usize,
+    key: Key,
+    value: i64,
+    decimals: u8,
+) -> usize
     requires few { decimals ≤ 9 }
-    requires room { 48 ≤ length room.old }
-    ensures bytes { take result room.new ≡ member key (fixed decimals value) }
+    requires room { at + 48 ≤ length room.old }
+    ensures bytes { take result room.new ≡ take at room.old ++ member key (fixed decimals value) }
     ensures room { length room.new ≡ length room.old }
-    ensures end { result ≤ 48 }
+    ensures end { result ≤ at + 48 }
 {
-    let behind = place_label(room, 0, key);
+    let behind = place_label(room, at, key);
     place_scaled(room, behind, value, decimals)
-}
-
-#[inline(always)]
-pub fn push_fixed(out: &mut Bytes, key: Key, value: i64, decimals: u8) -> Result<(), NoMemory>
-    requires from { 1 ≤ decimals }
-    requires to { decimals ≤ 9 }
-    ensures { OnOk result (out.new ≡ out.old ++ member key (fixed decimals value)) }
-{
-    let mut room = [0u8; ROOM];
-    let end = place_member_of_fixed(&mut room, key, value, decimals);
-    out.extend_from_slice(&room[..end])
 }
 
 /// A number with decimals, if there is one.
 #[inline(always)]
 #[tactic(auto, unfolding(crate::specs::Json::member_if, crate::specs::Json::member))]
-pub fn push_fixed_if(
-    out: &mut Bytes,
+pub fn place_fixed_if(
+    room: &mut [u8],
+    at: usize,
     key: Key,
     value: Option<i64>,
     decimals: u8,
-) -> Result<(), NoMemory>
-    requires from { 1 ≤ decimals }
-    requires to { decimals ≤ 9 }
-    ensures { OnOk result (out.new ≡ out.old ++ member_if key (fixed decimals) value) }
+) -> usize
+    requires few { decimals ≤ 9 }
+    requires room { at + 48 ≤ length room.old }
+    ensures bytes { take result room.new ≡ take at room.old ++ member_if key (fixed decimals) value }
+    ensures room { length room.new ≡ length room.old }
+    ensures end { result ≤ at + 48 }
 {
     match value {
-        Some(value) => push_fixed(out, key, value, decimals),
-        None => Ok(()),
+        Some(value) => place_member_of_fixed(room, at, key, value, decimals),
+        None => at,
     }
+}
+
+#[inline(always)]
+fn push_fixed(out: &mut Bytes, key: Key, value: i64, decimals: u8) -> Result<(), NoMemory>
+    requires { decimals ≤ 9 }
+    ensures { OnOk result (out.new ≡ out.old ++ member key (fixed decimals value)) }
+{
+    let mut room = [0u8; ROOM];
+    let end = place_member_of_fixed(&mut room, 0, key, value, decimals);
+    out.extend_from_slice(&room[..end])
 }
 
 /// Hundredths with two decimals, if there are some.

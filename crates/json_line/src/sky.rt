@@ -1,18 +1,20 @@
-ghost use Rattle.std.specs.Prelude.{◌≡◌, ◌≤◌, ◌+◌, ◌++◌, OnOk, count_by, length, take};
+ghost use Rattle.std.specs.Prelude.{◌≡◌, ◌≤◌, ◌+◌, ◌++◌, IfOk, OnOk, count_by, length, take};
 ghost use Rattle.std.specs.Fmt.{decimal};
-ghost use Rattle.json_line.specs.Json.{member, member_if, truth};
+ghost use Rattle.json_line.specs.Json.{array, behind_commas, member, member_if, separated, truth};
 ghost use Rattle.json_line.specs.Lines.{gnss_members, satellite, sky};
 ghost use Rattle.json_line.specs.Names.{satellite_head};
 
-use crate::array::{Writes, push_array};
 use crate::member::{push_hundredths_if, push_number, push_text, push_time_if};
-use crate::names::{Class, Key, push_head};
-use crate::placing::{place_byte, place_number, place_number_if, place_signed_if, place_text};
+use crate::names::{Class, Key, push_head, push_label};
+use crate::placing::{place_byte, place_bytes, place_number, place_number_if, place_signed_if};
 use gps_fixed::{Bytes, NoMemory};
 use gps_report::{Satellite, Sky};
 
-/// As many bytes as the object of a satellite has at most, and more.
-const SATELLITE: usize = 160;
+/// As many bytes of satellites are made before they are added to the line, at most.
+const ROOM: usize = 1_024;
+
+/// A comma and the object of a satellite have at most as many bytes.
+const NEXT: usize = 164;
 
 #[inline(always)]
 #[tactic(auto, unfolding(crate::specs::Names::satellite_head))]
@@ -22,7 +24,7 @@ fn place_number_of_satellite(room: &mut [u8], at: usize, prn: u32) -> usize
     ensures room { length room.new ≡ length room.old }
     ensures end { result ≤ at + 17 }
 {
-    let behind = place_text(room, at, b"{\"PRN\":");
+    let behind = place_bytes(room, at, *b"{\"PRN\":");
     place_number(room, behind, prn)
 }
 
@@ -35,9 +37,9 @@ fn place_used(room: &mut [u8], at: usize, used: bool) -> usize
     ensures end { result ≤ at + 13 }
 {
     if used {
-        place_text(room, at, b",\"used\":true")
+        place_bytes(room, at, *b",\"used\":true")
     } else {
-        place_text(room, at, b",\"used\":false")
+        place_bytes(room, at, *b",\"used\":false")
     }
 }
 
@@ -75,13 +77,13 @@ fn place_signal(room: &mut [u8], at: usize, signal: Option<u8>) -> usize
 
 #[inline(always)]
 #[tactic(auto, unfolding(crate::specs::Lines::satellite, crate::specs::Names::label_of))]
-fn place_satellite(room: &mut [u8], s: &Satellite) -> usize
-    requires { 160 ≤ length room.old }
-    ensures bytes { take result room.new ≡ satellite s.now }
+fn place_satellite(room: &mut [u8], at: usize, s: &Satellite) -> usize
+    requires { at + 160 ≤ length room.old }
+    ensures bytes { take result room.new ≡ take at room.old ++ satellite s.now }
     ensures room { length room.new ≡ length room.old }
-    ensures end { result ≤ 160 }
+    ensures end { result ≤ at + 160 }
 {
-    let at = place_number_of_satellite(room, 0, s.prn);
+    let at = place_number_of_satellite(room, at, s.prn);
     let at = place_signed_if(room, at, Key::El, s.el);
     let at = place_number_if(room, at, Key::Az, s.az);
     let at = place_number_if(room, at, Key::Ss, s.ss);
@@ -91,26 +93,66 @@ fn place_satellite(room: &mut [u8], s: &Satellite) -> usize
     place_byte(room, at, b'}')
 }
 
-/// The object is made on the stack, so that its members do not allocate one by one.
-fn push_satellite(out: &mut Bytes, s: &Satellite) -> Result<(), NoMemory>
-    ensures { OnOk result (out.new ≡ out.old ++ satellite s.now) }
+/// The place of a further satellite: where the last one ends, or, if there is too little room behind it, the beginning, once what is
+/// made is in the line.
+#[inline(always)]
+fn next_place(out: &mut Bytes, room: &[u8], end: usize) -> Result<usize, NoMemory>
+    requires { end ≤ length room.now }
+    ensures bytes { IfOk result (λ at. out.new ++ take at room.now ≡ out.old ++ take end room.now) }
+    ensures room { IfOk result (λ at. at ≤ 860) }
 {
-    let mut room = [0u8; SATELLITE];
-    let end = place_satellite(&mut room, s);
+    if end <= ROOM - NEXT {
+        return Ok(end);
+    }
+    out.extend_from_slice(&room[..end])?;
+    Ok(0)
+}
+
+/// Adds what is made in the room, and further satellites, each after a comma.
+#[tactic(auto, unfolding(crate::specs::Json::behind_commas), using(crate::proofs::Rooms::one_more))]
+fn push_further(
+    out: &mut Bytes,
+    room: &mut [u8],
+    made: usize,
+    further: &[Satellite],
+) -> Result<(), NoMemory>
+    requires room { length room.old ≡ 1_024 }
+    requires made { made ≤ 1_024 }
+    ensures { OnOk result (out.new ≡ (out.old ++ take made room.old) ++ behind_commas satellite further.now) }
+{
+    let mut end = made;
+    for s in further {
+        let at = next_place(out, room, end)?;
+        let behind = place_byte(room, at, b',');
+        end = place_satellite(room, behind, s);
+    }
     out.extend_from_slice(&room[..end])
 }
 
-/// Writes satellites.
-struct Satellites;
-
-impl Writes<Satellite> for Satellites {
-    ghost use Rattle.json_line.specs.Lines.{satellite};
-
-    ghost text = { λ writer s. satellite s };
-
-    fn push(&self, out: &mut Bytes, s: &Satellite) -> Result<(), NoMemory> {
-        push_satellite(out, s)
+/// Satellites are made in a room on the stack, so that neither they nor their members ask the line for room one by one.
+#[inline(never)]
+#[tactic(auto, unfolding(crate::specs::Json::separated))]
+fn push_objects(out: &mut Bytes, satellites: &[Satellite]) -> Result<(), NoMemory>
+    ensures { OnOk result (out.new ≡ out.old ++ separated satellite satellites.now) }
+{
+    match satellites {
+        [] => Ok(()),
+        [first, further @ ..] => {
+            let mut room = [0u8; ROOM];
+            let made = place_satellite(&mut room, 0, first);
+            push_further(out, &mut room, made, further)
+        }
     }
+}
+
+#[tactic(auto, unfolding(crate::specs::Json::member, crate::specs::Json::array))]
+fn push_satellites(out: &mut Bytes, satellites: &[Satellite]) -> Result<(), NoMemory>
+    ensures { OnOk result (out.new ≡ out.old ++ member Key.Satellites (array satellite satellites.now)) }
+{
+    push_label(out, Key::Satellites)?;
+    out.push(b'[')?;
+    push_objects(out, satellites)?;
+    out.push(b']')
 }
 
 fn count_used(satellites: &[Satellite]) -> usize
@@ -132,7 +174,7 @@ pub fn push_sky(out: &mut Bytes, device: &[u8], s: &Sky) -> Result<(), NoMemory>
     push_hundredths_if(out, Key::Vdop, s.vdop)?;
     push_number(out, Key::NSat, satellites.len() as u64)?;
     push_number(out, Key::USat, count_used(satellites) as u64)?;
-    push_array(out, Key::Satellites, &Satellites, satellites)?;
+    push_satellites(out, satellites)?;
     out.push(b'}')?;
     Ok(())
 }

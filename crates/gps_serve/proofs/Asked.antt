@@ -1,9 +1,10 @@
 -- What the world was asked.
-use Rattle.std.proofs.Common.{◌≡◌, ℕ, ◌≤◌, ◌+◌, ◌⊎◌, inl, inr, List, [], ◌∷◌, ◌++◌, length, Option, Some, None, Result, Ok, Err, refl, sym, ◌∙◌, ap, arith, subst}
+use Rattle.std.proofs.Common.{◌≡◌, ◌≢◌, ℕ, ◌≤◌, ◌+◌, ◌⊎◌, inl, inr, List, [], ◌∷◌, ◌++◌, length, Option, Some, None, Result, Ok, Err, refl, sym, ◌∙◌, ap, arith, subst}
 use Rattle.std.proofs.lemmas.List.{append-nil}
 use Rattle.gps_world.specs.Asking.{Asking, asked_nothing}
 use Rattle.gps_world.specs.declared.place.Place.{Place}
 use Rattle.world_opening.specs.declared.opening.Stop.{Stop}
+use Rattle.gps_serve.specs.Outcome.{status_of}
 use Rattle.world_opening.specs.Opening.{AsksAll, AsksPrefix, OpenAsks, places_in}
 
 pub all_of : {X : Type 0} (x : X) (old new : Asking) (places : List Place) (listen : List ℕ) → old ≡ asked_nothing → OpenAsks {X = X} (Ok x) old new places listen
@@ -15,7 +16,15 @@ pub some_of : {X : Type 0} (result : Result X Stop) (old new : Asking) (places :
 some_of (Ok x) old new places listen none asks =
     (([], sym (asks.0 ∙ ap (λ (a : Asking). a.places ++ places) none) ∙ sym (append-nil new.places)), inr asks.1)
 some_of (Err stop) old new places listen none asks =
-    ((asks.0.0, sym (ap (λ (a : Asking). a.places ++ places) none) ∙ asks.0.1), asks.1)
+    ((asks.0.0, sym (ap (λ (a : Asking). a.places ++ places) none) ∙ asks.0.1), elim asks.1 [ inl unheard ↦ inl unheard | inr heard ↦ inr heard.0 ])
+
+-- if the opening stopped after the daemon had listened, listening failed
+pub stopped_at_door : {X W : Type 0} (asked : W → Asking) (old : Asking) (w w' : W) (stop : Stop) (status : ℕ) (places : List Place) (listen : List ℕ)
+    → OpenAsks {X = X} (Err stop) old (asked w) places listen → w' ≡ w → status ≡ status_of stop → (asked w').address ≢ None → status ≡ 8
+stopped_at_door {X} {W} asked old w w' stop status places listen asks is status_is some = elim asks.1 [
+  | inl unheard ↦ absurd (some (ap (λ (x : W). (asked x).address) is ∙ unheard))
+  | inr heard ↦ status_is ∙ ap status_of heard.1
+]
 
 -- a device has one place of edges at most
 few : (edges : List (Option Place)) → length (places_in edges) ≤ length edges

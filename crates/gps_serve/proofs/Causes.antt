@@ -1,5 +1,5 @@
 -- What the counts of the outside say once the threads have ended.
-use Rattle.std.proofs.Common.{◌≡◌, ℕ, ◌<◌, ◌⊎◌, inl, inr, Bool, true, false, ◌||◌, List, [], ◌∷◌, ◌++◌, Option, Some, None, refl, sym, ◌∙◌, subst, arith}
+use Rattle.std.proofs.Common.{◌≡◌, ℕ, ◌<◌, ◌⊎◌, inl, inr, Bool, true, false, ◌||◌, List, [], ◌∷◌, ◌++◌, Option, Some, None, IfSome, refl, sym, ◌∙◌, subst, arith}
 use Rattle.serve_end_settling.specs.Failing.{AnyOf, SourceFailed}
 use Rattle.serve_end_settling.proofs.Causes.{failed_front, failed_last}
 use Rattle.std.specs.Prelude.{Result, Err}
@@ -32,6 +32,12 @@ gate_sound failed before now fails none is = fails.still is ∙ none
 pub no_gate : {G : Type 0} (faults : G → ℕ) (given : Option G) (status : ℕ) → given ≡ None → SourceFailed faults given → (status ≡ 3) ⊎ (status ≡ 8)
 no_gate faults None status none some = absurd some
 no_gate faults (Some gate) status none some = absurd (cc)
+
+-- nor did one that counted no fault
+pub none_counted : {G : Type 0} (faults : G → ℕ) (given gate : Option G) → given ≡ gate → IfSome gate (λ (g : G). faults g ≡ 0) → SourceFailed faults given → ⊥
+none_counted faults None gate same none some = some
+none_counted {G} faults (Some g) gate same none some =
+    let zero : faults g ≡ 0 = subst (λ (x : Option G). IfSome x (λ (y : G). faults y ≡ 0)) (sym same) none in omega (arith, zero, some)
 
 -- if nothing was served, something could not be opened, or it was out of memory
 pub none_of : (X : Type 0) {W : Type 0} (input listen : W → ℕ) (world world' world'' : W) (stop : Stop) (status : ℕ)

@@ -1,6 +1,6 @@
 -- The causes of a status are handed on.
 use Rattle.std.proofs.Common.{◌≡◌, ◌<◌, ℕ, ◌⊎◌, inl, inr, Bool, true, false, not, ◌&&◌, ◌||◌, List, [], Option, Some, None, IfSome, is_some, refl, sym, ◌∙◌, ap, subst, arith}
-use Rattle.std.specs.Prelude.{Err, if◌then◌else◌}
+use Rattle.std.specs.Prelude.{Err, IsSome, if◌then◌else◌}
 use Rattle.std.specs.List.{All}
 use Rattle.gps_outside.specs.Counts.{Rose}
 use Rattle.report_book.specs.BookView.{BookView}
@@ -14,7 +14,11 @@ use Rattle.world_opening.specs.declared.opening.Stop.TheVariants.{Input, Listen,
 use Rattle.world_opening.specs.Opening.{OpeningHasCause, world_faults}
 use Rattle.gps_serve.specs.declared.daemon_end.DaemonEnd.{DaemonEnd}
 use Rattle.gps_serve.specs.declared.status.DaemonOutcome.{DaemonOutcome}
-use Rattle.gps_serve.specs.AtEnd.{back_with}
+use Rattle.gps_serve.specs.AtEnd.{HandedBack, back_with}
+use Rattle.gps_serve.specs.Facts.{GateFacts}
+use Rattle.gps_serve.specs.Served.{IsUnasked}
+use Rattle.gps_world.specs.Opening.{Tells}
+use Rattle.serve_door.specs.Doors.{Way}
 use Rattle.gps_serve.specs.HandingBack.{EndHasCause, out_of_memory_by}
 use Rattle.gps_serve.specs.Lost.{NoneLost, ReadersHadMemory}
 use Rattle.gps_serve.specs.Outcome.{OutcomeHasCause, status_of}
@@ -74,22 +78,30 @@ none_kept : {S R : Type 0} (book : Option BookView) (devices : List (DeviceDone 
 none_kept None devices none = tt
 none_kept (Some b) devices none = absurd cc
 
--- Nothing was served.
-pub nothing_served : {W R S K C G : Type 0} (faults : S → ℕ) (gate_faults : G → ℕ) (A B : Type 0) (served : Served W R S K C G) → served.book ≡ None
-    → served.devices.items ≡ [] → served.sessions.items ≡ [] → served.gate ≡ None → (served.status ≡ 3 → A) → (served.status ≡ 8 → B)
+-- Nothing was served, and no fault of the door was counted.
+served_none : {W R S K C G : Type 0} (faults : S → ℕ) (gate_faults : G → ℕ) (A B : Type 0) (served : Served W R S K C G) → served.book ≡ None
+    → served.devices.items ≡ [] → served.sessions.items ≡ [] → (SourceFailed gate_faults served.gate → (served.status ≡ 3) ⊎ (served.status ≡ 8))
+    → (served.status ≡ 3 → A) → (served.status ≡ 8 → B)
     → (served.status ≡ 7 → served.no_memory ≡ true) → (served.status ≡ 0 → ⊥) → OutcomeHasCause faults gate_faults A B served
-nothing_served faults gate_faults A B served book devices sessions gate three eight seven zero = record {
+served_none faults gate_faults A B served book devices sessions door three eight seven zero = record {
   three = λ e. inr (three e);
   met = no_devices (DeviceFailed faults) served.devices.items served.status devices;
   lost = no_devices WasLostByFault served.devices.items served.status devices;
   told = none_tell served.devices.items served.status devices;
   eight = λ e. inr (eight e);
-  door = no_gate gate_faults served.gate served.status gate;
+  door = door;
   seven = seven;
   zero = λ e. absurd (zero e);
   kept = λ e. none_kept served.book served.devices.items book;
   readers = λ e. none_read served.devices.items served.sessions.items devices sessions;
 }
+
+-- the same, with no door
+pub nothing_served : {W R S K C G : Type 0} (faults : S → ℕ) (gate_faults : G → ℕ) (A B : Type 0) (served : Served W R S K C G) → served.book ≡ None
+    → served.devices.items ≡ [] → served.sessions.items ≡ [] → served.gate ≡ None → (served.status ≡ 3 → A) → (served.status ≡ 8 → B)
+    → (served.status ≡ 7 → served.no_memory ≡ true) → (served.status ≡ 0 → ⊥) → OutcomeHasCause faults gate_faults A B served
+nothing_served faults gate_faults A B served book devices sessions gate three eight seven zero =
+    served_none faults gate_faults A B served book devices sessions (no_gate gate_faults served.gate served.status gate) three eight seven zero
 
 -- the status of a daemon that served nothing, and why
 pub each_stop : (stop : Stop) (status : ℕ) → status ≡ status_of stop → ((status ≡ 3) × (stop ≡ Input)) ⊎ ((status ≡ 8) × (stop ≡ Listen)) ⊎ (status ≡ 7)
@@ -124,10 +136,11 @@ seven_of NoMemory status is e = refl
 
 -- Nothing was served, for this.
 pub stopped_has_cause : {W R S K C G : Type 0} (faults : S → ℕ) (gate_faults : G → ℕ) (A B : Type 0) (stop : Stop) (served : Served W R S K C G) → served.book ≡ None
-    → served.devices.items ≡ [] → served.sessions.items ≡ [] → served.gate ≡ None → served.status ≡ status_of stop → served.no_memory ≡ out_of_memory_by stop
+    → served.devices.items ≡ [] → served.sessions.items ≡ [] → (SourceFailed gate_faults served.gate → ⊥) → served.status ≡ status_of stop
+    → served.no_memory ≡ out_of_memory_by stop
     → (stop ≡ Input → A) → (stop ≡ Listen → B) → OutcomeHasCause faults gate_faults A B served
-stopped_has_cause faults gate_faults A B stop served book devices sessions gate status no_memory opens hears =
-    nothing_served faults gate_faults A B served book devices sessions gate
+stopped_has_cause faults gate_faults A B stop served book devices sessions sound status no_memory opens hears =
+    served_none faults gate_faults A B served book devices sessions (λ failed. absurd (sound failed))
     (λ e. opens (three_of stop served.status status e)) (λ e. hears (eight_of stop served.status status e))
     (λ e. no_memory ∙ seven_of stop served.status status e)
     (not_zero stop served.status status)
@@ -229,3 +242,23 @@ pub as_handed : {X : Type 0} (P : X → BookView → Type 0) (back back' : X) (g
     → IfSome given (P back')
 as_handed {X} P back back' given book same is so =
     subst (λ (x : X). IfSome given (P x)) (sym same) (subst (λ (b : Option BookView). IfSome b (P back)) (sym is) so)
+
+-- what holds of the door holds of it as it is handed back
+pub gate_as_handed : {G S K R : Type 0} (P : G → Type 0) (back back' : HandedBack G S K R) → back' ≡ back → IfSome back.gate P → IfSome back'.gate P
+gate_as_handed {G} {S} {K} {R} P back back' is so = subst (λ (b : HandedBack G S K R). IfSome b.gate P) (sym is) so
+
+-- nobody asked a door that came back as it was opened
+pub still_unasked : {G S K : Type 0} (facts : GateFacts G S K) (told : Option (List (Way S K))) (gate gate' : G) → gate' ≡ gate → Tells told (facts.links gate)
+    → (facts.faults gate ≡ 0) × (facts.quiets gate ≡ 0) → IsUnasked facts told gate'
+still_unasked {G} facts told gate gate' is links none =
+    let opened : IsUnasked facts told gate = record { links = links; faults = none.0; quiets = none.1 } in
+    subst (λ (x : G). IsUnasked facts told x) (sym is) opened
+
+-- there is a book
+pub has_book : {P : Type 0} (given : Option BookView) (book : BookView) → given ≡ Some book → given ≡ None → P
+has_book None book some none = absurd (cc some)
+has_book (Some b) book some none = absurd (cc none)
+
+-- the door is handed back, if there is one
+pub gate_there : {G S K R : Type 0} (gate : G) (back back' : HandedBack G S K R) → back' ≡ back → back.gate ≡ Some gate → IsSome back'.gate
+gate_there {G} {S} {K} {R} gate back back' is there = ap is_some (ap (λ (b : HandedBack G S K R). b.gate) is ∙ there)

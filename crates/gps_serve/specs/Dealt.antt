@@ -1,5 +1,5 @@
 -- The shares of the clock's stamps that the readers of the devices have.
-use Rattle.std.specs.Prelude.{◌≡◌, ℕ, suc, List, [], ◌∷◌, map, Option, Some, None}
+use Rattle.std.specs.Prelude.{◌≡◌, ℕ, suc, List, [], ◌∷◌, map, Option}
 use Rattle.std.specs.List.{AllZip}
 use Rattle.gps_outside.specs.Ticks.{Dial}
 use Rattle.gps_outside.specs.declared.door.Door.{Ghosts as DoorGhosts}
@@ -59,6 +59,5 @@ pub record UsedSoFar {S R D : Type 0} (works left : List (DeviceWork S D R)) (ru
 
 -- the pieces of the devices have the stamps that this clock gave, if nothing was put before
 abbrev pub StampedIf : {S K G J R : Type 0} {s : SourceGhosts S} {k : SinkGhosts K} {g : DoorGhosts G S K} {j : HubGhosts J} {d : DoorNamingGhosts J}
-    → Option Dial → List (DeviceStart S R) → Option (Ended S K G J R s k g j d) → Type 0
-StampedIf clock starts None = Unit {0}
-StampedIf clock starts (Some ended) = AreEmpty starts → StampsAreGiven clock (puts_of ended.runs.items)
+    → Option Dial → List (DeviceStart S R) → Ended S K G J R s k g j d → Type 0
+StampedIf clock starts ended = AreEmpty starts → StampsAreGiven clock (puts_of ended.runs.items)

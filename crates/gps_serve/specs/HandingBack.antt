@@ -6,6 +6,7 @@ use Rattle.serve_end_settling.specs.Failing.{AnyOf, DeviceFailed}
 use Rattle.world_opening.specs.declared.opening.Stop.{Stop}
 use Rattle.world_opening.specs.declared.opening.Stop.TheVariants.{Input, Listen, NoMemory}
 use Rattle.gps_serve.specs.declared.daemon_end.DaemonEnd.{DaemonEnd}
+use Rattle.gps_serve.specs.declared.daemon_end.Unserved.{Unserved}
 use Rattle.gps_serve.specs.AtEnd.{HandedBack, back_with}
 use Rattle.gps_serve.specs.Lost.{NoneLost, ReadersHadMemory}
 use Rattle.gps_serve.specs.Outcome.{status_of}
@@ -35,19 +36,19 @@ out_of_memory_by Listen = false
 out_of_memory_by NoMemory = true
 
 -- it served nothing, for this
-abbrev pub StoppedFor : {S K G R : Type 0} → Stop → Result (DaemonEnd S K G R) Stop → Type 0
+abbrev pub StoppedFor : {S K G R : Type 0} → Stop → Result (DaemonEnd S K G R) (Unserved G) → Type 0
 StoppedFor why (Ok end) = ⊥
-StoppedFor why (Err stop) = stop ≡ why
+StoppedFor why (Err unserved) = unserved.stop ≡ why
 
 -- the status, the book, and all else that is handed back but for the world
-abbrev pub status_by : {S K G R : Type 0} → Result (DaemonEnd S K G R) Stop → ℕ
+abbrev pub status_by : {S K G R : Type 0} → Result (DaemonEnd S K G R) (Unserved G) → ℕ
 status_by (Ok end) = outcome_status end.outcome
-status_by (Err stop) = status_of stop
+status_by (Err unserved) = status_of unserved.stop
 
-abbrev pub book_by : {S K G R : Type 0} → Result (DaemonEnd S K G R) Stop → Option BookView
+abbrev pub book_by : {S K G R : Type 0} → Result (DaemonEnd S K G R) (Unserved G) → Option BookView
 book_by (Ok end) = Some end.book
-book_by (Err stop) = None
+book_by (Err unserved) = None
 
-abbrev pub back_by : {S K G R : Type 0} → Result (DaemonEnd S K G R) Stop → HandedBack G S K R
+abbrev pub back_by : {S K G R : Type 0} → Result (DaemonEnd S K G R) (Unserved G) → HandedBack G S K R
 back_by (Ok end) = back_of end
-back_by (Err stop) = back_with [] [] [] None 0 (out_of_memory_by stop)
+back_by (Err unserved) = back_with [] [] [] unserved.gate 0 (out_of_memory_by unserved.stop)

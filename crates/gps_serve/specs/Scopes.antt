@@ -1,5 +1,5 @@
--- What became of the threads, if those of the door and the publisher could be started.
-use Rattle.std.specs.Prelude.{◌≡◌, ℕ, List, Option, Some, None}
+-- What became of the threads.
+use Rattle.std.specs.Prelude.{◌≡◌, ℕ, List, Option}
 use Rattle.std.specs.List.{AllZip}
 use Rattle.std.specs.Vec.{vec_len}
 use Rattle.gps_fixed.specs.Moment.{Moment}
@@ -19,41 +19,35 @@ use Rattle.gps_serve.specs.Runs.{RanOn}
 use Rattle.gps_serve.specs.Works.{WatchedBy}
 
 -- the door is said to have failed exactly if its faults rose
-abbrev pub FailsIf : {S K G J R : Type 0} {s : SourceGhosts S} {k : SinkGhosts K} {g : DoorGhosts G S K} {j : HubGhosts J} {d : DoorNamingGhosts J}
-    → (G → ℕ) → G → Option (Ended S K G J R s k g j d) → Type 0
-FailsIf faults gate None = Unit {0}
-FailsIf faults gate (Some ended) = FailsBy ended.door.failed (faults gate) (faults ended.door.gate)
+abbrev pub DoorFails : {S K G J R : Type 0} {s : SourceGhosts S} {k : SinkGhosts K} {g : DoorGhosts G S K} {j : HubGhosts J} {d : DoorNamingGhosts J}
+    → (G → ℕ) → G → Ended S K G J R s k g j d → Type 0
+DoorFails faults gate ended = FailsBy ended.door.failed (faults gate) (faults ended.door.gate)
 
 -- what became of the links that this door gave
-abbrev pub TendedIf : {S K G J R : Type 0} {s : SourceGhosts S} {k : SinkGhosts K} {g : DoorGhosts G S K} {j : HubGhosts J} {d : DoorNamingGhosts J}
-    → SourceFacts S → SinkFacts K → GateFacts G S K → ℕ → G → Option (Ended S K G J R s k g j d) → Type 0
-TendedIf sources sinks gates queue gate None = Unit {0}
-TendedIf sources sinks gates queue gate (Some ended) =
+abbrev pub DoorTended : {S K G J R : Type 0} {s : SourceGhosts S} {k : SinkGhosts K} {g : DoorGhosts G S K} {j : HubGhosts J} {d : DoorNamingGhosts J}
+    → SourceFacts S → SinkFacts K → GateFacts G S K → ℕ → G → Ended S K G J R s k g j d → Type 0
+DoorTended sources sinks gates queue gate ended =
     Tended (IsNewLink sources.content sources.faults sources.quiets sinks.written sinks.faults)
     (SessionRuns sources.content sources.faults sources.quiets sinks.written sinks.faults) queue (gates.links gate)
     (door_now (gates.links ended.door.gate) (gates.faults ended.door.gate)
     (gates.quiets ended.door.gate) ended.door.seat.drops ended.door.full ended.door.no_memory)
     ended.door.seat ended.door.runs.items
 
-abbrev pub CausesIf : {S K G J R : Type 0} {s : SourceGhosts S} {k : SinkGhosts K} {g : DoorGhosts G S K} {j : HubGhosts J} {d : DoorNamingGhosts J}
-    → (S → ℕ) → Option (Ended S K G J R s k g j d) → Type 0
-CausesIf faults None = Unit {0}
-CausesIf faults (Some ended) = EachRun (RunCause faults) ended.runs.items
+abbrev pub ReadersHaveCauses : {S K G J R : Type 0} {s : SourceGhosts S} {k : SinkGhosts K} {g : DoorGhosts G S K} {j : HubGhosts J} {d : DoorNamingGhosts J}
+    → (S → ℕ) → Ended S K G J R s k g j d → Type 0
+ReadersHaveCauses faults ended = EachRun (RunCause faults) ended.runs.items
 
 -- the readers of the devices worked on these starts
-abbrev pub RanIf : {S K G J R : Type 0} {s : SourceGhosts S} {k : SinkGhosts K} {g : DoorGhosts G S K} {j : HubGhosts J} {d : DoorNamingGhosts J}
-    → Option (List Moment) → SourceFacts S → List (DeviceStart S R) → Option (Ended S K G J R s k g j d) → Type 0
-RanIf may facts starts None = Unit {0}
-RanIf may facts starts (Some ended) = AllZip (RanOn may facts) starts ended.runs.items
+abbrev pub ReadersRan : {S K G J R : Type 0} {s : SourceGhosts S} {k : SinkGhosts K} {g : DoorGhosts G S K} {j : HubGhosts J} {d : DoorNamingGhosts J}
+    → Option (List Moment) → SourceFacts S → List (DeviceStart S R) → Ended S K G J R s k g j d → Type 0
+ReadersRan may facts starts ended = AllZip (RanOn may facts) starts ended.runs.items
 
 -- the monitors worked on these segments
-abbrev pub WatchedIf : {S K G J R : Type 0} {s : SourceGhosts S} {k : SinkGhosts K} {g : DoorGhosts G S K} {j : HubGhosts J} {d : DoorNamingGhosts J}
-    → ℕ → List MonitorStart → Option (Ended S K G J R s k g j d) → Type 0
-WatchedIf tries monitor_starts None = Unit {0}
-WatchedIf tries monitor_starts (Some ended) = AllZip (WatchedBy tries) monitor_starts ended.watched.items
+abbrev pub MonitorsWatched : {S K G J R : Type 0} {s : SourceGhosts S} {k : SinkGhosts K} {g : DoorGhosts G S K} {j : HubGhosts J} {d : DoorNamingGhosts J}
+    → ℕ → List MonitorStart → Ended S K G J R s k g j d → Type 0
+MonitorsWatched tries monitor_starts ended = AllZip (WatchedBy tries) monitor_starts ended.watched.items
 
 -- there is one result for each device, and for each monitor
-abbrev pub CountsIf : {S K G J R : Type 0} {s : SourceGhosts S} {k : SinkGhosts K} {g : DoorGhosts G S K} {j : HubGhosts J} {d : DoorNamingGhosts J}
-    → ℕ → ℕ → Option (Ended S K G J R s k g j d) → Type 0
-CountsIf devices monitors None = Unit {0}
-CountsIf devices monitors (Some ended) = (vec_len ended.runs ≡ devices) × (vec_len ended.watched ≡ monitors)
+abbrev pub OneOfEach : {S K G J R : Type 0} {s : SourceGhosts S} {k : SinkGhosts K} {g : DoorGhosts G S K} {j : HubGhosts J} {d : DoorNamingGhosts J}
+    → ℕ → ℕ → Ended S K G J R s k g j d → Type 0
+OneOfEach devices monitors ended = (vec_len ended.runs ≡ devices) × (vec_len ended.watched ≡ monitors)

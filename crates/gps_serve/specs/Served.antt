@@ -8,6 +8,7 @@ use Rattle.gps_outside.specs.Counts.{Rose}
 use Rattle.gps_outside.specs.Links.{IsUnwritten}
 use Rattle.gps_outside.specs.Told.{Goes, Stream}
 use Rattle.gps_world.specs.declared.place.Place.{Place}
+use Rattle.gps_world.specs.Opening.{Tells}
 use Rattle.book_sessions.specs.MemberView.{MemberView}
 use Rattle.hub_door.specs.Admissions.{LinkDrop}
 use Rattle.book_units.specs.Units.{UnitView, segment_of}
@@ -33,7 +34,7 @@ use Rattle.hub_promise.specs.Parts.{InletsView}
 use Rattle.serve_end_settling.specs.Runs.{SourceFacts}
 use Rattle.serve_door.specs.Doors.{Tends, Way, door_now}
 use Rattle.gps_serve.specs.Starts.{IsUnreadBy}
-use Rattle.gps_serve.specs.Facts.{SinkFacts, WorldFacts}
+use Rattle.gps_serve.specs.Facts.{GateFacts, SinkFacts, WorldFacts}
 
 -- Both ends are of one lane, and what was received from it is a prefix of what was put.
 pub record IsOneLane (tx : Putting Piece) (rx : Taking Piece) : Type 0 where
@@ -121,6 +122,12 @@ pub record GateServed {G S K R : Type 0} (facts : WorldFacts G S K) (told : Opti
   pub tends : Tends told (door_now (facts.gates.links gate) (facts.gates.faults gate) (facts.gates.quiets gate) drops full out_of_memory) served done false
   pub links_are : AllZip (ServesLink facts.sources facts.sinks) served sessions
   pub has_memory : no_memory ≡ false → out_of_memory ≡ false
+
+-- Nobody asked the door: it has all links that it was opened with, if they are told, and counted neither a fault nor a wait in which no link came.
+pub record IsUnasked {G S K : Type 0} (facts : GateFacts G S K) (told : Option (List (Way S K))) (gate : G) : Type 0 where
+  pub links : Tells told (facts.links gate)
+  pub faults : facts.faults gate ≡ 0
+  pub quiets : facts.quiets gate ≡ 0
 
 -- The bytes taken from a device's source are the first of those that it held. If the device has ended, they are all of them, and nothing is left.
 pub record IsTakenOf (end : Option DeviceEnd) (held : List ℕ) (stream : Stream) : Type 0 where

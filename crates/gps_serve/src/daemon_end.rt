@@ -1,4 +1,4 @@
-ghost use Rattle.std.specs.Prelude.{◌≡◌, ◌⊎◌, IfOk};
+ghost use Rattle.std.specs.Prelude.{◌≡◌, ◌⊎◌, IfErr, IfOk, IfSome};
 ghost use Rattle.gps_serve.specs.AtEnd.{handed_back};
 ghost use Rattle.gps_serve.specs.HandingBack.{EndHasCause, StoppedFor, back_by, book_by, out_of_memory_by, status_by};
 ghost use Rattle.gps_serve.specs.Outcome.{OutcomeHasCause, status_of};
@@ -27,6 +27,13 @@ pub(crate) struct DaemonEnd<S: Source, K: ClientSink, G, R: Wait + Copy> {
     pub(crate) full: u64,
 }
 
+/// Why a daemon served nothing, and its door if that was opened.
+#[derive(Drop)]
+pub(crate) struct Unserved<G> {
+    pub(crate) stop: Stop,
+    pub(crate) gate: Option<G>,
+}
+
 /// The status of a daemon that served nothing.
 fn stopped_status(stop: Stop) -> u8
     ensures { result ≡ status_of stop }
@@ -48,13 +55,14 @@ fn stopped_out_of_memory(stop: Stop) -> bool
     }
 }
 
-/// What is handed back: what is left of a daemon that served, or nothing but the world.
+/// What is handed back: what is left of a daemon that served, or nothing but the world and the door.
 pub(crate) fn hand_back<W: World, R: Wait + Copy>(
     alloc: Global,
     world: W,
-    ended: Result<DaemonEnd<W::In, W::Out, W::Gate, R>, Stop>,
+    ended: Result<DaemonEnd<W::In, W::Out, W::Gate, R>, Unserved<W::Gate>>,
 ) -> Served<W, R>
     requires cause { IfOk ended (EndHasCause W.In.faults W.Gate.faults) }
+    requires sound { IfErr ended (λ unserved. IfSome unserved.gate (λ gate. W.Gate.faults gate ≡ 0)) }
 
     // All that is left is handed back, and the world.
     ensures world { result.world ≡ world }
@@ -89,16 +97,19 @@ pub(crate) fn hand_back<W: World, R: Wait + Copy>(
                 no_memory: outcome.is_out_of_memory(),
             }
         }
-        Err(stop) => Served {
-            status: stopped_status(stop),
-            book: None,
-            devices: Vec::new(alloc),
-            sessions: Vec::new(alloc),
-            monitors: Vec::new(alloc),
-            gate: None,
-            world,
-            full: 0,
-            no_memory: stopped_out_of_memory(stop),
-        },
+        Err(unserved) => {
+            let Unserved { stop, gate } = unserved;
+            Served {
+                status: stopped_status(stop),
+                book: None,
+                devices: Vec::new(alloc),
+                sessions: Vec::new(alloc),
+                monitors: Vec::new(alloc),
+                gate,
+                world,
+                full: 0,
+                no_memory: stopped_out_of_memory(stop),
+            }
+        }
     }
 }

@@ -6,7 +6,7 @@ ghost use Rattle.gps_serve.specs.Dealt.{AreNumbered, SharesUsed, StampedIf};
 ghost use Rattle.gps_serve.specs.Facts.{gate_facts, sink_facts};
 ghost use Rattle.gps_serve.specs.Lost.{link_out_of_memory, run_out_of_memory};
 ghost use Rattle.gps_serve.specs.Runs.{RanOn};
-ghost use Rattle.gps_serve.specs.Scopes.{CausesIf, CountsIf, FailsIf, RanIf, TendedIf, WatchedIf};
+ghost use Rattle.gps_serve.specs.Scopes.{DoorFails, DoorTended, MonitorsWatched, OneOfEach, ReadersHaveCauses, ReadersRan};
 ghost use Rattle.gps_serve.specs.Starts.{EachTold};
 ghost use Rattle.gps_serve.specs.Statuses.{EachWhole};
 ghost use Rattle.gps_serve.specs.Works.{JoinsDevice, JoinsMonitor, ReadersAre, WatchedBy, WatchesFor};
@@ -19,7 +19,7 @@ use gps_hub::HubNaming;
 use gps_outside::{ClientSink, Clock, Door, Source};
 use serve_door::{DoorBegin, DoorContext, DoorDone, start_door};
 use serve_end_settling::DeviceRun;
-use serve_floor::{Floor, Waker, publish, pump, wake_readers};
+use serve_floor::{Floor, Waker, pump, start_publisher, wake_readers};
 use serve_threads::{
     Bells, MonitorPromise, MonitorStart, ReadingsDone, Spawner, Work, start_monitor,
 };
@@ -29,6 +29,23 @@ use std::alloc::Global;
 use std::sync::{Mutex, Wait};
 use std::thread;
 use std::thread::Threads;
+
+/// Empty room for what the threads do and hand back.
+#[derive(Drop)]
+pub(crate) struct Rooms<S: Source, D: Dials, R: Wait + Copy> {
+    pub(crate) works: Vec<DeviceWork<S, D, R>>,
+    pub(crate) runs: Vec<DeviceRun<S, R>>,
+    pub(crate) watching: Vec<Work<ReadingsDone, MonitorPromise>>,
+    pub(crate) watched: Vec<ReadingsDone>,
+    ghost works_none: { works.items ≡ [] },
+    ghost runs_none: { runs.items ≡ [] },
+    ghost watching_none: { watching.items ≡ [] },
+    ghost watched_none: { watched.items ≡ [] },
+    ghost works_len: { vec_len works ≡ 0 },
+    ghost runs_len: { vec_len runs ≡ 0 },
+    ghost watching_len: { vec_len watching ≡ 0 },
+    ghost watched_len: { vec_len watched ≡ 0 },
+}
 
 /// What the threads begin with, and room for what they do and hand back, made before the first of them starts.
 #[derive(Drop)]
@@ -123,7 +140,30 @@ pub(crate) fn room<T: Drop>(alloc: Global, count: usize) -> Result<Vec<T>, NoMem
     }
 }
 
-/// Makes room for what the threads do and hand back.
+/// Takes all room for what the threads of so many devices and monitors do and hand back.
+pub(crate) fn make_rooms<S: Source, D: Dials, R: Wait + Copy>(
+    alloc: Global,
+    devices: usize,
+    units: usize,
+) -> Result<Rooms<S, D, R>, NoMemory>
+    ensures works { IfOk result (λ rooms. devices ≤ vec_capacity rooms.works) }
+    ensures runs { IfOk result (λ rooms. devices ≤ vec_capacity rooms.runs) }
+    ensures watching { IfOk result (λ rooms. units ≤ vec_capacity rooms.watching) }
+    ensures watched { IfOk result (λ rooms. units ≤ vec_capacity rooms.watched) }
+{
+    let works = room(alloc, devices)?;
+    let runs = room(alloc, devices)?;
+    let watching = room(alloc, units)?;
+    let watched = room(alloc, units)?;
+    Ok(Rooms {
+        works,
+        runs,
+        watching,
+        watched,
+    })
+}
+
+/// Puts together what the threads begin with. Nothing is refused here.
 pub(crate) fn set_up<
     S: Source,
     K: ClientSink,
@@ -132,24 +172,33 @@ pub(crate) fn set_up<
     J: HubNaming,
     R: Wait + Copy,
 >(
-    alloc: Global,
     starts: Vec<DeviceStart<S, R>>,
     monitor_starts: Vec<MonitorStart>,
     door: DoorBegin<S, K, G, J, R>,
     roll: StampRoll<D>,
-) -> Result<Setup<S, K, G, D, J, R>, NoMemory>
+    rooms: Rooms<S, D, R>,
+) -> Setup<S, K, G, D, J, R>
     requires told { EachTold S.content starts.items }
     requires roll { roll ≡ record { begun = 0; ended = [] } }
-    ensures starts { IfOk result (λ setup. setup.starts ≡ starts) }
-    ensures monitor_starts { IfOk result (λ setup. setup.monitor_starts ≡ monitor_starts) }
-    ensures door { IfOk result (λ setup. setup.door ≡ door) }
+
+    // There is room for each device and each monitor.
+    requires works { vec_len starts ≤ vec_capacity rooms.works }
+    requires runs { vec_len starts ≤ vec_capacity rooms.runs }
+    requires watching { vec_len monitor_starts ≤ vec_capacity rooms.watching }
+    requires watched { vec_len monitor_starts ≤ vec_capacity rooms.watched }
+
+    // The threads begin with these.
+    ensures starts { result.starts ≡ starts }
+    ensures monitor_starts { result.monitor_starts ≡ monitor_starts }
+    ensures door { result.door ≡ door }
 {
-    let (devices, units) = (starts.len(), monitor_starts.len());
-    let works = room(alloc, devices)?;
-    let runs = room(alloc, devices)?;
-    let watching = room(alloc, units)?;
-    let watched = room(alloc, units)?;
-    Ok(Setup {
+    let Rooms {
+        works,
+        runs,
+        watching,
+        watched,
+    } = rooms;
+    Setup {
         starts,
         monitor_starts,
         door,
@@ -158,7 +207,7 @@ pub(crate) fn set_up<
         runs,
         watching,
         watched,
-    })
+    }
 }
 
 /// Starts the monitors.
@@ -276,8 +325,8 @@ fn join_monitors<T: Threads>(
     watched
 }
 
-/// Starts all threads, pumps until all devices have stopped, and joins them. None if there is no thread for the door or the publisher:
-/// then no reader and no monitor was started.
+/// Starts all threads, pumps until all devices have stopped, and joins them. If there is no thread for the door or the publisher, no device is read,
+/// and each is lost.
 #[tactic(auto, using(crate::proofs::Started::devices_ran, crate::proofs::Started::monitors_ran))]
 fn work<
     's,
@@ -296,20 +345,20 @@ fn work<
     waker: &V,
     tries: u32,
     setup: Setup<S, K, G, D, J, R>,
-) -> Option<Ended<S, K, G, J, R>>
+) -> Ended<S, K, G, J, R>
     // What became of the door and its links.
-    ensures fails { FailsIf G.faults setup.door.gate result }
-    ensures tended { TendedIf (source_facts S.Source) (sink_facts K.ClientSink)
+    ensures fails { DoorFails G.faults setup.door.gate result }
+    ensures tended { DoorTended (source_facts S.Source) (sink_facts K.ClientSink)
         (gate_facts G.Door) setup.door.queue setup.door.gate result }
 
     // What the readers of the devices did.
-    ensures causes { CausesIf S.faults result }
-    ensures ran { RanIf D.may (source_facts S.Source) setup.starts.items result }
+    ensures causes { ReadersHaveCauses S.faults result }
+    ensures ran { ReadersRan D.may (source_facts S.Source) setup.starts.items result }
     ensures stamped { StampedIf D.first setup.starts.items result }
 
     // What the monitors did, and how many results there are.
-    ensures watched { WatchedIf tries setup.monitor_starts.items result }
-    ensures counts { CountsIf (vec_len setup.starts) (vec_len setup.monitor_starts) result }
+    ensures watched { MonitorsWatched tries setup.monitor_starts.items result }
+    ensures counts { OneOfEach (vec_len setup.starts) (vec_len setup.monitor_starts) result }
 {
     let (rt, alloc, scope) = (spawner.rt, spawner.alloc, spawner.scope);
     let Shared {
@@ -327,21 +376,15 @@ fn work<
         watching,
         watched,
     } = setup;
-    let Ok(publisher) = scope.spawn(move || publish(&rt, floor, &bells.publisher)) else {
-        return None;
-    };
     let closer = door.gate.closer();
     let queue = door.queue;
+    let publisher = start_publisher(spawner, floor, bells, &closer);
     let context = DoorContext {
         spawner: Spawner { rt, alloc, scope },
         floor,
         bells,
     };
-    let Some(door) = start_door(context, door) else {
-        bells.close();
-        publisher.join(&rt);
-        return None;
-    };
+    let door = start_door(context, door);
     let watching = start_monitors(spawner, monitor_starts, tries, bells, watching);
     let works = start_devices(spawner, starts, clock, &mut roll, bells, works);
     pump(&rt, alloc, floor, bells, queue);
@@ -356,14 +399,14 @@ fn work<
     let watched = join_monitors(&rt, watching, watched);
     publisher.join(&rt);
     let door = door.join(&rt);
-    Some(Ended {
+    Ended {
         runs,
         watched,
         door,
-    })
+    }
 }
 
-/// Runs all threads in a scope. None if there is no thread for the door or the publisher.
+/// Runs all threads in a scope. Nothing is refused here: all room was taken before.
 pub(crate) fn in_scope<
     'e,
     S: Source + Send + 'e,
@@ -381,20 +424,20 @@ pub(crate) fn in_scope<
     waker: &V,
     tries: u32,
     setup: Setup<S, K, G, D, J, R>,
-) -> Option<Ended<S, K, G, J, R>>
+) -> Ended<S, K, G, J, R>
     // What became of the door and its links.
-    ensures fails { FailsIf G.faults setup.door.gate result }
-    ensures tended { TendedIf (source_facts S.Source) (sink_facts K.ClientSink)
+    ensures fails { DoorFails G.faults setup.door.gate result }
+    ensures tended { DoorTended (source_facts S.Source) (sink_facts K.ClientSink)
         (gate_facts G.Door) setup.door.queue setup.door.gate result }
 
     // What the readers of the devices did.
-    ensures causes { CausesIf S.faults result }
-    ensures ran { RanIf D.may (source_facts S.Source) setup.starts.items result }
+    ensures causes { ReadersHaveCauses S.faults result }
+    ensures ran { ReadersRan D.may (source_facts S.Source) setup.starts.items result }
     ensures stamped { StampedIf D.first setup.starts.items result }
 
     // What the monitors did, and how many results there are.
-    ensures watched { WatchedIf tries setup.monitor_starts.items result }
-    ensures counts { CountsIf (vec_len setup.starts) (vec_len setup.monitor_starts) result }
+    ensures watched { MonitorsWatched tries setup.monitor_starts.items result }
+    ensures counts { OneOfEach (vec_len setup.starts) (vec_len setup.monitor_starts) result }
 {
     thread::scope(
         thread::scope_env(),

@@ -1,4 +1,4 @@
-ghost use Rattle.std.specs.Prelude.{◌≡◌, ◌≤◌, ◌<◌, ◌+◌, ◌*◌, ◌⊎◌, ◌++◌, ℕ, List, [], length, map, None, IsSome, IfSome, IfOk, is_some, true, false};
+ghost use Rattle.std.specs.Prelude.{◌≡◌, ◌≢◌, ◌≤◌, ◌<◌, ◌+◌, ◌*◌, ◌⊎◌, ◌++◌, ℕ, List, [], length, map, None, IsSome, IfSome, IfErr, IfOk, is_some, true, false};
 ghost use Rattle.std.specs.List.{All, AllZip};
 ghost use Rattle.std.specs.Vec.{vec_len, vec_capacity};
 ghost use Rattle.gps_fixed.specs.Limits.{most_queue};
@@ -16,10 +16,10 @@ ghost use Rattle.serve_end_settling.specs.Runs.{RunCause, EachRun, source_facts}
 ghost use Rattle.serve_threads.specs.Segments.{segments_of};
 ghost use Rattle.serve_threads.specs.Sessions.{SessionRuns};
 ghost use Rattle.gps_serve.specs.AtEnd.{AtEnd, handed_back, settings_in, settings_of, start_in, start_with};
-ghost use Rattle.gps_serve.specs.Facts.{world_facts};
+ghost use Rattle.gps_serve.specs.Facts.{gate_facts, world_facts};
 ghost use Rattle.gps_serve.specs.HandingBack.{EndHasCause, back_of};
 ghost use Rattle.gps_serve.specs.Outcome.{OutcomeHasCause};
-ghost use Rattle.gps_serve.specs.Served.{BytesHeld, EdgesHeld, monitored};
+ghost use Rattle.gps_serve.specs.Served.{BytesHeld, EdgesHeld, IsUnasked, monitored};
 ghost use Rattle.serve_door.specs.Doors.{IsNewLink, Tended, door_now};
 ghost use Rattle.serve_floor.specs.Bursts.{AreAtRest, HasStopped};
 ghost use Rattle.gps_serve.specs.Dealt.{puts_of};
@@ -30,11 +30,12 @@ ghost use Rattle.gps_serve.specs.Units.{CountFromZero};
 ghost use Rattle.gps_serve.specs.Whole.{IsWhole};
 ghost use Rattle.gps_serve.specs.Works.{MonitorsRan};
 
-use crate::daemon_end::{DaemonEnd, hand_back};
+use crate::daemon_end::{DaemonEnd, Unserved, hand_back};
 use crate::ground::{Ground, prepare};
 use crate::lanes::DeviceLanes;
-use crate::scope::{Ended, Shared, in_scope, room, set_up};
+use crate::scope::{Ended, Rooms, Shared, in_scope, make_rooms, room, set_up};
 use crate::settling::{DevicesDone, devices_done, monitors_done, sessions_done};
+use crate::starts::DeviceStart;
 use crate::status::{DaemonOutcome, all_ended, was_out_of_memory};
 use gps_fixed::NoMemory;
 use gps_hub::{DoorSeat, Hub, HubNaming, Parted};
@@ -246,7 +247,39 @@ fn begin_of<S: Source, K: ClientSink, G: Door<In = S, Out = K>, J: HubNaming, R:
     }
 }
 
-/// Serves what was prepared.
+/// All room for what the threads do and hand back, and for what is put together of it.
+#[derive(Drop)]
+struct RunRooms<W: World, D: Dials, R: Wait + Copy> {
+    threads: Rooms<W::In, D, R>,
+    done: DoneRooms<W, R>,
+}
+
+fn make_run_rooms<W: World, D: Dials, R: Wait + Copy>(
+    alloc: Global,
+    devices: usize,
+    monitors: usize,
+) -> Result<RunRooms<W, D, R>, NoMemory>
+    ensures works { IfOk result (λ rooms. devices ≤ vec_capacity rooms.threads.works) }
+    ensures runs { IfOk result (λ rooms. devices ≤ vec_capacity rooms.threads.runs) }
+    ensures watching { IfOk result (λ rooms. monitors ≤ vec_capacity rooms.threads.watching) }
+    ensures watched { IfOk result (λ rooms. monitors ≤ vec_capacity rooms.threads.watched) }
+    ensures devices { IfOk result (λ rooms. devices ≤ vec_capacity rooms.done.devices) }
+    ensures monitors { IfOk result (λ rooms. monitors ≤ vec_capacity rooms.done.monitors) }
+{
+    let threads = make_rooms(alloc, devices, monitors)?;
+    let done = make_done_rooms(alloc, devices, monitors)?;
+    Ok(RunRooms { threads, done })
+}
+
+/// What comes back if there is no memory to begin with: what the readers would have begun with, and the door.
+#[derive(Drop)]
+struct Unstarted<S: Source, G, R> {
+    starts: Vec<DeviceStart<S, R>>,
+    gate: G,
+}
+
+/// Serves what was prepared. All room is taken before the first thread starts. If there is no memory for it, no thread was started, and the sources
+/// and the door come back as they were. After that nothing is refused.
 fn run<
     J: HubNaming + Send + Sync,
     D: Dials + Send + Sync,
@@ -260,7 +293,7 @@ fn run<
     clock: W::Now,
     world: &W,
     numbers: Numbers,
-) -> Result<DaemonEnd<W::In, W::Out, W::Gate, R>, NoMemory>
+) -> Result<DaemonEnd<W::In, W::Out, W::Gate, R>, Unstarted<W::In, W::Gate, R>>
     // `J` is what no call of the hub changes.
     requires terms { J.terms ≡ terms_of ground.book ground.lanes.inlets.items numbers.wait }
     requires table { ground.doors.table ≡ J.table }
@@ -299,6 +332,10 @@ fn run<
     ensures at_end { IfOk result (λ end. AtEnd (start_with (settings_of J.terms numbers.queue numbers.tries) D.may D.first (W.Gate.links gate))
         (world_facts W.In.Source W.Out.ClientSink W.Gate.Door) (back_of end) end.book) }
     ensures cause { IfOk result (EndHasCause W.In.faults W.Gate.faults) }
+
+    // Nothing was read and nobody asked the door, unless all that is left is handed back.
+    ensures unread { IfErr result (λ unstarted. unstarted.starts ≡ ground.lanes.starts) }
+    ensures unasked { IfErr result (λ unstarted. unstarted.gate ≡ gate) }
 {
     let Ground {
         book,
@@ -310,38 +347,42 @@ fn run<
     } = ground;
     let DeviceLanes { starts, inlets } = lanes;
     let devices = inlets.len() as u8;
-    let rooms = make_done_rooms::<W, R>(alloc, starts.len(), monitor_starts.len())?;
-    let Ok((hub, seat)) = Hub::<J, R>::new(alloc, book, inlets, doors, numbers.wait) else {
-        return Err(NoMemory);
+    let Ok(rooms) = make_run_rooms::<W, D, R>(alloc, starts.len(), monitor_starts.len()) else {
+        return Err(Unstarted { starts, gate });
     };
+    let Ok((hub, seat)) = Hub::<J, R>::new(alloc, book, inlets, doors, numbers.wait) else {
+        return Err(Unstarted { starts, gate });
+    };
+    let RunRooms { threads, done } = rooms;
     let floor = Mutex::new(floor_of(alloc, hub, devices));
     let (giver, roll) = stamps.open::<D>();
     let clock = Mutex::new(SharedClock::<W::Now, D>::new(clock, giver));
     let first = Snapshot::of(&gate);
     let door = begin_of(alloc, gate, seat, numbers.queue);
     let setup = set_up::<W::In, W::Out, W::Gate, D, J, R>(
-        alloc,
         starts,
         monitor_starts,
         door,
         roll,
-    )?;
+        threads,
+    );
     let shared = Shared {
         floor: &floor,
         clock: &clock,
         bells: &bells,
     };
-    let Some(ended) = in_scope(rt, alloc, shared, world, numbers.tries, setup) else {
-        return Err(NoMemory);
-    };
+    let ended = in_scope(rt, alloc, shared, world, numbers.tries, setup);
     let hub = shut(&rt, alloc, floor.into_inner());
-    Ok(gather::<W, J, D, R>(&rt, hub, ended, rooms, numbers, first))
+    let left = gather::<W, J, D, R>(&rt, hub, ended, done, numbers, first);
+    Ok(left)
 }
 
 /// Serves a plan until each of its devices has ended or was lost.
 ///
 /// The status is 0 if every device has ended, 3 if a source failed or could not be opened, 8 if the door failed or could not be opened, and 7 if
 /// the daemon was out of memory or could start no thread. If several hold, it is the first of 3, 8 and 7.
+///
+/// Once a thread was started, a book is handed back, however the work ends.
 #[tactic(auto, using(crate::proofs::Asked::some_of, crate::proofs::Asked::all_of, crate::proofs::Asked::few_of))]
 pub fn serve<W: World, R: Threads + Wait + Copy + Send + Sync>(
     rt: R,
@@ -367,6 +408,10 @@ pub fn serve<W: World, R: Threads + Wait + Copy + Send + Sync>(
     // There is no book only if a source or the door could not be opened, or memory was short.
     ensures none { result.book ≡ None → ((result.status ≡ 3) × Rose (W.input_faults world) (W.input_faults result.world))
         ⊎ ((result.status ≡ 8) × Rose (W.listen_faults world) (W.listen_faults result.world)) ⊎ (result.status ≡ 7) }
+
+    // If there is none, nobody asked the door. It is handed back, if the daemon has listened and that did not fail.
+    ensures listened { result.book ≡ None → (W.asked result.world).address ≢ None → (result.status ≡ 8) ⊎ IsSome result.gate }
+    ensures unasked { result.book ≡ None → IfSome result.gate (IsUnasked (gate_facts W.Gate.Door) (W.links world)) }
 
     // What is handed back fits together.
     ensures at_end { IfSome result.book
@@ -413,15 +458,24 @@ pub fn serve<W: World, R: Threads + Wait + Copy + Send + Sync>(
         clock,
     } = match open(alloc, &mut world, inputs, edges, listen) {
         Ok(outside) => outside,
-        Err(stop) => return hand_back(alloc, world, Err(stop)),
+        Err(stop) => return hand_back(alloc, world, Err(Unserved { stop, gate: None })),
     };
     match prepare(rt, alloc, names, limit, tries, inputs, edges) {
         Ok(ground) => {
             match run::<Brand, Brand, W, R>(rt, alloc, ground, gate, clock, &world, numbers) {
                 Ok(end) => hand_back(alloc, world, Ok(end)),
-                Err(NoMemory) => hand_back(alloc, world, Err(Stop::NoMemory)),
+                Err(unstarted) => {
+                    let Unstarted { starts: _, gate } = unstarted;
+                    let stop = Stop::NoMemory;
+                    let gate = Some(gate);
+                    hand_back(alloc, world, Err(Unserved { stop, gate }))
+                }
             }
         }
-        Err(NoMemory) => hand_back(alloc, world, Err(Stop::NoMemory)),
+        Err(NoMemory) => {
+            let stop = Stop::NoMemory;
+            let gate = Some(gate);
+            hand_back(alloc, world, Err(Unserved { stop, gate }))
+        }
     }
 }

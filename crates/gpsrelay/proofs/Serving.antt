@@ -1,5 +1,5 @@
 -- What the words of `serve` ask for.
-use Rattle.std.proofs.Common.{◌≡◌, ℕ, Bool, true, false, List, [], ◌∷◌, ◌++◌, map, is_some, Option, Some, None, IfSome, refl, sym, ◌∙◌, ap, subst, ◌⊎◌, inl, inr, arith}
+use Rattle.std.proofs.Common.{◌≡◌, ◌≢◌, ℕ, Bool, true, false, List, [], ◌∷◌, ◌++◌, map, is_some, Option, Some, None, IfSome, refl, sym, ◌∙◌, ap, subst, ◌⊎◌, inl, inr, arith}
 use Rattle.std.specs.List.{AllZip}
 use Rattle.gps_words.specs.declared.command.WordsFault.{WordsFault}
 use Rattle.gps_words.specs.declared.command.WordsFault.TheVariants.{Refused, NoMemory}
@@ -145,3 +145,13 @@ pub anything_allowed : {A K : Type 0} (asks written : K → Option (List ℕ)) (
     → IfSome asked (λ (s : A). AllowsClients asks written (λ _ _. Unit {0}) (devices s))
 anything_allowed asks written devices None = tt
 anything_allowed asks written devices (Some s) = λ sink piece may. tt
+
+-- no door is handed back
+pub no_door : {G : Type 0} (P : G → Type 0) (given : Option G) → given ≡ None → IfSome given P
+no_door P None none = tt
+no_door P (Some gate) none = absurd (cc none)
+
+-- a world that was asked nothing was not asked for an address
+pub unlistened : {P W : Type 0} (asked : W → Asking) (w w' : W) → w' ≡ w → asked w ≡ asked_nothing → (asked w').address ≢ None → P
+unlistened {P} {W} asked w w' is none some =
+    absurd (some (ap (λ (x : W). (asked x).address) is ∙ ap (λ (a : Asking). a.address) none))

@@ -1,4 +1,4 @@
-ghost use Rattle.std.specs.Prelude.{◌≡◌, ◌⊎◌, ◌++◌, [], None, IfOk, IfSome, IsSome, length, map, string_bytes, true, false};
+ghost use Rattle.std.specs.Prelude.{◌≡◌, ◌≢◌, ◌⊎◌, ◌++◌, [], None, IfOk, IfSome, IsSome, length, map, string_bytes, true, false};
 ghost use Rattle.std.specs.List.{All};
 ghost use Rattle.gps_outside.specs.Counts.{Rose};
 ghost use Rattle.gps_words.specs.Serve.{serve_asked_of, shown};
@@ -9,8 +9,9 @@ ghost use Rattle.serve_end_parts.specs.Plans.{IsPlan};
 ghost use Rattle.serve_workers.specs.Writing.{AllowsClients};
 ghost use Rattle.serve_end_settling.specs.Runs.{source_facts};
 ghost use Rattle.gps_serve.specs.AtEnd.{AtEnd, handed_back, settings_in, start_in};
-ghost use Rattle.gps_serve.specs.Facts.{world_facts};
+ghost use Rattle.gps_serve.specs.Facts.{gate_facts, world_facts};
 ghost use Rattle.gps_serve.specs.Outcome.{OutcomeHasCause};
+ghost use Rattle.gps_serve.specs.Served.{IsUnasked};
 ghost use Rattle.gps_serve.specs.Whole.{IsWhole};
 ghost use Rattle.gpsrelay.specs.Served.{AsksFor, AsksWhole, HaveEdges, HeldBehind, devices_asked, edge_place_of, fault_status, place_of, places_of, told_by};
 
@@ -112,6 +113,7 @@ fn plan_of(alloc: Global, options: ServeOptions) -> Result<Plan, NoMemory>
 fn nothing<W: World, R: Wait + Copy>(alloc: Global, world: W, fault: WordsFault) -> Served<W, R>
     ensures status { result.status ≡ fault_status fault }
     ensures book { result.book ≡ None }
+    ensures gate { result.gate ≡ None }
     ensures world { result.world ≡ world }
     ensures cause { OutcomeHasCause W.In.faults W.Gate.faults ⊥ ⊥ result }
 {
@@ -167,6 +169,8 @@ pub fn serve_main<W: World, R: Threads + Wait + Copy + Send + Sync>(
         (Rose (W.listen_faults world) (W.listen_faults result.world)) result }
     ensures none { result.book ≡ None → (result.status ≡ 2) ⊎ ((result.status ≡ 3) × Rose (W.input_faults world) (W.input_faults result.world))
         ⊎ ((result.status ≡ 8) × Rose (W.listen_faults world) (W.listen_faults result.world)) ⊎ (result.status ≡ 7) }
+    ensures listened { result.book ≡ None → (W.asked result.world).address ≢ None → (result.status ≡ 8) ⊎ IsSome result.gate }
+    ensures unasked { result.book ≡ None → IfSome result.gate (IsUnasked (gate_facts W.Gate.Door) (W.links world)) }
 
     // What the world was asked for.
     ensures asked { AsksFor (serve_asked_of (map string_bytes words.now)) (W.asked result.world) }

@@ -1,10 +1,10 @@
-ghost use Rattle.std.specs.Prelude.{◌≡◌, IfSome};
+ghost use Rattle.std.specs.Prelude.{◌≡◌};
 
 use crate::context::DoorContext;
 use crate::door::{DoorBegin, DoorDone, tend};
 use gps_hub::HubNaming;
 use gps_outside::{ClientSink, Door, Source};
-use serve_threads::{Work, start_if};
+use serve_threads::{Work, start};
 use std::marker::PhantomData;
 use std::snapshot::Snapshot;
 use std::sync::Wait;
@@ -30,7 +30,7 @@ impl<S: Source, K: ClientSink, G: Door<In = S, Out = K>, J: HubNaming, R: Wait +
         × FailsBy r.failed (G.faults p.gate.value) (G.faults r.gate) };
 }
 
-/// Starts the door worker, if there is a thread for it.
+/// Starts the door worker. If there is no thread for it, no device is read, the door is closed, and it is asked once here.
 pub fn start_door<
     's,
     E,
@@ -42,15 +42,21 @@ pub fn start_door<
 >(
     context: DoorContext<'s, E, J, R>,
     begin: DoorBegin<S, K, G, J, R>,
-) -> Option<Work<DoorDone<S, K, G, J, R>, Tending<G, J>>>
-    ensures gate { IfSome result (λ work. work.gate.value ≡ begin.gate) }
-    ensures queue { IfSome result (λ work. work.queue ≡ begin.queue) }
+) -> Work<DoorDone<S, K, G, J, R>, Tending<G, J>>
+    ensures gate { result.gate.value ≡ begin.gate }
+    ensures queue { result.queue ≡ begin.queue }
 {
     let promise = Tending {
         gate: Snapshot::of(&begin.gate),
         queue: begin.queue,
         marker: PhantomData,
     };
-    let scope = context.spawner.scope;
-    start_if(scope, promise, move || tend(&context, begin))
+    let closer = begin.gate.closer();
+    let (scope, bells) = (context.spawner.scope, context.bells);
+    start(
+        scope,
+        promise,
+        move || tend(&context, begin),
+        move || bells.give_up(&closer),
+    )
 }

@@ -25,7 +25,7 @@ use gps_lane::Bell;
 use gps_outside::{ClientSink, Door, DoorStep, Source};
 use serve_end_parts::SessionDone;
 use serve_floor::{Floor, LinkRefusal};
-use serve_threads::{SessionLink, Spawner, start_session};
+use serve_threads::{Bells, SessionBells, SessionLink, Spawner, start_session};
 use std::snapshot::Snapshot;
 use std::sync::{Mutex, Wait};
 use std::thread::Threads;
@@ -33,6 +33,13 @@ use std::time::Duration;
 
 /// How many milliseconds the door worker waits after no link came.
 const REST: u64 = 1;
+
+/// Tells the threads of a session that nothing more comes, if the door worker is at its last step. Later there may be no thread to tell them.
+fn end_early(bells: &Bells, session: &SessionBells) {
+    if bells.door.is_closed() {
+        session.close();
+    }
+}
 
 /// The door worker.
 #[derive(Drop)]
@@ -87,7 +94,7 @@ impl<S: Source, K: ClientSink, G: Door<In = S, Out = K>, J: HubNaming, R: Wait +
     fn start<'s, E>(
         &mut self,
         spawner: &Spawner<'s, E, R>,
-        pump: &'s Bell,
+        daemon: &'s Bells,
         link: SessionLink<S, K, R>,
         bells: ThreadBells,
     )
@@ -119,7 +126,8 @@ impl<S: Source, K: ClientSink, G: Door<In = S, Out = K>, J: HubNaming, R: Wait +
             writer,
         } = bells;
         let shown = Snapshot::of(&link);
-        let work = start_session(spawner, link, reader, writer, &door, pump);
+        end_early(daemon, &door);
+        let work = start_session(spawner, link, reader, writer, &door, &daemon.pump);
         self.sessions.add(Seated {
             attended: Attended::new(shown, work),
             bells: door,
@@ -208,7 +216,7 @@ impl<S: Source, K: ClientSink, G: Door<In = S, Out = K>, J: HubNaming, R: Wait +
                     pieces,
                     items,
                 };
-                self.start(&context.spawner, &bells.pump, link, own);
+                self.start(&context.spawner, bells, link, own);
             }
             Err(LinkRefusal::TooMany) => self.full = self.full.saturating_add(1),
             Err(LinkRefusal::NoMemory) => self.no_memory = true,

@@ -22,8 +22,7 @@ const UNITS: u8 = 16;
 pub struct Served<W: World, R: Wait + Copy> {
     /// The exit status: 0, 2, 3, 7 or 8.
     pub status: u8,
-    /// None if nothing was served: something could not be opened, the daemon was out of memory before the threads had begun, or
-    /// there was no thread for the door or the publisher.
+    /// None if nothing was served: something could not be opened, or the daemon was out of memory before its first thread was started.
     pub book: Option<Book<Tx<Item, R>>>,
     /// One for each device, in the order of the plan; none if nothing was served.
     pub devices: Vec<DeviceDone<W::In, R>>,
@@ -31,7 +30,7 @@ pub struct Served<W: World, R: Wait + Copy> {
     pub sessions: Vec<SessionDone<W::In, W::Out, R>>,
     /// One for each unit that has a monitor, in the order of the units.
     pub monitors: Vec<MonitorDone>,
-    /// The door; none if nothing was served.
+    /// The door, if it was opened. If nothing was served, nobody asked it.
     pub gate: Option<W::Gate>,
     pub world: W,
     /// How many links were dropped because there were too many sessions; it saturates.

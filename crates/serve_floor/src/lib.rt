@@ -8,6 +8,6 @@ mod rings;
 mod waker;
 
 pub use floor::{Burst, Floor, LinkRefusal, floor_of};
-pub use pumping::{publish, pump};
+pub use pumping::{Publishing, pump, start_publisher};
 pub use rings::{MOST, Rings};
 pub use waker::{Waker, wake_readers};

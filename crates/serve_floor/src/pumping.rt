@@ -4,9 +4,11 @@ use crate::floor::{Burst, Floor};
 use crate::rings::Rings;
 use gps_hub::HubNaming;
 use gps_lane::Bell;
-use serve_threads::Bells;
+use gps_outside::Closer;
+use serve_threads::{Bells, Spawner, Work, start};
 use std::alloc::Global;
 use std::sync::{Mutex, Wait};
+use std::thread::Promise;
 
 /// At most this many bursts in a row leave the writers and the publisher asleep while more pieces of devices wait. Waking a writer and sending
 /// cost more than putting a burst's lines into its lane.
@@ -69,7 +71,7 @@ pub fn pump<J: HubNaming, R: Wait + Copy>(
 }
 
 /// Publishes the samples that wait, until its bell is closed.
-pub fn publish<J: HubNaming, R: Wait + Copy>(rt: &R, floor: &Mutex<Floor<J, R>>, own: &Bell) {
+fn publish<J: HubNaming, R: Wait + Copy>(rt: &R, floor: &Mutex<Floor<J, R>>, own: &Bell) {
     for _ in rt.forever() {
         let last = own.is_closed();
         let stored = floor.lock(rt).publish();
@@ -80,4 +82,28 @@ pub fn publish<J: HubNaming, R: Wait + Copy>(rt: &R, floor: &Mutex<Floor<J, R>>,
             own.wait(rt);
         }
     }
+}
+
+/// The promise of the publisher's thread. Nothing is said of it: what it publishes is in the hub.
+#[derive(Drop)]
+pub struct Publishing {}
+
+impl Promise<()> for Publishing {
+    ghost kept_by = { λ p r. Unit {0} };
+}
+
+/// Starts the publisher. If there is no thread for it, no device is read, and the door is closed.
+pub fn start_publisher<'s, E, J: HubNaming + Send + Sync + 's, R: Wait + Copy + Send + Sync + 's>(
+    spawner: &Spawner<'s, E, R>,
+    floor: &'s Mutex<Floor<J, R>>,
+    bells: &'s Bells,
+    closer: &Option<Closer>,
+) -> Work<(), Publishing> {
+    let (rt, scope) = (spawner.rt, spawner.scope);
+    start(
+        scope,
+        Publishing {},
+        move || publish(&rt, floor, &bells.publisher),
+        move || bells.give_up(closer),
+    )
 }

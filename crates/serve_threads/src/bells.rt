@@ -1,5 +1,6 @@
 use gps_fixed::NoMemory;
 use gps_lane::Bell;
+use gps_outside::Closer;
 use serve_workers::Span;
 use std::alloc::Global;
 use std::sync::atomic::{AtomicBool, Ordering};
@@ -110,6 +111,19 @@ impl Bells {
         for device in self.devices.as_slice() {
             device.bytes.ring();
             device.edges.ring();
+        }
+    }
+
+    /// There is no thread for the door or for the publisher: no device is read, the door is asked once more at most, and nothing is waited for. The
+    /// door is closed, if it has a closer.
+    pub fn give_up(&self, closer: &Option<Closer>) {
+        for device in self.devices.as_slice() {
+            device.alone.leave();
+        }
+        self.publisher.close();
+        self.door.close();
+        if let Some(closer) = closer {
+            closer.close();
         }
     }
 

@@ -18,4 +18,4 @@ pub use reading::{
 };
 pub use session::{Attending, LinkDone, SessionLink, WriterDone, start_session};
 pub use spawner::Spawner;
-pub use work::{Work, start, start_if};
+pub use work::{Work, start};

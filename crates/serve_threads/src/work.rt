@@ -24,27 +24,6 @@ impl<T: Drop, P: Promise<T> + Drop> Model for Work<T, P> {
         × (w.running ≡ None → IsSome w.done) };
 }
 
-/// Starts a work in a thread of its own, if one can be started.
-pub fn start_if<'s, E, P: Promise<T> + Drop, F: FnOnce() -> T + Send + 's, T: Send + Drop + 's>(
-    scope: &Scope<'s, E>,
-    promise: P,
-    work: F,
-) -> Option<Work<T, P>>
-    requires runs { F.pre work }
-    requires keeps { (result : T) → F.post work result → P.kept_by promise result }
-    ensures { IfSome result (λ work. work ≡ promise) }
-{
-    let shown = Snapshot::of(&promise);
-    match scope.spawn_with(promise, work) {
-        Ok(handle) => Some(Work {
-            running: Some(handle),
-            done: None,
-            promise: shown,
-        }),
-        Err(_) => None,
-    }
-}
-
 /// Starts a work in a thread of its own. If no thread can be started, `alone` is called, and the work is done here.
 pub fn start<
     's,

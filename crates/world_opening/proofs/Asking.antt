@@ -100,10 +100,10 @@ edge_stopped_at {places} {now} {left} {place} {old} {mid} {new} {f} {g} is so as
     ((places_in left, sym all ∙ sym front), address ∙ so.address)
 
 -- it stopped at the inputs
-pub stopped_early : (inputs edges : List Place) (old new : Asking) (listen : List ℕ) → old.address ≡ None
+pub stopped_early : {Heard : Type 0} (inputs edges : List Place) (old new : Asking) → old.address ≡ None
     → ((rest : List Place) × (old.places ++ inputs ≡ new.places ++ rest)) × (new.address ≡ old.address)
-    → ((rest : List Place) × (old.places ++ (inputs ++ edges) ≡ new.places ++ rest)) × ((new.address ≡ None) ⊎ (new.address ≡ Some listen))
-stopped_early inputs edges old new listen none stopped = (
+    → ((rest : List Place) × (old.places ++ (inputs ++ edges) ≡ new.places ++ rest)) × ((new.address ≡ None) ⊎ Heard)
+stopped_early inputs edges old new none stopped = (
   (
     stopped.0.0 ++ edges,
     sym (append_assoc old.places inputs edges) ∙ ap (λ l. l ++ edges) stopped.0.1 ∙ append_assoc new.places stopped.0.0 edges,

@@ -58,11 +58,12 @@ pub record IsAsking (places left : List Place) (old new : Asking) (faults faults
 abbrev pub dial_of : Option Dial → Option (List Moment)
 dial_of stamps = option_map (λ (dial : Dial). dial.may) stamps
 
--- The places asked for are the first of these. All of them were asked for and the address was listened to, unless it stopped.
+-- The places asked for are the first of these. All of them were asked for and the address was listened to, unless it stopped. If it stopped after it had
+-- listened, listening failed.
 abbrev pub OpenAsks : {X : Type 0} → Result X Stop → Asking → Asking → List Place → List ℕ → Type 0
 OpenAsks (Ok x) old new places listen = (new.places ≡ old.places ++ places) × (new.address ≡ Some listen)
 OpenAsks (Err stop) old new places listen =
-    ((rest : List Place) × (old.places ++ places ≡ new.places ++ rest)) × ((new.address ≡ None) ⊎ (new.address ≡ Some listen))
+    ((rest : List Place) × (old.places ++ places ≡ new.places ++ rest)) × ((new.address ≡ None) ⊎ ((new.address ≡ Some listen) × (stop ≡ Listen)))
 
 -- of a world that was asked nothing before: the places asked for are the first of these
 abbrev pub AsksPrefix : Asking → List Place → List ℕ → Type 0

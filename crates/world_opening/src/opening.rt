@@ -222,6 +222,7 @@ fn open_door<W: World>(world: &mut W, address: Bytes) -> Result<W::Gate, Stop>
     requires { (W.asked world.old).address ≡ None }
 
     // The outcome says what failed, and the counts of faults never fall.
+    ensures stops { IfErr result (λ stop. stop ≡ Stop.Listen) }
     ensures cause { OpeningHasCause result (world_faults (W.input_faults world.old) (W.listen_faults world.old))
         (world_faults (W.input_faults world.new) (W.listen_faults world.new)) }
     ensures faults_stay { FaultsStay (world_faults (W.input_faults world.old) (W.listen_faults world.old))

@@ -26,58 +26,70 @@ floor_of-requires-clause-units g c =
 pub new-requires-2 : goal.new-requires-2
 new-requires-2 g c = record { may = may_give _ _ c.requires.dials; first = c.requires.clock; none = c.open-giver.ensures.giver }
 
-pub set_up-requires-clause-told : goal.set_up-requires-clause-told
-set_up-requires-clause-told g c = each_told (source_facts g.W.In.Source) c.args.ground.lanes.starts.items c.args.ground.lanes.inlets.items c.requires.fresh
+pub set_up-setup-requires-clause-told : goal.set_up-setup-requires-clause-told
+set_up-setup-requires-clause-told g c = each_told (source_facts g.W.In.Source) c.args.ground.lanes.starts.items c.args.ground.lanes.inlets.items c.requires.fresh
 
-pub gather-requires-clause-ran : goal.gather-requires-clause-ran
-gather-requires-clause-ran g c κs within =
-    let same : c.in_ok-setup.setup.starts.items ≡ c.args.ground.lanes.starts.items = cc c.in_ok-setup.ensures.starts in
-    devices_ran_on _ _ g.J.HubNaming.terms c.args.ground.book c.args.numbers.wait _ _ c.args.ground.lanes.inlets.items _ c.requires.terms c.requires.fresh same c.in-Some.ensures.ran
+pub set_up-setup-requires-clause-works : goal.set_up-setup-requires-clause-works
+set_up-setup-requires-clause-works g c = omega (arith, c.len.ensures, c.in-Ok.ensures.works)
 
-pub gather-requires-clause-stamped : goal.gather-requires-clause-stamped
-gather-requires-clause-stamped g c κs within =
-    let same : c.in_ok-setup.setup.starts.items ≡ c.args.ground.lanes.starts.items = cc c.in_ok-setup.ensures.starts in
-    c.in-Some.ensures.stamped (subst AreEmpty (sym same) (empty_first (source_facts g.W.In.Source) _ _ c.requires.fresh))
+pub set_up-setup-requires-clause-runs : goal.set_up-setup-requires-clause-runs
+set_up-setup-requires-clause-runs g c = omega (arith, c.len.ensures, c.in-Ok.ensures.runs)
 
-pub gather-requires-clause-watched : goal.gather-requires-clause-watched
-gather-requires-clause-watched g c κs within =
-    let same : c.in_ok-setup.setup.monitor_starts.items ≡ c.args.ground.monitor_starts.items = cc c.in_ok-setup.ensures.monitor_starts in
-    monitors_ran_on _ g.J.HubNaming.terms c.args.ground.book c.args.ground.lanes.inlets.items c.args.numbers.wait _ _ _ c.requires.terms c.requires.monitor_starts same c.in-Some.ensures.watched
+pub set_up-setup-requires-clause-watching : goal.set_up-setup-requires-clause-watching
+set_up-setup-requires-clause-watching g c = omega (arith, c.len-2.ensures, c.in-Ok.ensures.watching)
 
-pub gather-requires-clause-devices : goal.gather-requires-clause-devices
-gather-requires-clause-devices g c κs within =
-    omega (arith, c.in-Some.ensures.counts.0, ap vec_len c.in_ok-setup.ensures.starts, c.len.ensures, c.in_ok-rooms.ensures.devices)
+pub set_up-setup-requires-clause-watched : goal.set_up-setup-requires-clause-watched
+set_up-setup-requires-clause-watched g c = omega (arith, c.len-2.ensures, c.in-Ok.ensures.watched)
 
-pub gather-requires-clause-monitors : goal.gather-requires-clause-monitors
-gather-requires-clause-monitors g c κs within =
-    omega (arith, c.in-Some.ensures.counts.1, ap vec_len c.in_ok-setup.ensures.monitor_starts, c.len-2.ensures, c.in_ok-rooms.ensures.monitors)
+pub gather-left-requires-clause-ran : goal.gather-left-requires-clause-ran
+gather-left-requires-clause-ran g c κs within =
+    let same : c.set_up-setup.result.starts.items ≡ c.args.ground.lanes.starts.items = cc c.set_up-setup.ensures.starts in
+    devices_ran_on _ _ g.J.HubNaming.terms c.args.ground.book c.args.numbers.wait _ _ c.args.ground.lanes.inlets.items _ c.requires.terms c.requires.fresh same c.in_scope-ended.ensures.ran
 
-pub gather-requires-clause-from : goal.gather-requires-clause-from
-gather-requires-clause-from g c κs within = subst CountFromZero (ap (λ (t : Terms). t.segments) (sym c.requires.terms)) c.requires.from
+pub gather-left-requires-clause-stamped : goal.gather-left-requires-clause-stamped
+gather-left-requires-clause-stamped g c κs within =
+    let same : c.set_up-setup.result.starts.items ≡ c.args.ground.lanes.starts.items = cc c.set_up-setup.ensures.starts in
+    c.in_scope-ended.ensures.stamped (subst AreEmpty (sym same) (empty_first (source_facts g.W.In.Source) _ _ c.requires.fresh))
 
-pub gather-requires-clause-cause : goal.gather-requires-clause-cause
-gather-requires-clause-cause g c κs within e =
-    gate_cause c.in-Some.ended.door.failed (g.W.Gate.Door.faults c.in_ok-setup.setup.door.gate) (g.W.Gate.Door.faults c.in-Some.ended.door.gate) c.in-Some.ensures.fails e
+pub gather-left-requires-clause-watched : goal.gather-left-requires-clause-watched
+gather-left-requires-clause-watched g c κs within =
+    let same : c.set_up-setup.result.monitor_starts.items ≡ c.args.ground.monitor_starts.items = cc c.set_up-setup.ensures.monitor_starts in
+    monitors_ran_on _ g.J.HubNaming.terms c.args.ground.book c.args.ground.lanes.inlets.items c.args.numbers.wait _ _ _ c.requires.terms c.requires.monitor_starts same c.in_scope-ended.ensures.watched
 
-pub gather-requires-clause-sound : goal.gather-requires-clause-sound
-gather-requires-clause-sound g c κs within =
-    let none : g.W.Gate.Door.faults c.in_ok-setup.setup.door.gate ≡ 0 = cc (c.in_ok-setup.ensures.door, c.begin_of-door.ensures.gate, c.requires.sound) in
-    gate_sound c.in-Some.ended.door.failed (g.W.Gate.Door.faults c.in_ok-setup.setup.door.gate) (g.W.Gate.Door.faults c.in-Some.ended.door.gate) c.in-Some.ensures.fails none
+pub gather-left-requires-clause-devices : goal.gather-left-requires-clause-devices
+gather-left-requires-clause-devices g c κs within =
+    omega (arith, c.in_scope-ended.ensures.counts.0, ap vec_len c.set_up-setup.ensures.starts, c.len.ensures, c.in-Ok.ensures.devices)
+
+pub gather-left-requires-clause-monitors : goal.gather-left-requires-clause-monitors
+gather-left-requires-clause-monitors g c κs within =
+    omega (arith, c.in_scope-ended.ensures.counts.1, ap vec_len c.set_up-setup.ensures.monitor_starts, c.len-2.ensures, c.in-Ok.ensures.monitors)
+
+pub gather-left-requires-clause-from : goal.gather-left-requires-clause-from
+gather-left-requires-clause-from g c κs within = subst CountFromZero (ap (λ (t : Terms). t.segments) (sym c.requires.terms)) c.requires.from
+
+pub gather-left-requires-clause-cause : goal.gather-left-requires-clause-cause
+gather-left-requires-clause-cause g c κs within e =
+    gate_cause c.in_scope-ended.result.door.failed (g.W.Gate.Door.faults c.set_up-setup.result.door.gate) (g.W.Gate.Door.faults c.in_scope-ended.result.door.gate) c.in_scope-ended.ensures.fails e
+
+pub gather-left-requires-clause-sound : goal.gather-left-requires-clause-sound
+gather-left-requires-clause-sound g c κs within =
+    let none : g.W.Gate.Door.faults c.set_up-setup.result.door.gate ≡ 0 = cc (c.set_up-setup.ensures.door, c.begin_of-door.ensures.gate, c.requires.sound) in
+    gate_sound c.in_scope-ended.result.door.failed (g.W.Gate.Door.faults c.set_up-setup.result.door.gate) (g.W.Gate.Door.faults c.in_scope-ended.result.door.gate) c.in_scope-ended.ensures.fails none
 
 pub returns-clause-reads : goal.returns-clause-reads
 returns-clause-reads g c =
     let sources = source_facts g.W.In.Source in
-    let same : c.in_ok-setup.setup.starts.items ≡ c.args.ground.lanes.starts.items = cc c.in_ok-setup.ensures.starts in
+    let same : c.set_up-setup.result.starts.items ≡ c.args.ground.lanes.starts.items = cc c.set_up-setup.ensures.starts in
     devices_read sources g.D.Dials.may _ _ _ _ c.requires.fresh
-    (subst (λ starts. AllZip (RanOn g.D.Dials.may sources) starts c.in-Some.ended.runs.items) same c.in-Some.ensures.ran)
-    c.gather.ensures.left
+    (subst (λ starts. AllZip (RanOn g.D.Dials.may sources) starts c.in_scope-ended.result.runs.items) same c.in_scope-ended.ensures.ran)
+    c.gather-left.ensures.left
     (whole_at_end
     (start_with (settings_of g.J.HubNaming.terms c.args.numbers.queue c.args.numbers.tries) g.D.Dials.may g.D.Dials.first (g.W.Gate.Door.links c.of-first.result.value))
-    (world_facts g.W.In.Source g.W.Out.ClientSink g.W.Gate.Door) (back_of c.gather.result) (Some c.gather.result.book) c.gather.ensures.at_end refl)
+    (world_facts g.W.In.Source g.W.Out.ClientSink g.W.Gate.Door) (back_of c.gather-left.result) (Some c.gather-left.result.book) c.gather-left.ensures.at_end refl)
 
 pub returns-clause-at_end : goal.returns-clause-at_end
 returns-clause-at_end g c =
     let settings = settings_of g.J.HubNaming.terms c.args.numbers.queue c.args.numbers.tries in
     subst (λ x. AtEnd (start_with settings g.D.Dials.may g.D.Dials.first (g.W.Gate.Door.links x))
-    (world_facts g.W.In.Source g.W.Out.ClientSink g.W.Gate.Door) (back_of c.gather.result) c.gather.result.book)
-    c.of-first.ensures c.gather.ensures.at_end
+    (world_facts g.W.In.Source g.W.Out.ClientSink g.W.Gate.Door) (back_of c.gather-left.result) c.gather-left.result.book)
+    c.of-first.ensures c.gather-left.ensures.at_end

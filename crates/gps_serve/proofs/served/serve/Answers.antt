@@ -1,14 +1,15 @@
-use Rattle.std.proofs.Common.{◌++◌, ◌∙◌, Ok, Err, Some, ap, is_some, map, arith, subst, sym, ℕ, List}
+use Rattle.std.proofs.Common.{◌++◌, ◌∙◌, Ok, Err, Some, inl, inr, ap, is_some, map, arith, refl, subst, sym, ℕ, List}
 use Rattle.world_opening.specs.Opening.{behind_once, places_in}
 use Rattle.serve_end_settling.specs.Runs.{source_facts}
 use Rattle.gps_serve.specs.AtEnd.{AtEnd, handed_back, settings_in, start_in}
-use Rattle.gps_serve.specs.Facts.{world_facts}
+use Rattle.gps_serve.specs.Facts.{gate_facts, world_facts}
 use Rattle.gps_serve.specs.HandingBack.{back_of}
+use Rattle.gps_serve.specs.Served.{IsUnasked}
 use Rattle.gps_serve.proofs.Taking.{bytes_held, edges_held, edges_there, reads_handed}
-use Rattle.gps_serve.proofs.Asked.{few_of, some_of, still_asked}
+use Rattle.gps_serve.proofs.Asked.{few_of, some_of, still_asked, stopped_at_door}
 use Rattle.gps_serve.proofs.Causes.{none_of}
 use Rattle.gps_serve.proofs.Dials.{told_again}
-use Rattle.gps_serve.proofs.Outcome.{as_handed, each_stop, lacking, unasked, unopened}
+use Rattle.gps_serve.proofs.Outcome.{as_handed, each_stop, gate_as_handed, gate_there, has_book, lacking, still_unasked, unasked, unopened}
 use Rattle.gps_serve.proofs.Whole.{whole_at_end}
 use Rattle.gps_serve.proofs.served.serve.Goals as goal
 use Rattle.std.specs.List.{AllZip}
@@ -125,3 +126,40 @@ returns-in-Err-clause-cause g c =
 
 pub returns-in-Err-prepare-clause-cause : goal.returns-in-Err-prepare-clause-cause
 returns-in-Err-prepare-clause-cause g c = lacking g.W.In.Source.faults g.W.Gate.Door.faults _ _ c.hand_back-in-Err-prepare.result c.hand_back-in-Err-prepare.ensures.cause
+
+pub returns-in-Err-clause-unasked : goal.returns-in-Err-clause-unasked
+returns-in-Err-clause-unasked g c none =
+    gate_as_handed (IsUnasked (gate_facts g.W.Gate.Door) (g.W.World.links c.args.world)) _ (handed_back c.hand_back.result) c.hand_back.ensures.back tt
+
+pub returns-in-Ok-run-clause-unasked : goal.returns-in-Ok-run-clause-unasked
+returns-in-Ok-run-clause-unasked g c none = has_book c.hand_back-in-Ok-run.result.book c.in-Ok-run.end.book c.hand_back-in-Ok-run.ensures.book none
+
+pub returns-in-Err-run-clause-unasked : goal.returns-in-Err-run-clause-unasked
+returns-in-Err-run-clause-unasked g c none =
+    let facts = gate_facts g.W.Gate.Door in
+    let told = g.W.World.links c.args.world in
+    gate_as_handed (IsUnasked facts told) _ (handed_back c.hand_back-in-Err-run.result) c.hand_back-in-Err-run.ensures.back
+    (still_unasked facts told c.in-Ok.outside.gate c.in-Err-run.unstarted.gate c.in-Err-run.ensures.unasked c.in-Ok.ensures.links c.in-Ok.ensures.unused)
+
+pub returns-in-Err-prepare-clause-unasked : goal.returns-in-Err-prepare-clause-unasked
+returns-in-Err-prepare-clause-unasked g c none =
+    let facts = gate_facts g.W.Gate.Door in
+    let told = g.W.World.links c.args.world in
+    gate_as_handed (IsUnasked facts told) _ (handed_back c.hand_back-in-Err-prepare.result) c.hand_back-in-Err-prepare.ensures.back
+    (still_unasked facts told c.in-Ok.outside.gate c.in-Ok.outside.gate refl c.in-Ok.ensures.links c.in-Ok.ensures.unused)
+
+pub returns-in-Err-clause-listened : goal.returns-in-Err-clause-listened
+returns-in-Err-clause-listened g c none some =
+    inl (stopped_at_door {X = Unit {0}} g.W.World.asked (g.W.World.asked c.args.world) c.open.new.world c.hand_back.result.world c.in-Err.stop c.hand_back.result.status
+    (c.args.plan.inputs.items ++ places_in c.args.plan.edges.items) c.args.plan.listen c.in-Err.ensures.asked c.hand_back.ensures.world c.hand_back.ensures.status some)
+
+pub returns-in-Ok-run-clause-listened : goal.returns-in-Ok-run-clause-listened
+returns-in-Ok-run-clause-listened g c none some = has_book c.hand_back-in-Ok-run.result.book c.in-Ok-run.end.book c.hand_back-in-Ok-run.ensures.book none
+
+pub returns-in-Err-run-clause-listened : goal.returns-in-Err-run-clause-listened
+returns-in-Err-run-clause-listened g c none some =
+    inr (gate_there c.in-Err-run.unstarted.gate _ (handed_back c.hand_back-in-Err-run.result) c.hand_back-in-Err-run.ensures.back refl)
+
+pub returns-in-Err-prepare-clause-listened : goal.returns-in-Err-prepare-clause-listened
+returns-in-Err-prepare-clause-listened g c none some =
+    inr (gate_there c.in-Ok.outside.gate _ (handed_back c.hand_back-in-Err-prepare.result) c.hand_back-in-Err-prepare.ensures.back refl)

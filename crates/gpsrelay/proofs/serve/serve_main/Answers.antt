@@ -6,7 +6,7 @@ use Rattle.serve_end_settling.specs.Runs.{source_facts}
 use Rattle.gps_serve.specs.AtEnd.{AtEnd, DaemonSettings, handed_back, settings_in, start_in}
 use Rattle.gps_serve.specs.Facts.{world_facts}
 use Rattle.gpsrelay.specs.Served.{AsksWhole, HaveEdges, HeldBehind}
-use Rattle.gpsrelay.proofs.Serving.{asks_for, asks_whole, for_words, have_edges, held_behind, not_two, one_of_command, refused_or, refused_range, told_for, two_or_seven, two_refused, allowed_for}
+use Rattle.gpsrelay.proofs.Serving.{asks_for, asks_whole, for_words, have_edges, held_behind, no_door, not_two, one_of_command, refused_or, refused_range, told_for, two_or_seven, two_refused, allowed_for, unlistened}
 use Rattle.gps_serve.proofs.Outcome.{unasked}
 use Rattle.gpsrelay.proofs.serve.serve_main.Goals as goal
 
@@ -69,3 +69,17 @@ returns-in-Err-clause-cause g c = unasked g.W.In.Source.faults g.W.Gate.Door.fau
 
 pub returns-in-Err-clause-none : goal.returns-in-Err-clause-none
 returns-in-Err-clause-none g c none = refused_or c.in-Err.fault c.nothing-in-Err.result.status c.nothing-in-Err.ensures.status
+
+pub returns-in-Err-clause-unasked : goal.returns-in-Err-clause-unasked
+returns-in-Err-clause-unasked g c none = no_door _ c.nothing-in-Err.result.gate c.nothing-in-Err.ensures.gate
+
+pub returns-in-Err-plan_of-clause-unasked : goal.returns-in-Err-plan_of-clause-unasked
+returns-in-Err-plan_of-clause-unasked g c none = no_door _ c.nothing.result.gate c.nothing.ensures.gate
+
+pub returns-in-Err-clause-listened : goal.returns-in-Err-clause-listened
+returns-in-Err-clause-listened g c none some =
+    unlistened g.W.World.asked c.args.world c.nothing-in-Err.result.world c.nothing-in-Err.ensures.world c.requires.asked some
+
+pub returns-in-Err-plan_of-clause-listened : goal.returns-in-Err-plan_of-clause-listened
+returns-in-Err-plan_of-clause-listened g c none some =
+    unlistened g.W.World.asked c.args.world c.nothing.result.world c.nothing.ensures.world c.requires.asked some

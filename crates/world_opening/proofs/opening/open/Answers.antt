@@ -6,7 +6,7 @@ use Rattle.world_opening.proofs.Held.{edges_held, inputs_held}
 use Rattle.world_opening.proofs.opening.open.Goals as goal
 
 pub returns-in-Err-clause-asked : goal.returns-in-Err-clause-asked
-returns-in-Err-clause-asked g c = stopped_early c.args.inputs.items (places_in c.args.edges.items) (g.W.World.asked c.args.world.now) (g.W.World.asked c.open_inputs.new.world) c.args.listen
+returns-in-Err-clause-asked g c = stopped_early c.args.inputs.items (places_in c.args.edges.items) (g.W.World.asked c.args.world.now) (g.W.World.asked c.open_inputs.new.world)
     c.requires.address c.in-Err.ensures.asked
 
 pub returns-in-Ok-open_door-clause-held : goal.returns-in-Ok-open_door-clause-held
@@ -33,7 +33,7 @@ returns-in-Err-open_door-clause-asked g c = (
     sym (asked_both _ _ _ _ c.args.inputs.items (places_in c.args.edges.items) c.in-Ok.ensures.asked.0 c.in-Ok-open_edges.ensures.asked.0 c.open_door.ensures.places)
         ∙ sym (append-nil (g.W.World.asked c.open_door.new.world).places),
   ),
-  inr c.open_door.ensures.address,
+  inr (c.open_door.ensures.address, c.in-Err-open_door.ensures.stops),
 )
 
 pub returns-in-Err-open_edges-clause-asked : goal.returns-in-Err-open_edges-clause-asked

@@ -12,12 +12,12 @@ use Rattle.gps_client.specs.Texts.{IsLineOf, object}
 use Rattle.class_counts.specs.declared.counting.Count.{Count}
 use Rattle.class_counts.specs.declared.counting.Stop.{Stop}
 use Rattle.class_counts.specs.declared.counting.Stop.TheVariants.{Bad, NoMemory as NoMemoryStop}
-use Rattle.command_outcome.specs.Calls.{SinkCall, SourceCall}
-use Rattle.command_outcome.specs.Outcomes.{HasCause, NoReadFailed}
-use Rattle.command_outcome.specs.Ends.{HasReadAll, HasReadSoFar}
-use Rattle.command_outcome.specs.declared.outcome.CommandOutcome.{CommandOutcome}
-use Rattle.command_outcome.specs.declared.outcome.CommandOutcome.TheVariants.{BadLine}
-use Rattle.command_outcome.specs.declared.outcome.CommandOutcome.TheVariants as outcome
+use Rattle.gps_outside.specs.Calls.{SinkCall, SourceCall}
+use Rattle.gps_outside.specs.Outcomes.{HasCause, NoReadFailed}
+use Rattle.gps_outside.specs.Ends.{HasReadAll, HasReadSoFar}
+use Rattle.gps_outside.specs.declared.outcome.CommandOutcome.{CommandOutcome}
+use Rattle.gps_outside.specs.declared.outcome.CommandOutcome.TheVariants.{BadLine}
+use Rattle.gps_outside.specs.declared.outcome.CommandOutcome.TheVariants as outcome
 use Rattle.class_counts.specs.declared.reading.Reading.TheVariants as reading
 use Rattle.class_counts.specs.Counted.{Counted, RefusesNone}
 use Rattle.class_counts.specs.Reading.{Reads, most_bytes}

@@ -9,13 +9,13 @@ use Rattle.line_cut.specs.Lines.{has_feed, is_feed, last_lines, lines, open_line
 use Rattle.line_cut.proofs.Splits.{line_lines, line_opens, lines_go_on, lines_none, open_goes_on, open_plain, open_whole}
 use Rattle.line_cut.proofs.Texts.{long_stays}
 use Rattle.gps_client.specs.declared.line.Line.{Line}
-use Rattle.command_outcome.specs.declared.outcome.CommandOutcome.{CommandOutcome}
-use Rattle.command_outcome.specs.declared.outcome.CommandOutcome.TheVariants as outcome
+use Rattle.gps_outside.specs.declared.outcome.CommandOutcome.{CommandOutcome}
+use Rattle.gps_outside.specs.declared.outcome.CommandOutcome.TheVariants as outcome
 use Rattle.class_counts.specs.Counted.{Counted, IsWithin}
 use Rattle.class_counts.specs.Lines.{AreRead, EndsBadly, IsBad, IsRead, Refuses, known_lines, limit, whole_lines}
 use Rattle.class_counts.specs.Reading.{most_bytes}
-use Rattle.command_outcome.specs.Ends.{HasReadAll, HasReadSoFar, IsWithin as HoldsFew}
-use Rattle.command_outcome.proofs.Limits.{no_more}
+use Rattle.gps_outside.specs.Ends.{HasReadAll, HasReadSoFar, IsWithin as HoldsFew}
+use Rattle.gps_outside.proofs.Limits.{no_more}
 
 -- a bad line is not among lines that are read
 no_bad : (v : Line) (line : List ℕ) → IsRead v line → IsBad line → ⊥

@@ -2,9 +2,9 @@
 use Rattle.std.specs.Prelude.{◌≡◌, ℕ, ◌≤◌, ◌⊎◌, List, length, Option, Some, None}
 use Rattle.gps_outside.specs.Told.{Stream, Goes, Appends, AppendsPart}
 use Rattle.gps_client.specs.declared.Line.{Line}
-use Rattle.command_outcome.specs.declared.outcome.CommandOutcome.{CommandOutcome}
-use Rattle.command_outcome.specs.declared.outcome.CommandOutcome.TheVariants.{Done, ReadFault, TooQuiet, WriteFault, Full, BadLine, NoMemory}
-use Rattle.command_outcome.specs.Ends.{Ends}
+use Rattle.gps_outside.specs.declared.outcome.CommandOutcome.{CommandOutcome}
+use Rattle.gps_outside.specs.declared.outcome.CommandOutcome.TheVariants.{Done, ReadFault, TooQuiet, WriteFault, Full, BadLine, NoMemory}
+use Rattle.gps_outside.specs.Ends.{Ends}
 use Rattle.class_counts.specs.Reading.{most_bytes}
 use Rattle.class_counts.specs.Lines.{AreRead, EndsBadly, Refuses, known_lines, whole_lines}
 use Rattle.class_counts.specs.Tallies.{bad_line, summary}

@@ -2,9 +2,9 @@
 use Rattle.std.specs.Prelude.{◌≡◌, ℕ, ◌≤◌, List, length, Option}
 use Rattle.gps_outside.specs.Told.{Stream, Goes, Passes}
 use Rattle.gps_outside.specs.ReadSteps.{PassesMore, TakesSome}
-use Rattle.command_outcome.specs.Calls.{SourceCall}
-use Rattle.command_outcome.specs.Outcomes.{EndsByReadFault, EndsTooQuiet, NoReadFailed}
-use Rattle.command_outcome.specs.Ends.{HasReadAll, HasReadSoFar}
+use Rattle.gps_outside.specs.Calls.{SourceCall}
+use Rattle.gps_outside.specs.Outcomes.{EndsByReadFault, EndsTooQuiet, NoReadFailed}
+use Rattle.gps_outside.specs.Ends.{HasReadAll, HasReadSoFar}
 use Rattle.class_counts.specs.declared.counting.Count.{Count}
 use Rattle.class_counts.specs.declared.reading.Reading.{Reading}
 use Rattle.class_counts.specs.declared.reading.Reading.TheVariants.{End, Stopped, Full, Failed, TooQuiet}

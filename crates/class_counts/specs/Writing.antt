@@ -5,8 +5,8 @@ use Rattle.gps_outside.specs.Told.{Goes, Appends, AppendsPart}
 use Rattle.class_counts.specs.declared.counting.Count.{Count}
 use Rattle.class_counts.specs.declared.counting.Stop.{Stop}
 use Rattle.class_counts.specs.declared.counting.Stop.TheVariants.{Bad, NoMemory as NoMemoryStop}
-use Rattle.command_outcome.specs.declared.outcome.CommandOutcome.{CommandOutcome}
-use Rattle.command_outcome.specs.declared.outcome.CommandOutcome.TheVariants.{Done, ReadFault, TooQuiet, WriteFault, Full, BadLine, NoMemory}
+use Rattle.gps_outside.specs.declared.outcome.CommandOutcome.{CommandOutcome}
+use Rattle.gps_outside.specs.declared.outcome.CommandOutcome.TheVariants.{Done, ReadFault, TooQuiet, WriteFault, Full, BadLine, NoMemory}
 use Rattle.class_counts.specs.Tallies.{bad_line, kept_number, numbers_text}
 
 -- the text was written, with which the count was to end so; or a prefix of it, as the sink failed; or, out of memory, nothing

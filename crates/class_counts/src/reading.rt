@@ -1,5 +1,5 @@
 ghost use Rattle.std.specs.Prelude.{◌≡◌, ◌≤◌, []};
-ghost use Rattle.command_outcome.specs.Calls.{source_call};
+ghost use Rattle.gps_outside.specs.Calls.{source_call};
 ghost use Rattle.class_counts.specs.Reading.{ReadCause, Reads};
 ghost use Rattle.class_counts.specs.Standing.{CountStands};
 

@@ -1,8 +1,8 @@
 ghost use Rattle.std.specs.Prelude.{◌≡◌, ◌≢◌, ◌≤◌, ◌==◌, List, ℕ, length, not};
 ghost use Rattle.line_cut.specs.Lines.{open_line};
-ghost use Rattle.command_outcome.specs.Calls.{sink_call, source_call};
-ghost use Rattle.command_outcome.specs.Outcomes.{HasCause};
-ghost use Rattle.command_outcome.specs.declared.outcome.CommandOutcome.{CommandOutcome};
+ghost use Rattle.gps_outside.specs.Calls.{sink_call, source_call};
+ghost use Rattle.gps_outside.specs.Outcomes.{HasCause};
+ghost use Rattle.gps_outside.specs.declared.outcome.CommandOutcome.{CommandOutcome};
 ghost use Rattle.class_counts.specs.Standing.{CountStands};
 ghost use Rattle.class_counts.specs.Counted.{Counted, IsWithin};
 ghost use Rattle.class_counts.specs.Writing.{EndsWith, StopsWith, WriteCause};
@@ -10,8 +10,7 @@ ghost use Rattle.class_counts.specs.Writing.{EndsWith, StopsWith, WriteCause};
 use crate::counting::{Count, Stop};
 use crate::reading::{Reading, read_lines};
 use crate::writing::{refuse, report};
-use command_outcome::CommandOutcome;
-use gps_outside::{Sink, Source};
+use gps_outside::{CommandOutcome, Sink, Source};
 use std::alloc::Global;
 
 /// Ends a count at its first bad line, or when out of memory.

@@ -1,12 +1,11 @@
 ghost use Rattle.std.specs.Prelude.{◌≡◌, ◌≤◌, ◌+◌, IfOk};
-ghost use Rattle.command_outcome.specs.declared.outcome.CommandOutcome.{CommandOutcome};
+ghost use Rattle.gps_outside.specs.declared.outcome.CommandOutcome.{CommandOutcome};
 ghost use Rattle.class_counts.specs.Tallies.{bad_line, kept_number, numbers_text};
 ghost use Rattle.class_counts.specs.Writing.{Closes, WriteCause, bad_behind};
 
 use crate::tally::Tally;
-use command_outcome::CommandOutcome;
 use gps_fixed::{Bytes, NoMemory, push_decimal};
-use gps_outside::{Sink, write_all};
+use gps_outside::{CommandOutcome, Sink, write_all};
 use std::alloc::Global;
 
 /// `bad line N`, after the given number of good lines.

@@ -11,8 +11,8 @@ use Rattle.packet_cut.specs.Packets.{bytes_of}
 use Rattle.device_core.specs.Reports.{device_close, device_reports}
 use Rattle.device_core.specs.Stream.{bytes_in}
 use Rattle.pseudo_nmea.specs.Sentences.{pseudo}
-use Rattle.pseudo_laws.specs.Fixes.{AreApart, AreSayable, lines_shown, sentences_of as sentences_of_fixes}
-use Rattle.pseudo_laws.proofs.Cut.{lines_back}
+use Rattle.command_laws.specs.Fixes.{AreApart, AreSayable, lines_shown, sentences_of as sentences_of_fixes}
+use Rattle.command_laws.proofs.Cut.{lines_back}
 use Rattle.gps_decode.specs.Texts.{line_of, sentences_of, texts_to_end}
 use Rattle.command_laws.specs.Composed.{fix_in, fixes_to_end, reports_to_end, spoken_lines, stdin}
 

@@ -4,3 +4,6 @@ pub mod Midst
 pub mod Numbers
 pub mod Piped
 pub mod Plain
+pub mod Notes
+pub mod Cut
+pub mod Crossing

@@ -9,7 +9,7 @@ use Rattle.device_core.specs.Stream.{bytes_in, piece}
 use Rattle.device_core.proofs.Streams.{bytes_join}
 use Rattle.gps_decode.specs.Readings.{Reading, bytes_of as bytes_read, stream_of}
 use Rattle.gps_decode.specs.Texts.{line_of, sentences_of, texts_to_end}
-use Rattle.command_outcome.specs.declared.outcome.CommandOutcome.TheVariants.{BadLine, Done, Full}
+use Rattle.gps_outside.specs.declared.outcome.CommandOutcome.TheVariants.{BadLine, Done, Full}
 use Rattle.class_counts.specs.Counted.{Counted}
 use Rattle.class_counts.specs.Lines.{AreRead, whole_lines}
 use Rattle.class_counts.specs.Tallies.{numbers_text, summary}

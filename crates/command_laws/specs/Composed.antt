@@ -11,7 +11,7 @@ use Rattle.json_line.specs.Lines.{is_sky, is_tpv}
 use Rattle.epoch_core.specs.declared.heard.Heard.{Heard}
 use Rattle.epoch_core.specs.Days.{Dated, dated}
 use Rattle.device_core.specs.Reports.{device_close, device_reports}
-use Rattle.pseudo_laws.specs.Fixes.{lines_of}
+use Rattle.command_laws.specs.Fixes.{lines_of}
 use Rattle.gps_decode.specs.Texts.{line_of}
 use Rattle.gps_client.specs.declared.line.Line.{Line}
 use Rattle.class_counts.specs.Lines.{AreRead, whole_lines}

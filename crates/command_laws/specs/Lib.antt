@@ -1,2 +1,4 @@
 pub mod Composed
 pub mod Pipes
+pub mod Fixes
+pub mod Sessions

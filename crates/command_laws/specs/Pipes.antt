@@ -3,9 +3,9 @@ use Rattle.std.specs.Prelude.{◌≡◌, ◌≢◌, ℕ, ◌≤◌, List, [], �
 use Rattle.std.specs.List.{AllByRecursion}
 use Rattle.gps_outside.specs.Ticks.{Dial}
 use Rattle.gps_outside.specs.Told.{Stream}
-use Rattle.pseudo_laws.specs.Fixes.{AreApart, AreSayable}
-use Rattle.command_outcome.specs.declared.outcome.CommandOutcome.{CommandOutcome}
-use Rattle.command_outcome.specs.declared.outcome.CommandOutcome.TheVariants.{BadLine, Done, Full}
+use Rattle.command_laws.specs.Fixes.{AreApart, AreSayable}
+use Rattle.gps_outside.specs.declared.outcome.CommandOutcome.{CommandOutcome}
+use Rattle.gps_outside.specs.declared.outcome.CommandOutcome.TheVariants.{BadLine, Done, Full}
 use Rattle.gps_decode.specs.Decode.{Decoded}
 use Rattle.gps_decode.specs.Readings.{stream_of}
 use Rattle.gps_decode.specs.Texts.{line_of, sentences_of}

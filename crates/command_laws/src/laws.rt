@@ -12,7 +12,7 @@ ghost use Rattle.epoch_core.specs.Fixes.{fix_of};
 ghost use Rattle.epoch_core.specs.Quantities.{said};
 ghost use Rattle.device_core.specs.Stream.{bytes_in};
 ghost use Rattle.pseudo_nmea.specs.Fitting.{IsFitting, IsSayable};
-ghost use Rattle.pseudo_laws.specs.Fixes.{AreApart, AreSayable};
+ghost use Rattle.command_laws.specs.Fixes.{AreApart, AreSayable};
 ghost use Rattle.gps_decode.specs.Texts.{line_of, sentences_of, texts_to_end};
 ghost use Rattle.gps_client.specs.History.{IsStream};
 ghost use Rattle.command_laws.specs.Composed.{alone_after, fixes_and_skies, fixes_to_end, HasNumbers, HasShortLine, reports_to_end, spoken_lines};

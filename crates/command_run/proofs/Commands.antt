@@ -4,12 +4,12 @@ use Rattle.gps_outside.specs.Told.{Stream}
 use Rattle.gps_outside.specs.Ticks.{Dial}
 use Rattle.gps_outside.proofs.Writing.{appends_none, part_of}
 use Rattle.line_cut.specs.Lines.{lines as lines_in_text, open_line}
-use Rattle.command_outcome.specs.Calls.{ClockCall, SinkCall, SinkState, SourceCall, SourceState}
-use Rattle.command_outcome.specs.declared.outcome.CommandOutcome.{CommandOutcome}
-use Rattle.command_outcome.specs.declared.outcome.CommandOutcome.TheVariants.{NoMemory}
-use Rattle.command_outcome.specs.Outcomes.{NothingFailed, NothingFails, StatusHasCause, status_of}
-use Rattle.command_outcome.proofs.Limits.{passes_none}
-use Rattle.command_outcome.proofs.Statuses as by_outcome
+use Rattle.gps_outside.specs.Calls.{ClockCall, SinkCall, SinkState, SourceCall, SourceState}
+use Rattle.gps_outside.specs.declared.outcome.CommandOutcome.{CommandOutcome}
+use Rattle.gps_outside.specs.declared.outcome.CommandOutcome.TheVariants.{NoMemory}
+use Rattle.gps_outside.specs.Outcomes.{NothingFailed, NothingFails, StatusHasCause, status_of}
+use Rattle.gps_outside.proofs.Limits.{passes_none}
+use Rattle.gps_outside.proofs.Statuses as by_outcome
 use Rattle.gps_words.specs.declared.command.CommandLine.{CommandLine}
 use Rattle.gps_words.specs.declared.command.CommandLine.TheVariants.{Decode, Pseudo, Replay, Generate, Lines}
 use Rattle.class_counts.specs.Counted.{Counted}

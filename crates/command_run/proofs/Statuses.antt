@@ -1,12 +1,12 @@
 -- How a command ends if nothing outside fails.
 use Rattle.std.proofs.Common.{◌≡◌, ◌≢◌, ℕ, ◌⊎◌, inl, inr, refl, sym, ap}
-use Rattle.command_outcome.specs.Calls.{ClockCall, ContentsSatisfy, SinkCall, SourceCall}
-use Rattle.command_outcome.specs.declared.outcome.CommandOutcome.{CommandOutcome}
-use Rattle.command_outcome.specs.declared.outcome.CommandOutcome.TheVariants.{Done, ReadFault, TooQuiet, WriteFault, Full, BadLine, NoMemory}
-use Rattle.command_outcome.specs.Ends.{IsWithin}
-use Rattle.command_outcome.specs.Outcomes.{status_of, HasCause, HasLateCause, NothingFails}
-use Rattle.command_outcome.proofs.Limits.{no_more}
-use Rattle.command_outcome.proofs.Statuses.{has_cause, has_late_cause, neither, none_read, others}
+use Rattle.gps_outside.specs.Calls.{ClockCall, ContentsSatisfy, SinkCall, SourceCall}
+use Rattle.gps_outside.specs.declared.outcome.CommandOutcome.{CommandOutcome}
+use Rattle.gps_outside.specs.declared.outcome.CommandOutcome.TheVariants.{Done, ReadFault, TooQuiet, WriteFault, Full, BadLine, NoMemory}
+use Rattle.gps_outside.specs.Ends.{IsWithin}
+use Rattle.gps_outside.specs.Outcomes.{status_of, HasCause, HasLateCause, NothingFails}
+use Rattle.gps_outside.proofs.Limits.{no_more}
+use Rattle.gps_outside.proofs.Statuses.{has_cause, has_late_cause, neither, none_read, others}
 use Rattle.class_counts.specs.Counted.{Counted, IsWithin as AreLinesWithin}
 use Rattle.class_counts.proofs.Within.{within}
 use Rattle.gps_decode.specs.Decode.{AreReads, Decoded}

@@ -1,10 +1,10 @@
 -- What each command does, by how it ended: what must have happened outside, and what was read and written.
 use Rattle.std.specs.Prelude.{◌≡◌, ℕ, ◌⊎◌, Option}
 use Rattle.gps_outside.specs.Told.{Stream}
-use Rattle.command_outcome.specs.Calls.{ClockCall, ContentsSatisfy, SinkCall, SourceCall}
-use Rattle.command_outcome.specs.declared.outcome.CommandOutcome.{CommandOutcome}
-use Rattle.command_outcome.specs.Ends.{IsWithin}
-use Rattle.command_outcome.specs.Outcomes.{status_of, HasCause, HasLateCause}
+use Rattle.gps_outside.specs.Calls.{ClockCall, ContentsSatisfy, SinkCall, SourceCall}
+use Rattle.gps_outside.specs.declared.outcome.CommandOutcome.{CommandOutcome}
+use Rattle.gps_outside.specs.Ends.{IsWithin}
+use Rattle.gps_outside.specs.Outcomes.{status_of, HasCause, HasLateCause}
 use Rattle.gps_words.specs.declared.command.CommandLine.{CommandLine}
 use Rattle.gps_words.specs.declared.command.CommandLine.TheVariants.{Decode, Pseudo, Replay, Generate, Lines}
 use Rattle.class_counts.specs.Counted.{Counted, IsWithin as AreLinesWithin}

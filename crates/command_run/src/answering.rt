@@ -1,11 +1,10 @@
 ghost use Rattle.std.specs.Prelude.{map};
 ghost use Rattle.std.specs.List.{concat};
-ghost use Rattle.command_outcome.specs.Outcomes.{status_of};
+ghost use Rattle.gps_outside.specs.Outcomes.{status_of};
 ghost use Rattle.command_run.specs.Answers.{WritesAnswer};
 
 use crate::reasons::say;
-use command_outcome::CommandOutcome;
-use gps_outside::{Sink, write_all};
+use gps_outside::{CommandOutcome, Sink, write_all};
 use std::io::Eprint;
 
 /// Writes parts that follow one another.

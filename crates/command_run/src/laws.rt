@@ -1,9 +1,9 @@
 //! What follows from the clauses of [`run`](crate::run), as contracts of functions that do nothing.
 
 ghost use Rattle.std.specs.Prelude.{◌≡◌, ℕ};
-ghost use Rattle.command_outcome.specs.Calls.{ClockCall, SinkCall, SourceCall, WriteFailed};
-ghost use Rattle.command_outcome.specs.Outcomes.{HasReadCause, NothingFails, StatusHasCause, status_of};
-ghost use Rattle.command_outcome.specs.declared.outcome.CommandOutcome.{CommandOutcome};
+ghost use Rattle.gps_outside.specs.Calls.{ClockCall, SinkCall, SourceCall, WriteFailed};
+ghost use Rattle.gps_outside.specs.Outcomes.{HasReadCause, NothingFails, StatusHasCause, status_of};
+ghost use Rattle.gps_outside.specs.declared.outcome.CommandOutcome.{CommandOutcome};
 ghost use Rattle.command_run.specs.Commands.{Does, EndsAt};
 ghost use Rattle.gps_words.specs.declared.command.CommandLine.{CommandLine};
 

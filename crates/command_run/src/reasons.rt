@@ -3,11 +3,10 @@
 
 use crate::run_outcome::RunOutcome;
 use crate::streams::{CountedInput, CountedOutput};
-use command_outcome::CommandOutcome;
+use class_counts::Finding;
 use gps_help::{COMMANDS, EXAMPLES, OTHERS, Refusal, SERVE, USAGE, refused};
-use gps_outside::{Sink, Source};
+use gps_outside::{CommandOutcome, Sink, Source};
 use gps_words::{CommandLine, asked};
-use packet_counts::Finding;
 use std::alloc::Global;
 use std::fs::{self, File};
 use std::io::Eprint;

@@ -1,7 +1,7 @@
 ghost use Rattle.std.specs.Prelude.{◌≡◌};
 ghost use Rattle.command_run.specs.Commands.{run_status};
 
-use command_outcome::CommandOutcome;
+use gps_outside::CommandOutcome;
 
 /// The status of an invalid command line.
 pub const REFUSED: u8 = 2;

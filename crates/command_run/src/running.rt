@@ -2,17 +2,16 @@ ghost use Rattle.std.specs.Prelude.{◌≡◌, ◌≤◌, ◌⊎◌, Some, None,
 ghost use Rattle.gps_words.specs.Asked.{asked_of};
 ghost use Rattle.gps_words.specs.Within.{IsInRange};
 ghost use Rattle.gps_words.specs.declared.command.CommandLine.{CommandLine};
-ghost use Rattle.command_outcome.specs.Calls.{clock_call, sink_call, source_call};
-ghost use Rattle.command_outcome.specs.Outcomes.{CountsStay, NothingFails, StatusHasCause, status_of};
-ghost use Rattle.command_outcome.specs.declared.outcome.CommandOutcome.{CommandOutcome};
+ghost use Rattle.gps_outside.specs.Calls.{clock_call, sink_call, source_call};
+ghost use Rattle.gps_outside.specs.Outcomes.{CountsStay, NothingFails, StatusHasCause, status_of};
+ghost use Rattle.gps_outside.specs.declared.outcome.CommandOutcome.{CommandOutcome};
 ghost use Rattle.command_run.specs.Commands.{Does, EndedAs, IsWithinLimits};
 ghost use Rattle.command_run.specs.declared.run_outcome.RunOutcome.{RunOutcome};
 
 use crate::run_outcome::RunOutcome;
 use class_counts::count_lines;
-use command_outcome::CommandOutcome;
 use gps_decode::{decode, pseudo};
-use gps_outside::{Clock, Sink, Source};
+use gps_outside::{Clock, CommandOutcome, Sink, Source};
 use gps_replay::{generate, replay};
 use gps_words::{CommandLine, WordsFault, asked};
 use std::alloc::Global;

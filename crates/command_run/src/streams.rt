@@ -4,8 +4,8 @@
 ghost use Rattle.std.specs.Prelude.{◌≡◌, ◌≤◌, length};
 
 use crate::progress::Progress;
+use class_counts::FirstBytes;
 use gps_outside::{ReadStep, Sink, Source, WriteStep};
-use packet_counts::FirstBytes;
 use std::alloc::Global;
 use std::io::Eprint;
 use std::time;

@@ -1,9 +1,9 @@
 -- What the counts of the source and of the sink say when `decode` breaks off.
 use Rattle.std.proofs.Common.{◌≡◌, ℕ, Err, inl, sym, subst}
 use Rattle.gps_outside.specs.Counts.{Rose}
-use Rattle.command_outcome.specs.Calls.{SinkCall, SourceCall}
-use Rattle.command_outcome.specs.declared.outcome.CommandOutcome.{CommandOutcome}
-use Rattle.command_outcome.specs.Outcomes.{HasCause, HasLateCause, NoReadFailed}
+use Rattle.gps_outside.specs.Calls.{SinkCall, SourceCall}
+use Rattle.gps_outside.specs.declared.outcome.CommandOutcome.{CommandOutcome}
+use Rattle.gps_outside.specs.Outcomes.{HasCause, HasLateCause, NoReadFailed}
 use Rattle.gps_decode.specs.declared.fault.Fault.{Fault}
 use Rattle.gps_decode.specs.declared.fault.Fault.TheVariants.{Sink, NoMemory}
 use Rattle.gps_decode.specs.Decode.{WriteCause}

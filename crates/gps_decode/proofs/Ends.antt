@@ -14,16 +14,16 @@ use Rattle.device_core.specs.Stream.{piece}
 use Rattle.device_core.specs.Reports.{reports_from, device_close}
 use Rattle.device_core.specs.Standing.{DeviceKept, StandsFor}
 use Rattle.device_core.proofs.Streams.{reports-append}
-use Rattle.command_outcome.specs.declared.outcome.CommandOutcome.{CommandOutcome}
-use Rattle.command_outcome.specs.declared.outcome.CommandOutcome.TheVariants.{Done, ReadFault, TooQuiet as QuietOutcome, WriteFault, Full, NoMemory}
+use Rattle.gps_outside.specs.declared.outcome.CommandOutcome.{CommandOutcome}
+use Rattle.gps_outside.specs.declared.outcome.CommandOutcome.TheVariants.{Done, ReadFault, TooQuiet as QuietOutcome, WriteFault, Full, NoMemory}
 use Rattle.gps_decode.specs.declared.fault.Fault.{Fault}
 use Rattle.gps_decode.specs.declared.fault.Fault.TheVariants.{Sink, NoMemory as NoMemoryFault}
 use Rattle.gps_decode.specs.Outcomes.{outcome_of}
 use Rattle.gps_decode.specs.Readings.{ArePieces, PassHistory, Reading, bytes_of, stamps_of, stream_of}
 use Rattle.gps_decode.specs.Texts.{Texts, texts_of, texts_so_far, texts_to_end}
-use Rattle.command_outcome.specs.Ends.{BreaksOff, HasReadSoFar}
+use Rattle.gps_outside.specs.Ends.{BreaksOff, HasReadSoFar}
 use Rattle.gps_decode.specs.Decode.{Decoded, HandsOn, Written}
-use Rattle.command_outcome.proofs.Limits.{passes_none}
+use Rattle.gps_outside.proofs.Limits.{passes_none}
 use Rattle.gps_decode.proofs.UnderWay.{UnderWay, with_next, bytes_next, stream_next, pieces_next, is_piece, passes_history, no_stamps, stamps_on, texts_next, no_texts}
 
 module _ (says : Texts) where

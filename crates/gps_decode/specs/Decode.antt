@@ -9,9 +9,9 @@ use Rattle.gps_outside.specs.Waiting.{Waits}
 use Rattle.gps_outside.specs.Ticks.{Dial, GivesAll}
 use Rattle.device_core.specs.Reports.{Gains}
 use Rattle.device_core.specs.Standing.{DeviceKept, StandsFor}
-use Rattle.command_outcome.specs.declared.outcome.CommandOutcome.{CommandOutcome}
-use Rattle.command_outcome.specs.declared.outcome.CommandOutcome.TheVariants.{Done, ReadFault, TooQuiet, WriteFault, Full, BadLine, NoMemory}
-use Rattle.command_outcome.specs.Ends.{Ends, Wrote}
+use Rattle.gps_outside.specs.declared.outcome.CommandOutcome.{CommandOutcome}
+use Rattle.gps_outside.specs.declared.outcome.CommandOutcome.TheVariants.{Done, ReadFault, TooQuiet, WriteFault, Full, BadLine, NoMemory}
+use Rattle.gps_outside.specs.Ends.{Ends, Wrote}
 use Rattle.gps_decode.specs.declared.fault.Fault.{Fault}
 use Rattle.gps_decode.specs.declared.fault.Fault.TheVariants.{Sink, NoMemory as NoMemoryFault}
 use Rattle.gps_decode.specs.Readings.{ArePieces, PassHistory, Reading, bytes_of, stamps_of, stream_of}

@@ -1,6 +1,6 @@
 -- How `decode` and `pseudo` end by a fault.
-use Rattle.command_outcome.specs.declared.outcome.CommandOutcome.{CommandOutcome}
-use Rattle.command_outcome.specs.declared.outcome.CommandOutcome.TheVariants.{WriteFault, NoMemory}
+use Rattle.gps_outside.specs.declared.outcome.CommandOutcome.{CommandOutcome}
+use Rattle.gps_outside.specs.declared.outcome.CommandOutcome.TheVariants.{WriteFault, NoMemory}
 use Rattle.gps_decode.specs.declared.fault.Fault.{Fault}
 use Rattle.gps_decode.specs.declared.fault.Fault.TheVariants as fault
 

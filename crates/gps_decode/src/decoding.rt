@@ -5,15 +5,14 @@ ghost use Rattle.device_core.specs.Standing.{StandsFor};
 ghost use Rattle.device_core.specs.Reports.{device_close};
 ghost use Rattle.gps_decode.specs.Texts.{line_of, sentences_of, texts_by, texts_of};
 ghost use Rattle.gps_decode.specs.Decode.{Decoded, HandsOn, WriteCause, Written};
-ghost use Rattle.command_outcome.specs.Calls.{sink_call, source_call};
-ghost use Rattle.command_outcome.specs.Outcomes.{HasLateCause};
+ghost use Rattle.gps_outside.specs.Calls.{sink_call, source_call};
+ghost use Rattle.gps_outside.specs.Outcomes.{HasLateCause};
 
 use crate::fault::Fault;
 use crate::texts::{Draft, Output};
-use command_outcome::CommandOutcome;
 use device_core::Device;
 use gps_fixed::Stamp;
-use gps_outside::{Clock, Intake, IntakeStep, Sink, Source};
+use gps_outside::{Clock, CommandOutcome, Intake, IntakeStep, Sink, Source};
 use std::alloc::Global;
 
 /// Feeds the device with the bytes of one read, and adds what is written of its gains.

@@ -1,7 +1,7 @@
 ghost use Rattle.std.specs.Prelude.{◌≡◌};
 ghost use Rattle.gps_decode.specs.Outcomes.{outcome_of};
 
-use command_outcome::CommandOutcome;
+use gps_outside::CommandOutcome;
 
 /// Why lines were not written.
 #[derive(Clone, Copy, Debug, PartialEq, Eq)]

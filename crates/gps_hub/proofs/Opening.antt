@@ -16,7 +16,7 @@ use Rattle.report_book.specs.Refusals.{RefusesWith, crowd_fault}
 use Rattle.report_book.specs.Standing.{BookHolds}
 use Rattle.report_book.specs.declared.fault.BookFault.{BookFault}
 use Rattle.report_book.specs.declared.fault.BookFault.TheVariants.{TooManySessions, NoMemory}
-use Rattle.serve_pieces.specs.declared.piece.Piece.{Piece}
+use Rattle.gps_lane.specs.declared.piece.Piece.{Piece}
 use Rattle.session_core.specs.Naming.{of_table, table_of}
 use Rattle.hub_promise.specs.Keeping.{HubKeeps, Lasts}
 use Rattle.hub_promise.specs.Parts.{AreAdmitted, HubView, Terms, subject_of}

@@ -11,7 +11,7 @@ use Rattle.report_book.specs.BookView.{BookView}
 use Rattle.report_book.specs.Moves.{HangsUp}
 use Rattle.session_core.specs.declared.mark.Close.{Close}
 use Rattle.session_core.specs.declared.mark.Close.TheVariants.{NoMemory as CloseNoMemory}
-use Rattle.serve_pieces.specs.declared.piece.Piece.{Piece}
+use Rattle.gps_lane.specs.declared.piece.Piece.{Piece}
 use Rattle.hub_promise.specs.declared.ends.DeviceEnd.{DeviceEnd}
 use Rattle.hub_promise.specs.DaemonHub.{DeviceFits, MayGoOn}
 use Rattle.hub_promise.specs.Keeping.{IsClosed, Lasts, end_told, told_of}

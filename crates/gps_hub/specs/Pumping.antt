@@ -10,8 +10,8 @@ use Rattle.report_book.specs.declared.fault.BookFault.{BookFault}
 use Rattle.report_book.specs.declared.fault.BookFault.TheVariants.{NoMemory}
 use Rattle.report_book.specs.BookView.{BookView}
 use Rattle.report_book.specs.Moves.{HangsUp, AnswersRequests}
-use Rattle.serve_pieces.specs.declared.piece.Piece.{Piece}
-use Rattle.serve_pieces.specs.declared.piece.Piece.TheVariants.{Bytes as BytesPiece, Line, Input, Last}
+use Rattle.gps_lane.specs.declared.piece.Piece.{Piece}
+use Rattle.gps_lane.specs.declared.piece.Piece.TheVariants.{Bytes as BytesPiece, Line, Input, Last}
 use Rattle.session_core.specs.declared.mark.Close.{Close}
 use Rattle.session_core.specs.declared.mark.Close.TheVariants.{NoMemory as CloseNoMemory}
 use Rattle.hub_promise.specs.declared.ends.DeviceEnd.{DeviceEnd}

@@ -13,10 +13,9 @@ ghost use Rattle.gps_hub.specs.Admitting.{ShutIf, fault_or_memory};
 
 use crate::open_sessions::OpenSessions;
 use gps_fixed::NoMemory;
-use gps_lane::{Rx, Tx};
+use gps_lane::{Piece, Rx, Tx};
 use hub_door::{DoorNaming, DoorSeat, Keeper};
 use report_book::{Book, BookFault};
-use serve_pieces::Piece;
 use session_core::Item;
 use std::sync::Wait;
 

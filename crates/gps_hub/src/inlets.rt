@@ -3,9 +3,8 @@ ghost use Rattle.hub_promise.specs.Keeping.{LaneIsRead, fresh_lasts, no_end};
 ghost use Rattle.gps_hub.specs.Pumping.{MatchNext};
 
 use gps_fixed::NoMemory;
-use gps_lane::Rx;
+use gps_lane::{Ending, Piece, Rx};
 use hub_promise::DeviceEnd;
-use serve_pieces::{Ending, Piece};
 use std::alloc::Global;
 use std::marker::Model;
 use std::sync::Wait;
@@ -92,7 +91,7 @@ pub(crate) fn no_ends<R>(
 
 impl<R: Wait + Copy> Inlets<R> {
     /// What was received from the lanes is a prefix of what their sources hold.
-    #[tactic(auto, using(serve_pieces::proofs::Held::begun_held))]
+    #[tactic(auto, using(gps_lane::proofs::Held::begun_held))]
     pub(crate) fn show_read(&self)
         ensures { LaneIsRead self.now }
     {

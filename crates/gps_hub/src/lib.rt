@@ -14,6 +14,7 @@ mod pumped;
 mod session;
 mod settling;
 
+pub use gps_lane::{Ending, Piece};
 pub use hub::Hub;
 pub use hub_door::{DoorNaming, DoorSeat, DoorTable};
 pub use hub_promise::DeviceEnd;
@@ -22,4 +23,3 @@ pub use naming::HubNaming;
 pub use open_sessions::Look;
 pub use parted::Parted;
 pub use pumped::Pumped;
-pub use serve_pieces::{Ending, Piece};

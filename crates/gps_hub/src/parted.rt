@@ -1,8 +1,7 @@
 use crate::inlets::Inlets;
-use gps_lane::{Rx, Tx};
+use gps_lane::{Piece, Rx, Tx};
 use hub_promise::DeviceEnd;
 use report_book::Book;
-use serve_pieces::Piece;
 use session_core::Item;
 use std::sync::Wait;
 

@@ -7,18 +7,17 @@ ghost use Rattle.report_book.specs.Allowing.{MayInput};
 ghost use Rattle.report_book.specs.Moves.{HangsUp};
 ghost use Rattle.report_book.specs.Refusals.{session_fault};
 ghost use Rattle.report_book.specs.declared.fault.BookFault.TheVariants.{NoMemory as BookNoMemory};
-ghost use Rattle.serve_pieces.specs.declared.piece.Piece.TheVariants.{Input, Last};
+ghost use Rattle.gps_lane.specs.declared.piece.Piece.TheVariants.{Input, Last};
 ghost use Rattle.session_core.specs.declared.mark.Close.{Close as CloseValue};
 ghost use Rattle.hub_promise.specs.Steps.{SessionStep, with_got};
-ghost use Rattle.serve_pieces.specs.Held.{AreDue};
+ghost use Rattle.gps_lane.specs.Held.{AreDue};
 ghost use Rattle.hub_promise.specs.Given.{why_of};
 ghost use Rattle.hub_promise.specs.Giving.{MayHearNext};
 ghost use Rattle.gps_hub.specs.Pumping.{LookedAt, TookInput};
 
 use crate::pumped::Pumped;
-use gps_lane::{Rx, Tx};
+use gps_lane::{Chunk, Ending, Piece, Rx, Tx};
 use report_book::{Book, BookFault};
-use serve_pieces::{Chunk, Ending, Piece};
 use session_core::{Close, Item};
 use std::sync::Wait;
 
@@ -97,7 +96,7 @@ fn take_input<R: Wait + Copy>(book: &mut Book<Tx<Item, R>>, s: u32, piece: Piece
 
 /// Gets a piece of a session's input lane, if there is one, and gives it to the book. What was received from the lane is a prefix of what its
 /// source holds.
-#[tactic(auto, using(serve_pieces::proofs::Held::begun_held))]
+#[tactic(auto, using(gps_lane::proofs::Held::begun_held))]
 pub(crate) fn pump<R: Wait + Copy>(
     book: &mut Book<Tx<Item, R>>,
     input: &mut Rx<Piece, R>,

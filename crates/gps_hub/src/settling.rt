@@ -3,14 +3,13 @@ ghost use Rattle.std.specs.Prelude.{◌≡◌, ◌<◌, ◌++◌, length, get_or
 ghost use Rattle.std.specs.Option.{option_to_list};
 ghost use Rattle.book_sessions.specs.MemberView.{MemberView};
 ghost use Rattle.session_core.specs.Naming.{table_of};
-ghost use Rattle.serve_pieces.specs.Held.{AreDue};
+ghost use Rattle.gps_lane.specs.Held.{AreDue};
 ghost use Rattle.hub_promise.specs.Given.{TellsOnce};
 ghost use Rattle.hub_promise.specs.Steps.{GetsMore};
 ghost use Rattle.gps_hub.specs.Emptied.{GotAll};
 
-use gps_lane::{Rx, Tx, settle_or_close};
+use gps_lane::{Piece, Rx, Tx, settle_or_close};
 use report_book::Book;
-use serve_pieces::Piece;
 use session_core::Item;
 use std::sync::Wait;
 
@@ -62,7 +61,7 @@ fn empty<R: Wait + Copy>(pieces: &mut Tx<Piece, R>, input: &mut Rx<Piece, R>)
 }
 
 /// The same, and what was received from the lane is a prefix of what its source holds.
-#[tactic(auto, using(serve_pieces::proofs::Held::begun_held))]
+#[tactic(auto, using(gps_lane::proofs::Held::begun_held))]
 pub(crate) fn empty_and_show<R: Wait + Copy>(pieces: &mut Tx<Piece, R>, input: &mut Rx<Piece, R>)
     requires one_lane { input.old.lane ≡ pieces.old.lane }
     requires once { TellsOnce pieces.old.put }

@@ -3,3 +3,5 @@ pub mod Writing
 pub mod Streams
 pub mod Dials
 pub mod ReadSteps
+pub mod Statuses
+pub mod Limits

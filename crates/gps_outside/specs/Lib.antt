@@ -12,3 +12,6 @@ pub mod ReadSteps
 pub mod Links
 pub mod DoorPlans
 pub mod Sent
+pub mod Calls
+pub mod Outcomes
+pub mod Ends

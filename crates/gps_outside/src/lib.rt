@@ -2,6 +2,8 @@
 //!
 //! A source, a sink, a clock and a door each have a form in memory, which follows a plan and has modelled contents, and an
 //! adapter over std, whose contents are not modelled. Faults and quiets are counted, so that an answer can show its cause.
+//!
+//! A command that reads a source and writes a sink ends by a [`CommandOutcome`]: its exit status, and what must have happened outside for it.
 #![tactic(auto)]
 
 mod client_sink;
@@ -19,6 +21,7 @@ mod memory_door;
 mod memory_sink;
 mod memory_source;
 mod outbox;
+mod outcome;
 mod plan;
 mod probes;
 mod quiet;
@@ -46,6 +49,7 @@ pub use memory_door::MemoryDoor;
 pub use memory_sink::MemorySink;
 pub use memory_source::MemorySource;
 pub use outbox::Outbox;
+pub use outcome::CommandOutcome;
 pub use plan::{AtEnd, DoorPlan, ReadPlan, WritePlan};
 pub use real_clock::RealClock;
 pub use real_door::RealDoor;

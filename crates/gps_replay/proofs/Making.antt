@@ -4,15 +4,15 @@ use Rattle.gps_outside.specs.Counts.{Rose, RoseBy}
 use Rattle.gps_outside.specs.Told.{Stream, Goes, Appends, AppendsPart, Passes}
 use Rattle.gps_outside.proofs.Writing.{appends_none, part_of}
 use Rattle.line_cut.specs.Lines.{lines, open_line}
-use Rattle.command_outcome.specs.declared.outcome.CommandOutcome.{CommandOutcome}
-use Rattle.command_outcome.specs.declared.outcome.CommandOutcome.TheVariants.{Done, ReadFault, TooQuiet, WriteFault, Full, BadLine, NoMemory}
-use Rattle.command_outcome.specs.Calls.{SinkCall, SourceCall}
-use Rattle.command_outcome.specs.Outcomes.{HasCause, NothingFailed}
-use Rattle.command_outcome.proofs.Statuses.{quiet_long, quiet_never}
+use Rattle.gps_outside.specs.declared.outcome.CommandOutcome.{CommandOutcome}
+use Rattle.gps_outside.specs.declared.outcome.CommandOutcome.TheVariants.{Done, ReadFault, TooQuiet, WriteFault, Full, BadLine, NoMemory}
+use Rattle.gps_outside.specs.Calls.{SinkCall, SourceCall}
+use Rattle.gps_outside.specs.Outcomes.{HasCause, NothingFailed}
+use Rattle.gps_outside.proofs.Statuses.{quiet_long, quiet_never}
 use Rattle.line_player.specs.Courses.{whole_course}
 use Rattle.line_player.specs.Played.{HasPlayed}
 use Rattle.line_player.proofs.Complete.{completes}
-use Rattle.replay_workload.specs.Workload.{workload_of}
+use Rattle.replay_script.specs.Workload.{workload_of}
 use Rattle.gps_replay.specs.Closings.{closing_rules, closings}
 use Rattle.gps_replay.specs.Generated.{Generated, GeneratedCause, default_queue, made}
 use Rattle.gps_replay.proofs.Playable.{playable}

@@ -18,8 +18,8 @@ use Rattle.replay_script.specs.Events.{bytes_event, device_in, event_in, input_i
 use Rattle.replay_player.specs.Effects.{EventEffect, effect}
 use Rattle.replay_player.specs.States.{State}
 use Rattle.gps_fixed.specs.Hexadecimal.{upper_digit}
-use Rattle.replay_workload.specs.Sentences.{fraction, gga, gll, gsa, gsv, place, quality, rmc, sentence, time, vtg}
-use Rattle.replay_workload.specs.Workload.{decimals_at, edge_end, edge_line, edge_number, head, receiver_lines, second_lines, seconds, steps, text_line, line_cut, whole_second, workload_of}
+use Rattle.replay_script.specs.Sentences.{fraction, gga, gll, gsa, gsv, place, quality, rmc, sentence, time, vtg}
+use Rattle.replay_script.specs.Workload.{decimals_at, edge_end, edge_line, edge_number, head, receiver_lines, second_lines, seconds, steps, text_line, line_cut, whole_second, workload_of}
 use Rattle.gps_replay.specs.Closings.{closing_rules, silent}
 use Rattle.gps_replay.specs.Generated.{default_queue}
 use Rattle.gps_replay.specs.Run.{of_line}

@@ -1,12 +1,12 @@
 -- What a made script promises of the bytes that are written.
 use Rattle.std.specs.Prelude.{◌≡◌, ℕ, List, [], length, Option, Some}
 use Rattle.gps_outside.specs.Told.{Stream, Goes, Appends}
-use Rattle.command_outcome.specs.declared.outcome.CommandOutcome.{CommandOutcome}
-use Rattle.command_outcome.specs.declared.outcome.CommandOutcome.TheVariants.{Done, ReadFault, TooQuiet, WriteFault, Full, BadLine, NoMemory}
-use Rattle.command_outcome.specs.Calls.{SinkCall, WriteFailed}
-use Rattle.command_outcome.specs.Outcomes.{NoWriteFailed}
+use Rattle.gps_outside.specs.declared.outcome.CommandOutcome.{CommandOutcome}
+use Rattle.gps_outside.specs.declared.outcome.CommandOutcome.TheVariants.{Done, ReadFault, TooQuiet, WriteFault, Full, BadLine, NoMemory}
+use Rattle.gps_outside.specs.Calls.{SinkCall, WriteFailed}
+use Rattle.gps_outside.specs.Outcomes.{NoWriteFailed}
 use Rattle.line_player.specs.Played.{HasPlayed}
-use Rattle.replay_workload.specs.Workload.{workload_of}
+use Rattle.replay_script.specs.Workload.{workload_of}
 use Rattle.gps_replay.specs.Closings.{closing_rules, closings}
 
 -- the items that the outlet of a session keeps

@@ -1,7 +1,7 @@
 -- What a replay promises of the bytes that it reads and of those that it writes.
 use Rattle.std.specs.Prelude.{ℕ, List, Option}
 use Rattle.gps_outside.specs.Told.{Stream}
-use Rattle.command_outcome.specs.declared.outcome.CommandOutcome.{CommandOutcome}
+use Rattle.gps_outside.specs.declared.outcome.CommandOutcome.{CommandOutcome}
 use Rattle.line_player.specs.Played.{IsWithin, HasPlayed}
 use Rattle.gps_replay.specs.Run.{rules_of}
 

@@ -1,17 +1,16 @@
 ghost use Rattle.std.specs.Prelude.{◌≡◌, ◌≤◌, ℕ, length};
-ghost use Rattle.replay_workload.specs.Workload.{workload_of};
-ghost use Rattle.command_outcome.specs.Calls.{sink_call};
+ghost use Rattle.replay_script.specs.Workload.{workload_of};
+ghost use Rattle.gps_outside.specs.Calls.{sink_call};
 ghost use Rattle.gps_replay.specs.Generated.{Generated, GeneratedCause};
 
 use crate::held::HeldScript;
 use crate::quiet::Quiet;
 use crate::replaying::MOST_IN_LINE;
-use command_outcome::CommandOutcome;
 use gps_fixed::{Bytes, NoMemory};
-use gps_outside::Sink;
+use gps_outside::{CommandOutcome, Sink};
 use line_cut::Limit;
 use line_player::play;
-use replay_workload::workload;
+use replay_script::workload;
 use std::alloc::Global;
 
 /// How many symbols a generation holds, and how many items the outlet of a session keeps.

@@ -8,5 +8,5 @@ mod replaying;
 mod script;
 
 pub use generating::generate;
-pub use replay_workload::workload;
+pub use replay_script::workload;
 pub use replaying::{replay, replay_core};

@@ -1,13 +1,12 @@
 ghost use Rattle.std.specs.Prelude.{◌≡◌, ◌≤◌, ◌⊎◌};
 ghost use Rattle.gps_fixed.specs.Limits.{most_history, most_queue};
-ghost use Rattle.command_outcome.specs.declared.outcome.CommandOutcome.{CommandOutcome};
-ghost use Rattle.command_outcome.specs.Calls.{sink_call, source_call};
-ghost use Rattle.command_outcome.specs.Outcomes.{HasCause, NothingFails, status_of};
+ghost use Rattle.gps_outside.specs.declared.outcome.CommandOutcome.{CommandOutcome};
+ghost use Rattle.gps_outside.specs.Calls.{sink_call, source_call};
+ghost use Rattle.gps_outside.specs.Outcomes.{HasCause, NothingFails, status_of};
 ghost use Rattle.gps_replay.specs.Replayed.{IsScript, Replayed};
 
 use crate::script::Script;
-use command_outcome::CommandOutcome;
-use gps_outside::{Sink, Source};
+use gps_outside::{CommandOutcome, Sink, Source};
 use line_cut::Limit;
 use line_player::play;
 use std::alloc::Global;

@@ -3,9 +3,9 @@ use Rattle.std.proofs.Common.{◌≡◌, ◌≢◌, ℕ, ◌≤◌, ◌+◌, ◌
 use Rattle.std.proofs.lemmas.List.{append-nil}
 use Rattle.gps_world.specs.Asking.{Asking, asked_nothing}
 use Rattle.gps_world.specs.declared.place.Place.{Place}
-use Rattle.world_opening.specs.declared.opening.Stop.{Stop}
+use Rattle.gps_world.specs.declared.opening.Stop.{Stop}
 use Rattle.gps_serve.specs.Outcome.{status_of}
-use Rattle.world_opening.specs.Opening.{AsksAll, AsksPrefix, OpenAsks, places_in}
+use Rattle.gps_world.specs.OpenInOrder.{AsksAll, AsksPrefix, OpenAsks, places_in}
 
 pub all_of : {X : Type 0} (x : X) (old new : Asking) (places : List Place) (listen : List ℕ) → old ≡ asked_nothing → OpenAsks {X = X} (Ok x) old new places listen
     → AsksAll new places listen

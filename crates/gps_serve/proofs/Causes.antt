@@ -1,12 +1,12 @@
 -- What the counts of the outside say once the threads have ended.
 use Rattle.std.proofs.Common.{◌≡◌, ℕ, ◌<◌, ◌⊎◌, inl, inr, Bool, true, false, ◌||◌, List, [], ◌∷◌, ◌++◌, Option, Some, None, IfSome, refl, sym, ◌∙◌, subst, arith}
-use Rattle.serve_end_settling.specs.Failing.{AnyOf, SourceFailed}
-use Rattle.serve_end_settling.proofs.Causes.{failed_front, failed_last}
+use Rattle.serve_end.specs.Failing.{AnyOf, SourceFailed}
+use Rattle.serve_end.proofs.Causes.{failed_front, failed_last}
 use Rattle.std.specs.Prelude.{Result, Err}
 use Rattle.gps_outside.specs.Counts.{Rose}
-use Rattle.world_opening.specs.declared.opening.Stop.{Stop}
-use Rattle.world_opening.specs.declared.opening.Stop.TheVariants.{Input, Listen}
-use Rattle.world_opening.specs.Opening.{OpeningHasCause, world_faults}
+use Rattle.gps_world.specs.declared.opening.Stop.{Stop}
+use Rattle.gps_world.specs.declared.opening.Stop.TheVariants.{Input, Listen}
+use Rattle.gps_world.specs.OpenInOrder.{OpeningHasCause, world_faults}
 use Rattle.serve_door.specs.Doors.{FailsBy}
 
 either : (before now : Bool) → (before || now) ≡ true → (before ≡ true) ⊎ (now ≡ true)

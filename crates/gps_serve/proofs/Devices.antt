@@ -6,25 +6,25 @@ use Rattle.gps_fixed.specs.Moment.{Moment}
 use Rattle.gps_lane.specs.Ends.{Putting, Taking}
 use Rattle.hub_promise.specs.declared.ends.DeviceEnd.{DeviceEnd}
 use Rattle.hub_promise.specs.Parts.{LaneNames, InletsView, names_of}
-use Rattle.serve_pieces.specs.declared.piece.Ending.TheVariants.{Failed}
-use Rattle.serve_pieces.specs.declared.piece.Piece.{Piece}
-use Rattle.serve_threads.specs.declared.reading.ReaderDone.{ReaderDone}
+use Rattle.gps_lane.specs.declared.piece.Ending.TheVariants.{Failed}
+use Rattle.gps_lane.specs.declared.piece.Piece.{Piece}
+use Rattle.serve_workers.specs.declared.reading.ReaderDone.{ReaderDone}
 use Rattle.serve_workers.specs.EdgeLines.{HandsLines}
 use Rattle.serve_workers.specs.Readings.{HandsOn, IsDevicePiece}
-use Rattle.serve_pieces.specs.Carried.{device_part}
-use Rattle.serve_end_parts.specs.declared.done.DeviceDone.{DeviceDone}
-use Rattle.serve_end_settling.specs.declared.device.DeviceRun.{DeviceRun}
-use Rattle.serve_end_settling.specs.Failing.{source_of}
-use Rattle.serve_end_settling.specs.Lanes.{AreEnds, OneMoreOfEach, Settles, SettlesSome, ZipOption, tx_of}
-use Rattle.serve_end_settling.specs.Lanes as lane
-use Rattle.serve_end_settling.proofs.Endings.{each_one_more}
+use Rattle.gps_lane.specs.Carried.{device_part}
+use Rattle.serve_end.specs.declared.done.DeviceDone.{DeviceDone}
+use Rattle.serve_end.specs.declared.device.DeviceRun.{DeviceRun}
+use Rattle.serve_end.specs.Failing.{source_of}
+use Rattle.serve_end.specs.Lanes.{AreEnds, OneMoreOfEach, Settles, SettlesSome, ZipOption, tx_of}
+use Rattle.serve_end.specs.Lanes as lane
+use Rattle.serve_end.proofs.Endings.{each_one_more}
 use Rattle.gps_serve.specs.declared.starts.DeviceStart.{DeviceStart}
 use Rattle.gps_serve.specs.declared.starts.EdgeStart.{EdgeStart}
 use Rattle.gps_serve.specs.Served.{DeviceServed, IsOneLane, ReaderServed}
-use Rattle.serve_end_settling.specs.Runs.{EdgeStartsEmpty, EdgesRan, SourceFacts}
+use Rattle.serve_end.specs.Runs.{EdgeStartsEmpty, EdgesRan, SourceFacts}
 use Rattle.gps_serve.specs.Runs.{DeviceReady, DevicesRan, DevicesSoFar, RanOn}
 use Rattle.gps_serve.specs.Starts.{IsFreshDevice, IsFreshEdge, edge_start_of, starts_of}
-use Rattle.serve_threads.proofs.Zips.{zip_more}
+use Rattle.serve_workers.proofs.Zips.{zip_more}
 
 -- the end that gets a device's bytes is still that of its reader's lane
 pub bytes_lane : {S R : Type 0} (may : Option (List Moment)) (facts : SourceFacts S) (x : InletsView) (run : DeviceRun S R) → DeviceReady may facts x run

@@ -9,14 +9,14 @@ use Rattle.gps_world.specs.Opening.{Tells}
 use Rattle.hub_door.specs.Admissions.{LinkDrop}
 use Rattle.hub_promise.specs.Parts.{InletsView, terms_of}
 use Rattle.report_book.specs.BookView.{BookView}
-use Rattle.world_opening.specs.Opening.{dial_of}
-use Rattle.serve_end_parts.specs.declared.plan.Plan.{Plan}
-use Rattle.serve_end_parts.specs.declared.done.DeviceDone.{DeviceDone}
-use Rattle.serve_pieces.specs.Carried.{device_part}
-use Rattle.serve_pieces.specs.declared.piece.Ending.{Ending}
-use Rattle.serve_pieces.specs.declared.piece.Piece.{Piece}
-use Rattle.serve_pieces.specs.declared.piece.Piece.TheVariants.{Bytes, Line, Input, Last}
-use Rattle.serve_end_settling.specs.Runs.{SourceFacts}
+use Rattle.gps_world.specs.OpenInOrder.{dial_of}
+use Rattle.serve_end.specs.declared.plan.Plan.{Plan}
+use Rattle.serve_end.specs.declared.done.DeviceDone.{DeviceDone}
+use Rattle.gps_lane.specs.Carried.{device_part}
+use Rattle.gps_lane.specs.declared.piece.Ending.{Ending}
+use Rattle.gps_lane.specs.declared.piece.Piece.{Piece}
+use Rattle.gps_lane.specs.declared.piece.Piece.TheVariants.{Bytes, Line, Input, Last}
+use Rattle.serve_end.specs.Runs.{SourceFacts}
 use Rattle.serve_workers.specs.Clocks.{MayGive}
 use Rattle.serve_workers.specs.Readings.{Each, HandsOn, IsDevicePiece}
 use Rattle.gps_serve.specs.AtEnd.{AtEnd, DaemonSettings, HandedBack, ShowsOutOfMemory, settings_in, settings_of, start_with}

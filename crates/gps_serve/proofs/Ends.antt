@@ -14,17 +14,17 @@ use Rattle.hub_door.specs.Admissions.{Admissions}
 use Rattle.hub_promise.specs.Given.{is_end}
 use Rattle.hub_promise.specs.Keeping.{IsClosed}
 use Rattle.hub_promise.specs.Parts.{AreAdmitted, InletsView, Terms, devices_of, terms_of}
-use Rattle.serve_pieces.specs.declared.piece.Piece.{Piece}
-use Rattle.serve_end_parts.specs.declared.done.DeviceDone.{DeviceDone}
-use Rattle.serve_end_parts.specs.declared.done.MonitorDone.{MonitorDone}
-use Rattle.serve_end_parts.specs.declared.done.SessionDone.{SessionDone}
-use Rattle.serve_end_settling.specs.declared.device.DeviceRun.{DeviceRun}
-use Rattle.serve_end_settling.specs.Runs.{SourceFacts}
-use Rattle.serve_threads.specs.declared.monitors.ReadingsDone.{ReadingsDone}
-use Rattle.serve_threads.specs.declared.monitors.MonitorStart.{MonitorStart}
-use Rattle.serve_threads.specs.Segments.{segments_of}
+use Rattle.gps_lane.specs.declared.piece.Piece.{Piece}
+use Rattle.serve_end.specs.declared.done.DeviceDone.{DeviceDone}
+use Rattle.serve_end.specs.declared.done.MonitorDone.{MonitorDone}
+use Rattle.serve_end.specs.declared.done.SessionDone.{SessionDone}
+use Rattle.serve_end.specs.declared.device.DeviceRun.{DeviceRun}
+use Rattle.serve_end.specs.Runs.{SourceFacts}
+use Rattle.serve_workers.specs.declared.monitors.ReadingsDone.{ReadingsDone}
+use Rattle.serve_workers.specs.declared.monitors.MonitorStart.{MonitorStart}
+use Rattle.serve_workers.specs.Segments.{segments_of}
 use Rattle.gps_serve.specs.declared.starts.DeviceStart.{DeviceStart}
-use Rattle.serve_threads.specs.declared.session.SessionLink.{SessionLink}
+use Rattle.serve_workers.specs.declared.session.SessionLink.{SessionLink}
 use Rattle.gps_serve.specs.AtEnd.{AtEnd, HandedBack, ShowsOutOfMemory, settings_of, start_with}
 use Rattle.gps_serve.specs.Facts.{WorldFacts}
 use Rattle.gps_serve.specs.Served.{DeviceServed, GateServed, MonitorServed, monitored}

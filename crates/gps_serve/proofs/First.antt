@@ -7,16 +7,16 @@ use Rattle.hub_promise.specs.declared.ends.DeviceEnd.{DeviceEnd}
 use Rattle.hub_promise.specs.declared.ends.DeviceEnd.TheVariants.{Ended, ReadFault, NoMemory as LostNoMemory}
 use Rattle.hub_promise.specs.Given.{end_of, ending_of, is_end}
 use Rattle.hub_promise.specs.Parts.{InletsView}
-use Rattle.serve_end_parts.specs.declared.done.DeviceDone.{DeviceDone}
-use Rattle.serve_pieces.specs.declared.piece.Ending.{Ending}
-use Rattle.serve_pieces.specs.declared.piece.Ending.TheVariants.{End, Failed, NoMemory}
-use Rattle.serve_pieces.specs.declared.piece.Piece.{Piece}
-use Rattle.serve_threads.specs.declared.reading.ReaderDone.{ReaderDone}
-use Rattle.serve_end_settling.specs.declared.device.DeviceRun.{DeviceRun}
-use Rattle.serve_end_settling.specs.Failing.{AnyOf, DeviceFailed, EdgeFailed, EdgeSaysFailed, MetFault, SaysFailed, SourceFailed, source_of}
-use Rattle.serve_end_settling.specs.Lanes.{ZipOption, tx_of}
-use Rattle.serve_end_settling.specs.Runs.{EachRun, EdgesRan, SourceFacts}
-use Rattle.serve_end_settling.proofs.Causes.{each_run_more}
+use Rattle.serve_end.specs.declared.done.DeviceDone.{DeviceDone}
+use Rattle.gps_lane.specs.declared.piece.Ending.{Ending}
+use Rattle.gps_lane.specs.declared.piece.Ending.TheVariants.{End, Failed, NoMemory}
+use Rattle.gps_lane.specs.declared.piece.Piece.{Piece}
+use Rattle.serve_workers.specs.declared.reading.ReaderDone.{ReaderDone}
+use Rattle.serve_end.specs.declared.device.DeviceRun.{DeviceRun}
+use Rattle.serve_end.specs.Failing.{AnyOf, DeviceFailed, EdgeFailed, EdgeSaysFailed, MetFault, SaysFailed, SourceFailed, source_of}
+use Rattle.serve_end.specs.Lanes.{ZipOption, tx_of}
+use Rattle.serve_end.specs.Runs.{EachRun, EdgesRan, SourceFacts}
+use Rattle.serve_end.proofs.Causes.{each_run_more}
 use Rattle.gps_serve.specs.declared.starts.EdgeStart.{EdgeStart}
 use Rattle.serve_workers.specs.EdgeLines.{HandsLines}
 use Rattle.gps_serve.specs.Runs.{DeviceReady}

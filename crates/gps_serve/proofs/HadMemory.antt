@@ -6,17 +6,17 @@ use Rattle.book_sessions.specs.MemberView.{MemberView}
 use Rattle.gps_lane.specs.Ends.{Putting, Taking}
 use Rattle.hub_promise.specs.Given.{ending_of}
 use Rattle.hub_promise.specs.Parts.{InletsView}
-use Rattle.serve_end_parts.specs.declared.done.DeviceDone.{DeviceDone}
-use Rattle.serve_end_parts.specs.declared.done.SessionDone.{SessionDone}
-use Rattle.serve_pieces.specs.declared.piece.Ending.{Ending}
-use Rattle.serve_pieces.specs.declared.piece.Ending.TheVariants.{End, Failed, NoMemory}
-use Rattle.serve_pieces.specs.declared.piece.Piece.{Piece}
-use Rattle.serve_threads.specs.declared.reading.ReaderDone.{ReaderDone}
-use Rattle.serve_threads.specs.declared.session.LinkDone.{LinkDone}
-use Rattle.serve_end_settling.specs.declared.device.DeviceRun.{DeviceRun}
-use Rattle.serve_end_settling.specs.Failing.{AnyOf}
-use Rattle.serve_end_settling.specs.Lanes.{tx_of}
-use Rattle.serve_end_settling.specs.Runs.{EdgesRan, SourceFacts}
+use Rattle.serve_end.specs.declared.done.DeviceDone.{DeviceDone}
+use Rattle.serve_end.specs.declared.done.SessionDone.{SessionDone}
+use Rattle.gps_lane.specs.declared.piece.Ending.{Ending}
+use Rattle.gps_lane.specs.declared.piece.Ending.TheVariants.{End, Failed, NoMemory}
+use Rattle.gps_lane.specs.declared.piece.Piece.{Piece}
+use Rattle.serve_workers.specs.declared.reading.ReaderDone.{ReaderDone}
+use Rattle.serve_workers.specs.declared.session.LinkDone.{LinkDone}
+use Rattle.serve_end.specs.declared.device.DeviceRun.{DeviceRun}
+use Rattle.serve_end.specs.Failing.{AnyOf}
+use Rattle.serve_end.specs.Lanes.{tx_of}
+use Rattle.serve_end.specs.Runs.{EdgesRan, SourceFacts}
 use Rattle.gps_serve.specs.declared.starts.EdgeStart.{EdgeStart}
 use Rattle.gps_serve.specs.Facts.{SinkFacts}
 use Rattle.gps_serve.specs.Lost.{DeviceHadMemory, DeviceTellsOutOfMemory, ReadersHadMemory, SessionHadMemory, SessionTellsOutOfMemory, TellsOutOfMemory, ended_out_of_memory, lines_out_of_memory, link_out_of_memory, run_out_of_memory}

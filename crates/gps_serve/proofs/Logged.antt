@@ -15,14 +15,14 @@ use Rattle.hub_promise.specs.Given.{end_by, ending_of, edge_ending, stamped_of}
 use Rattle.hub_promise.specs.Parts.{InletsView, device_of, devices_of}
 use Rattle.packet_cut.specs.Packets.{bytes_of, stamped}
 use Rattle.packet_cut.proofs.StreamLaws.{bytes_of-append, bytes_of-stamped}
-use Rattle.serve_end_parts.specs.declared.done.DeviceDone.{DeviceDone}
-use Rattle.serve_end_settling.specs.Lanes.{OneMoreAtMost}
-use Rattle.serve_end_settling.specs.Runs.{SourceFacts}
-use Rattle.serve_pieces.specs.Carried.{device_part}
-use Rattle.serve_pieces.specs.declared.piece.Ending.{Ending}
-use Rattle.serve_pieces.specs.declared.piece.Ending.TheVariants.{End}
-use Rattle.serve_pieces.specs.declared.piece.Piece.{Piece}
-use Rattle.serve_pieces.specs.declared.piece.Piece.TheVariants.{Bytes, Line, Input, Last}
+use Rattle.serve_end.specs.declared.done.DeviceDone.{DeviceDone}
+use Rattle.serve_end.specs.Lanes.{OneMoreAtMost}
+use Rattle.serve_end.specs.Runs.{SourceFacts}
+use Rattle.gps_lane.specs.Carried.{device_part}
+use Rattle.gps_lane.specs.declared.piece.Ending.{Ending}
+use Rattle.gps_lane.specs.declared.piece.Ending.TheVariants.{End}
+use Rattle.gps_lane.specs.declared.piece.Piece.{Piece}
+use Rattle.gps_lane.specs.declared.piece.Piece.TheVariants.{Bytes, Line, Input, Last}
 use Rattle.serve_workers.specs.Readings.{Took, last_piece}
 use Rattle.gps_serve.specs.Facts.{WorldFacts}
 use Rattle.gps_serve.specs.Served.{BytesHeld, DeviceServed, IsFirstOf, SourceHeld}

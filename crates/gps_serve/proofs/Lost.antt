@@ -7,8 +7,8 @@ use Rattle.std.proofs.lemmas.Bool.{cases_lt}
 use Rattle.book_sessions.specs.MemberView.{MemberView}
 use Rattle.hub_promise.specs.declared.ends.DeviceEnd.{DeviceEnd}
 use Rattle.hub_promise.specs.declared.ends.DeviceEnd.TheVariants.{Ended, ReadFault, NoMemory as LostNoMemory}
-use Rattle.serve_end_parts.specs.declared.done.DeviceDone.{DeviceDone}
-use Rattle.serve_end_settling.specs.Failing.{AnyOf}
+use Rattle.serve_end.specs.declared.done.DeviceDone.{DeviceDone}
+use Rattle.serve_end.specs.Failing.{AnyOf}
 use Rattle.gps_serve.specs.Lost.{IsNotClosedOutOfMemory, IsNotLostOutOfMemory, WasClosedOutOfMemory, WasLostOutOfMemory, closed_out_of_memory, lost_out_of_memory}
 
 -- if neither of two holds, each does not

@@ -6,13 +6,13 @@ use Rattle.std.specs.Global.{Vec}
 use Rattle.std.specs.List.{AllZip, list_all, range_with_len}
 use Rattle.book_units.specs.Units.{UnitView, new_unit, segment_of}
 use Rattle.report_book.specs.BookView.{BookView}
-use Rattle.serve_end_parts.specs.declared.done.MonitorDone.{MonitorDone}
-use Rattle.serve_end_settling.specs.Failing.{AnyOf}
-use Rattle.serve_end_settling.specs.Units.{Confirms}
-use Rattle.serve_threads.specs.declared.monitors.ReadingsDone.{ReadingsDone}
-use Rattle.serve_threads.specs.declared.monitors.MonitorStart.{MonitorStart}
-use Rattle.serve_threads.specs.Monitors.{MonitorRan}
-use Rattle.serve_threads.specs.Segments.{segments_of}
+use Rattle.serve_end.specs.declared.done.MonitorDone.{MonitorDone}
+use Rattle.serve_end.specs.Failing.{AnyOf}
+use Rattle.serve_end.specs.Units.{Confirms}
+use Rattle.serve_workers.specs.declared.monitors.ReadingsDone.{ReadingsDone}
+use Rattle.serve_workers.specs.declared.monitors.MonitorStart.{MonitorStart}
+use Rattle.serve_workers.specs.Monitors.{MonitorRan}
+use Rattle.serve_workers.specs.Segments.{segments_of}
 use Rattle.serve_workers.specs.Watching.{Climbs, IsBeginning, each_once}
 use Rattle.shm_monitor.specs.MonitorView.{MonitorView}
 use Rattle.shm_segment.specs.declared.view.Load.{Load}
@@ -26,7 +26,7 @@ use Rattle.gps_serve.specs.Works.{WatchedBy}
 use Rattle.gps_serve.proofs.Devices.{zip_length}
 use Rattle.gps_serve.proofs.Lost.{one_false}
 use Rattle.gps_serve.proofs.Sessions.{range_more}
-use Rattle.serve_threads.proofs.Zips.{zip_more}
+use Rattle.serve_workers.proofs.Zips.{zip_more}
 
 at : {X : Type 0} (gone rest : List X) (x free : X) → get_or (gone ++ x ∷ rest) (length gone) free ≡ x
 at [] rest x free = refl

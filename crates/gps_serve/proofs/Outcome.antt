@@ -4,14 +4,14 @@ use Rattle.std.specs.Prelude.{Err, IsSome, if◌then◌else◌}
 use Rattle.std.specs.List.{All}
 use Rattle.gps_outside.specs.Counts.{Rose}
 use Rattle.report_book.specs.BookView.{BookView}
-use Rattle.serve_end_parts.specs.declared.done.DeviceDone.{DeviceDone}
-use Rattle.serve_end_parts.specs.declared.done.MonitorDone.{MonitorDone}
-use Rattle.serve_end_parts.specs.declared.done.SessionDone.{SessionDone}
-use Rattle.serve_end_parts.specs.declared.served.Served.{Served}
-use Rattle.serve_end_settling.specs.Failing.{AnyOf, DeviceFailed, SourceFailed}
-use Rattle.world_opening.specs.declared.opening.Stop.{Stop}
-use Rattle.world_opening.specs.declared.opening.Stop.TheVariants.{Input, Listen, NoMemory}
-use Rattle.world_opening.specs.Opening.{OpeningHasCause, world_faults}
+use Rattle.serve_end.specs.declared.done.DeviceDone.{DeviceDone}
+use Rattle.serve_end.specs.declared.done.MonitorDone.{MonitorDone}
+use Rattle.serve_end.specs.declared.done.SessionDone.{SessionDone}
+use Rattle.serve_end.specs.declared.served.Served.{Served}
+use Rattle.serve_end.specs.Failing.{AnyOf, DeviceFailed, SourceFailed}
+use Rattle.gps_world.specs.declared.opening.Stop.{Stop}
+use Rattle.gps_world.specs.declared.opening.Stop.TheVariants.{Input, Listen, NoMemory}
+use Rattle.gps_world.specs.OpenInOrder.{OpeningHasCause, world_faults}
 use Rattle.gps_serve.specs.declared.daemon_end.DaemonEnd.{DaemonEnd}
 use Rattle.gps_serve.specs.declared.status.DaemonOutcome.{DaemonOutcome}
 use Rattle.gps_serve.specs.AtEnd.{HandedBack, back_with}

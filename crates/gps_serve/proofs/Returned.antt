@@ -12,11 +12,11 @@ use Rattle.hub_promise.specs.DaemonHub.{DaemonHub, DaemonHubOver, SessionFits}
 use Rattle.hub_promise.specs.Keeping.{IsClosed}
 use Rattle.hub_promise.specs.Parts.{InletsView, devices_of}
 use Rattle.report_book.specs.BookView.{BookView}
-use Rattle.serve_end_parts.specs.declared.done.SessionDone.{SessionDone}
-use Rattle.serve_pieces.specs.Carried.{input_bytes, input_part}
-use Rattle.serve_pieces.specs.declared.piece.Piece.{Piece}
-use Rattle.serve_end_settling.specs.Lanes.{OneMoreAtMost}
-use Rattle.serve_end_settling.specs.Runs.{SourceFacts}
+use Rattle.serve_end.specs.declared.done.SessionDone.{SessionDone}
+use Rattle.gps_lane.specs.Carried.{input_bytes, input_part}
+use Rattle.gps_lane.specs.declared.piece.Piece.{Piece}
+use Rattle.serve_end.specs.Lanes.{OneMoreAtMost}
+use Rattle.serve_end.specs.Runs.{SourceFacts}
 use Rattle.session_runs.specs.Accounts.{Account}
 use Rattle.session_runs.proofs.Accounting.{closed_hears}
 use Rattle.gps_serve.specs.Served.{InputServed}

@@ -10,16 +10,16 @@ use Rattle.hub_door.specs.Admissions.{Admissions, SessionLanes}
 use Rattle.hub_promise.specs.Parts.{AreAdmitted}
 use Rattle.report_book.specs.BookView.{BookView}
 use Rattle.output_lines.specs.declared.closing.SessionEnd.TheVariants.{Drained, WriteFault}
-use Rattle.serve_pieces.specs.Carried.{input_part}
-use Rattle.serve_pieces.specs.declared.piece.Ending.TheVariants.{Failed}
-use Rattle.serve_pieces.specs.declared.piece.Piece.{Piece}
-use Rattle.serve_end_parts.specs.declared.done.SessionDone.{SessionDone}
-use Rattle.serve_end_settling.specs.Lanes.{Settles}
-use Rattle.serve_end_settling.specs.Outlets.{Empties, writer_end}
-use Rattle.serve_end_settling.proofs.Endings.{sessions_tell_last}
-use Rattle.serve_threads.specs.declared.session.SessionLink.{SessionLink}
-use Rattle.serve_threads.specs.declared.session.LinkDone.{LinkDone}
-use Rattle.serve_threads.specs.Sessions.{SessionRuns, Wrote}
+use Rattle.gps_lane.specs.Carried.{input_part}
+use Rattle.gps_lane.specs.declared.piece.Ending.TheVariants.{Failed}
+use Rattle.gps_lane.specs.declared.piece.Piece.{Piece}
+use Rattle.serve_end.specs.declared.done.SessionDone.{SessionDone}
+use Rattle.serve_end.specs.Lanes.{Settles}
+use Rattle.serve_end.specs.Outlets.{Empties, writer_end}
+use Rattle.serve_end.proofs.Endings.{sessions_tell_last}
+use Rattle.serve_workers.specs.declared.session.SessionLink.{SessionLink}
+use Rattle.serve_workers.specs.declared.session.LinkDone.{LinkDone}
+use Rattle.serve_workers.specs.Sessions.{SessionRuns, Wrote}
 use Rattle.serve_workers.specs.Readings.{HandsOn, IsInputPiece, WasRead}
 use Rattle.serve_workers.specs.Writing.{Writes}
 use Rattle.session_core.specs.Naming.{table_of}
@@ -27,8 +27,8 @@ use Rattle.gps_serve.specs.Facts.{SinkFacts}
 use Rattle.gps_serve.specs.Served.{IsOneLane, OutletServed}
 use Rattle.serve_door.specs.Doors.{DoorNow, EachLink, IsNewLink, HasNewLanes, Tended, Way, lanes_of}
 use Rattle.gps_serve.specs.Readies.{AllServed, AreReady, InputLeft, SessionReady, SessionsSoFar}
-use Rattle.serve_end_settling.specs.Runs.{SourceFacts}
-use Rattle.serve_threads.proofs.Zips.{zip_more}
+use Rattle.serve_end.specs.Runs.{SourceFacts}
+use Rattle.serve_workers.proofs.Zips.{zip_more}
 
 module _ {S K R : Type 0} (sources : SourceFacts S) (sinks : SinkFacts K) where
   abbrev pub New : SessionLink S K R → Type 0

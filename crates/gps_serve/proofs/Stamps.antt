@@ -5,25 +5,25 @@ use Rattle.std.specs.List.{AllZip}
 use Rattle.gps_fixed.specs.Moment.{Moment}
 use Rattle.gps_outside.specs.Ticks.{Dial}
 use Rattle.hub_promise.specs.Parts.{InletsView}
-use Rattle.serve_pieces.specs.declared.piece.Piece.{Piece}
-use Rattle.serve_pieces.specs.Carried.{stamps_of}
+use Rattle.gps_lane.specs.declared.piece.Piece.{Piece}
+use Rattle.gps_lane.specs.Carried.{stamps_of}
 use Rattle.serve_workers.specs.Clocks.{Gave}
 use Rattle.serve_workers.specs.Stamping.{StampsPieces, given_on}
-use Rattle.serve_end_parts.specs.declared.done.DeviceDone.{DeviceDone}
-use Rattle.serve_end_settling.specs.declared.device.DeviceRun.{DeviceRun}
-use Rattle.serve_end_settling.specs.Runs.{SourceFacts}
+use Rattle.serve_end.specs.declared.done.DeviceDone.{DeviceDone}
+use Rattle.serve_end.specs.declared.device.DeviceRun.{DeviceRun}
+use Rattle.serve_end.specs.Runs.{SourceFacts}
 use Rattle.stamp_shares.specs.declared.view.Given.{Given}
 use Rattle.stamp_shares.specs.declared.view.ShareView.{ShareView}
 use Rattle.stamp_shares.specs.Shares.{AreShares, IsShareOf, new_share, stamps_for, stamps_in}
 use Rattle.gps_serve.specs.declared.readers.DeviceWork.{DeviceWork}
 use Rattle.gps_serve.specs.declared.starts.DeviceStart.{DeviceStart}
 use Rattle.gps_serve.specs.Dealt.{AreEmpty, AreNumbered, Pairs, SharesUsed, UsedSoFar, UsesItsShare, UsesShare, puts_of}
-use Rattle.serve_threads.specs.Joining.{RanSoFar}
+use Rattle.serve_workers.specs.Joining.{RanSoFar}
 use Rattle.gps_serve.specs.Runs.{IsLeftOf}
 use Rattle.gps_serve.specs.Stamps.{HasStampsFor, HaveStampsFrom, StampsAreGiven}
 use Rattle.gps_serve.specs.Starts.{IsFreshDevice}
 use Rattle.gps_serve.specs.Works.{ReadersAre}
-use Rattle.serve_threads.proofs.Zips.{ran_begin, ran_end, ran_next}
+use Rattle.serve_workers.proofs.Zips.{ran_begin, ran_end, ran_next}
 
 -- the stamps of a share are those that were given for its device
 one_dealt : (given : List Given) (device : ℕ) (share : ShareView) (put put' : List Piece) → put ≡ [] → IsShareOf given share

@@ -2,13 +2,13 @@
 use Rattle.std.proofs.Common.{ℕ, List, Option, [], ◌∷◌}
 use Rattle.std.specs.List.{AllZip}
 use Rattle.gps_fixed.specs.Moment.{Moment}
-use Rattle.serve_threads.specs.declared.monitors.ReadingsDone.{ReadingsDone}
-use Rattle.serve_threads.specs.declared.monitors.MonitorStart.{MonitorStart}
-use Rattle.serve_threads.specs.declared.monitors.MonitorPromise.{MonitorPromise}
-use Rattle.serve_threads.proofs.Zips.{through}
+use Rattle.serve_workers.specs.declared.monitors.ReadingsDone.{ReadingsDone}
+use Rattle.serve_workers.specs.declared.monitors.MonitorStart.{MonitorStart}
+use Rattle.serve_workers.specs.declared.monitors.MonitorPromise.{MonitorPromise}
+use Rattle.serve_workers.proofs.Zips.{through}
 use Rattle.gps_serve.specs.declared.starts.DeviceStart.{DeviceStart}
-use Rattle.serve_end_settling.specs.declared.device.DeviceRun.{DeviceRun}
-use Rattle.serve_end_settling.specs.Runs.{SourceFacts}
+use Rattle.serve_end.specs.declared.device.DeviceRun.{DeviceRun}
+use Rattle.serve_end.specs.Runs.{SourceFacts}
 use Rattle.gps_serve.specs.declared.readers.DeviceWork.{DeviceWork}
 use Rattle.gps_serve.specs.Runs.{RanOn}
 use Rattle.gps_serve.specs.Works.{JoinsDevice, JoinsMonitor, ReadersAre, WatchedBy, WatchesFor}

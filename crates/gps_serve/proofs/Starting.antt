@@ -3,7 +3,7 @@ use Rattle.std.proofs.Common.{◌≡◌, ℕ, ◌<◌, ◌≤◌, ◌*◌, zero,
 use Rattle.std.proofs.lemmas.List.{append-nil, length-take, map-append}
 use Rattle.std.specs.List.{All, AllZip}
 use Rattle.gps_lane.specs.Ends.{Taking}
-use Rattle.serve_pieces.specs.declared.piece.Piece.{Piece}
+use Rattle.gps_lane.specs.declared.piece.Piece.{Piece}
 use Rattle.book_units.specs.Units.{IsNew}
 use Rattle.report_book.specs.BookView.{BookView}
 use Rattle.report_book.specs.Moves.{IsNewBook}
@@ -14,8 +14,8 @@ use Rattle.hub_promise.proofs.Beginning.{unused as unused_new}
 use Rattle.gps_outside.specs.Told.{Stream}
 use Rattle.std.specs.Option.{option_to_list}
 use Rattle.serve_workers.specs.Sourced.{held_in}
-use Rattle.world_opening.specs.Opening.{AreUnread, sources_in}
-use Rattle.serve_end_settling.specs.Runs.{SourceFacts}
+use Rattle.gps_world.specs.OpenInOrder.{AreUnread, sources_in}
+use Rattle.serve_end.specs.Runs.{SourceFacts}
 use Rattle.gps_serve.specs.declared.starts.DeviceStart.{DeviceStart}
 use Rattle.gps_serve.specs.declared.starts.EdgeStart.{EdgeStart}
 use Rattle.gps_serve.specs.Starts.{AreTold, EachTold, EdgesTold, IsFreshDevice, IsFreshEdge, edge_source_of, edges_at, sources_at}

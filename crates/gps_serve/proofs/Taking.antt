@@ -15,22 +15,22 @@ use Rattle.hub_promise.specs.declared.ends.DeviceEnd.TheVariants.{Ended}
 use Rattle.hub_promise.specs.Given.{ending_of}
 use Rattle.hub_promise.specs.Parts.{InletsView}
 use Rattle.output_lines.specs.declared.closing.SessionEnd.TheVariants.{WriteFault}
-use Rattle.world_opening.specs.Opening.{IsEdgeHeld, IsHeld}
-use Rattle.serve_end_parts.specs.declared.done.DeviceDone.{DeviceDone}
-use Rattle.serve_end_parts.specs.declared.done.SessionDone.{SessionDone}
-use Rattle.serve_pieces.specs.Carried.{device_part, input_part}
-use Rattle.serve_pieces.specs.declared.piece.Ending.{Ending}
-use Rattle.serve_pieces.specs.declared.piece.Ending.TheVariants as ending
-use Rattle.serve_pieces.specs.declared.piece.Piece.{Piece}
-use Rattle.serve_end_settling.specs.declared.device.DeviceRun.{DeviceRun}
-use Rattle.serve_end_settling.specs.Failing.{source_of}
-use Rattle.serve_end_settling.specs.Lanes.{tx_of}
-use Rattle.serve_end_settling.specs.Outlets.{writer_end}
-use Rattle.serve_end_settling.specs.Runs.{EdgesRan, SourceFacts}
-use Rattle.serve_threads.specs.declared.reading.ReaderDone.{ReaderDone}
-use Rattle.serve_threads.specs.declared.session.SessionLink.{SessionLink}
-use Rattle.serve_threads.specs.declared.session.LinkDone.{LinkDone}
-use Rattle.serve_threads.specs.Sessions.{SessionRuns}
+use Rattle.gps_world.specs.OpenInOrder.{IsEdgeHeld, IsHeld}
+use Rattle.serve_end.specs.declared.done.DeviceDone.{DeviceDone}
+use Rattle.serve_end.specs.declared.done.SessionDone.{SessionDone}
+use Rattle.gps_lane.specs.Carried.{device_part, input_part}
+use Rattle.gps_lane.specs.declared.piece.Ending.{Ending}
+use Rattle.gps_lane.specs.declared.piece.Ending.TheVariants as ending
+use Rattle.gps_lane.specs.declared.piece.Piece.{Piece}
+use Rattle.serve_end.specs.declared.device.DeviceRun.{DeviceRun}
+use Rattle.serve_end.specs.Failing.{source_of}
+use Rattle.serve_end.specs.Lanes.{tx_of}
+use Rattle.serve_end.specs.Outlets.{writer_end}
+use Rattle.serve_end.specs.Runs.{EdgesRan, SourceFacts}
+use Rattle.serve_workers.specs.declared.reading.ReaderDone.{ReaderDone}
+use Rattle.serve_workers.specs.declared.session.SessionLink.{SessionLink}
+use Rattle.serve_workers.specs.declared.session.LinkDone.{LinkDone}
+use Rattle.serve_workers.specs.Sessions.{SessionRuns}
 use Rattle.serve_workers.specs.EdgeLines.{TookLines}
 use Rattle.serve_workers.specs.Readings.{HandsOn, IsDevicePiece, IsInputPiece, TakesMore, Took, WasRead}
 use Rattle.serve_workers.specs.Writing.{Writes}

@@ -10,9 +10,9 @@ use Rattle.gps_report.specs.declared.edge.Edge.{Edge}
 use Rattle.gps_world.specs.Opening.{IsAllLeft}
 use Rattle.gps_world.specs.declared.place.Place.{Place}
 use Rattle.hub_promise.specs.Parts.{InletsView, LaneNames, device_held, devices_held, edges_in_source, names_of}
-use Rattle.serve_end_settling.specs.Runs.{SourceFacts}
-use Rattle.serve_pieces.specs.Held.{of_source}
-use Rattle.serve_pieces.specs.declared.piece.Piece.{Piece}
+use Rattle.serve_end.specs.Runs.{SourceFacts}
+use Rattle.gps_lane.specs.Held.{of_source}
+use Rattle.gps_lane.specs.declared.piece.Piece.{Piece}
 use Rattle.serve_workers.specs.Sourced.{held_in}
 use Rattle.serve_workers.specs.Writing.{AllowsClients}
 use Rattle.session_core.specs.declared.subject.DeviceHeld.{DeviceHeld}
@@ -20,7 +20,7 @@ use Rattle.session_core.specs.declared.subject.Subject.{Subject}
 use Rattle.session_runs.specs.Asking.{Asked}
 use Rattle.session_runs.specs.Due.{IsDue, IsReadFrom, MayWrite}
 use Rattle.session_runs.specs.Runs.{items_over}
-use Rattle.world_opening.specs.Opening.{IsEdgeHeld, IsHeld}
+use Rattle.gps_world.specs.OpenInOrder.{IsEdgeHeld, IsHeld}
 use Rattle.gps_serve.specs.declared.starts.DeviceStart.{DeviceStart}
 use Rattle.gps_serve.specs.declared.starts.EdgeStart.{EdgeStart}
 use Rattle.gps_serve.specs.Starts.{IsFreshDevice, IsFreshEdge, edge_source_of, edges_at, sources_at}

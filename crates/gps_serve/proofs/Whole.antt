@@ -14,15 +14,15 @@ use Rattle.hub_promise.specs.DaemonHub.{DeviceFits, whole_log}
 use Rattle.hub_promise.specs.Given.{edge_ending, end_by, end_of, ending_of, got_of}
 use Rattle.hub_promise.specs.Parts.{InletsView, device_of, devices_of}
 use Rattle.report_book.specs.BookView.{BookView}
-use Rattle.serve_end_parts.specs.declared.done.DeviceDone.{DeviceDone}
-use Rattle.serve_pieces.specs.Carried.{device_part, input_part}
-use Rattle.serve_pieces.specs.declared.piece.Ending.{Ending}
-use Rattle.serve_pieces.specs.declared.piece.Ending.TheVariants.{End, Failed, NoMemory}
-use Rattle.serve_pieces.specs.declared.piece.Piece.{Piece}
-use Rattle.serve_pieces.specs.declared.piece.Piece.TheVariants.{Bytes, Line, Input, Last}
-use Rattle.serve_end_settling.specs.Lanes.{OneMoreAtMost, TellsLast, ZipOption}
-use Rattle.serve_end_settling.specs.Runs.{SourceFacts}
-use Rattle.serve_end_settling.proofs.Endings.{devices_tell_last, edges_tell_last, settled}
+use Rattle.serve_end.specs.declared.done.DeviceDone.{DeviceDone}
+use Rattle.gps_lane.specs.Carried.{device_part, input_part}
+use Rattle.gps_lane.specs.declared.piece.Ending.{Ending}
+use Rattle.gps_lane.specs.declared.piece.Ending.TheVariants.{End, Failed, NoMemory}
+use Rattle.gps_lane.specs.declared.piece.Piece.{Piece}
+use Rattle.gps_lane.specs.declared.piece.Piece.TheVariants.{Bytes, Line, Input, Last}
+use Rattle.serve_end.specs.Lanes.{OneMoreAtMost, TellsLast, ZipOption}
+use Rattle.serve_end.specs.Runs.{SourceFacts}
+use Rattle.serve_end.proofs.Endings.{devices_tell_last, edges_tell_last, settled}
 use Rattle.serve_workers.specs.EdgeLines.{HandsLines, TookLines, line_pieces}
 use Rattle.serve_workers.specs.Readings.{Each, HandsOn, IsDevicePiece, IsInputPiece, Took, last_piece}
 use Rattle.gps_serve.specs.AtEnd.{AtEnd, DaemonStart, HandedBack}

@@ -5,23 +5,23 @@ use Rattle.gps_fixed.specs.Moment.{Moment}
 use Rattle.gps_outside.specs.Ticks.{Dial}
 use Rattle.book_sessions.specs.MemberView.{MemberView}
 use Rattle.report_book.specs.BookView.{BookView}
-use Rattle.serve_end_parts.specs.declared.done.DeviceDone.{DeviceDone}
-use Rattle.serve_end_parts.specs.declared.done.SessionDone.{SessionDone}
-use Rattle.serve_end_parts.specs.declared.done.MonitorDone.{MonitorDone}
-use Rattle.serve_end_parts.specs.declared.plan.Plan.{Plan}
+use Rattle.serve_end.specs.declared.done.DeviceDone.{DeviceDone}
+use Rattle.serve_end.specs.declared.done.SessionDone.{SessionDone}
+use Rattle.serve_end.specs.declared.done.MonitorDone.{MonitorDone}
+use Rattle.serve_end.specs.declared.plan.Plan.{Plan}
 use Rattle.hub_promise.specs.DaemonHub.{DaemonHub}
 use Rattle.hub_promise.specs.Keeping.{IsClosed}
 use Rattle.hub_promise.specs.Parts.{InletsView, Parts, Terms, devices_of}
-use Rattle.serve_end_settling.specs.Failing.{AnyOf}
+use Rattle.serve_end.specs.Failing.{AnyOf}
 use Rattle.serve_door.specs.Doors.{Way}
 use Rattle.gps_serve.specs.Lost.{DeviceTellsOutOfMemory, LinkIsUncounted, MissesSample, SessionTellsOutOfMemory, WasClosedOutOfMemory, WasLostOutOfMemory}
 use Rattle.serve_floor.specs.Bursts.{HasStopped}
 use Rattle.gps_serve.specs.Stamps.{StampsAreGiven}
 use Rattle.gps_serve.specs.Units.{UnitServed}
 use Rattle.gps_serve.specs.Facts.{WorldFacts}
-use Rattle.serve_end_parts.specs.declared.served.Served.{Served}
+use Rattle.serve_end.specs.declared.served.Served.{Served}
 use Rattle.gps_world.specs.declared.world.World.{Ghosts as WorldGhosts}
-use Rattle.world_opening.specs.Opening.{dial_of}
+use Rattle.gps_world.specs.OpenInOrder.{dial_of}
 use Rattle.gps_serve.specs.Served.{DeviceServed, GateServed, InputServed, MonitorServed, OutletServed, monitored}
 
 -- what a daemon was told to serve, but for the places

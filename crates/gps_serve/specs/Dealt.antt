@@ -7,15 +7,15 @@ use Rattle.gps_outside.specs.declared.client_sink.ClientSink.{Ghosts as SinkGhos
 use Rattle.gps_outside.specs.declared.source.Source.{Ghosts as SourceGhosts}
 use Rattle.gps_hub.specs.declared.naming.HubNaming.{Ghosts as HubGhosts}
 use Rattle.hub_door.specs.declared.naming.DoorNaming.{Ghosts as DoorNamingGhosts}
-use Rattle.serve_pieces.specs.declared.piece.Piece.{Piece}
+use Rattle.gps_lane.specs.declared.piece.Piece.{Piece}
 use Rattle.serve_workers.specs.Stamping.{StampsPieces}
-use Rattle.serve_end_settling.specs.declared.device.DeviceRun.{DeviceRun}
+use Rattle.serve_end.specs.declared.device.DeviceRun.{DeviceRun}
 use Rattle.stamp_shares.specs.declared.view.ShareView.{ShareView}
 use Rattle.stamp_shares.specs.Shares.{new_share}
 use Rattle.gps_serve.specs.declared.readers.DeviceWork.{DeviceWork}
 use Rattle.gps_serve.specs.declared.scope.Ended.{Ended}
 use Rattle.gps_serve.specs.declared.starts.DeviceStart.{DeviceStart}
-use Rattle.serve_threads.specs.Joining.{RanSoFar}
+use Rattle.serve_workers.specs.Joining.{RanSoFar}
 use Rattle.gps_serve.specs.Stamps.{StampsAreGiven}
 use Rattle.gps_serve.specs.Works.{ReadersAre}
 

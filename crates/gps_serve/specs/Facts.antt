@@ -3,7 +3,7 @@ use Rattle.std.specs.Prelude.{ℕ, List, Option}
 use Rattle.gps_outside.specs.declared.door.Door.{Ghosts as DoorGhosts}
 use Rattle.gps_outside.specs.declared.client_sink.ClientSink.{Ghosts as SinkGhosts}
 use Rattle.gps_outside.specs.declared.source.Source.{Ghosts as SourceGhosts}
-use Rattle.serve_end_settling.specs.Runs.{SourceFacts, source_facts}
+use Rattle.serve_end.specs.Runs.{SourceFacts, source_facts}
 use Rattle.serve_door.specs.Doors.{Way}
 
 -- of a sink

@@ -2,9 +2,9 @@
 use Rattle.std.specs.Prelude.{◌≡◌, ◌<◌, ℕ, Bool, true, false, [], Option, Some, None, Result, Ok, Err}
 use Rattle.std.specs.List.{All}
 use Rattle.report_book.specs.BookView.{BookView}
-use Rattle.serve_end_settling.specs.Failing.{AnyOf, DeviceFailed}
-use Rattle.world_opening.specs.declared.opening.Stop.{Stop}
-use Rattle.world_opening.specs.declared.opening.Stop.TheVariants.{Input, Listen, NoMemory}
+use Rattle.serve_end.specs.Failing.{AnyOf, DeviceFailed}
+use Rattle.gps_world.specs.declared.opening.Stop.{Stop}
+use Rattle.gps_world.specs.declared.opening.Stop.TheVariants.{Input, Listen, NoMemory}
 use Rattle.gps_serve.specs.declared.daemon_end.DaemonEnd.{DaemonEnd}
 use Rattle.gps_serve.specs.declared.daemon_end.Unserved.{Unserved}
 use Rattle.gps_serve.specs.AtEnd.{HandedBack, back_with}

@@ -10,8 +10,8 @@ use Rattle.gps_world.specs.declared.place.Place.{Place}
 use Rattle.hub_promise.specs.declared.ends.DeviceEnd.TheVariants.{Ended}
 use Rattle.packet_cut.specs.Packets.{bytes_of}
 use Rattle.report_book.specs.BookView.{BookView}
-use Rattle.serve_end_parts.specs.declared.done.DeviceDone.{DeviceDone}
-use Rattle.serve_end_settling.specs.Runs.{SourceFacts}
+use Rattle.serve_end.specs.declared.done.DeviceDone.{DeviceDone}
+use Rattle.serve_end.specs.Runs.{SourceFacts}
 use Rattle.gps_serve.specs.AtEnd.{AtEnd, DaemonStart, HandedBack}
 use Rattle.gps_serve.specs.Facts.{WorldFacts}
 use Rattle.gps_serve.specs.Served.{BytesHeld}

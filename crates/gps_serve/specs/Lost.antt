@@ -10,15 +10,15 @@ use Rattle.hub_promise.specs.declared.ends.DeviceEnd.{DeviceEnd}
 use Rattle.hub_promise.specs.declared.ends.DeviceEnd.TheVariants.{Ended, ReadFault, NoMemory as LostNoMemory}
 use Rattle.hub_promise.specs.Given.{ending_of}
 use Rattle.report_book.specs.BookView.{BookView}
-use Rattle.serve_end_parts.specs.declared.done.DeviceDone.{DeviceDone}
-use Rattle.serve_end_parts.specs.declared.done.MonitorDone.{MonitorDone}
-use Rattle.serve_end_parts.specs.declared.done.SessionDone.{SessionDone}
-use Rattle.serve_end_settling.specs.declared.device.DeviceRun.{DeviceRun}
-use Rattle.serve_pieces.specs.declared.piece.Ending.{Ending}
-use Rattle.serve_pieces.specs.declared.piece.Ending.TheVariants as reading
-use Rattle.serve_pieces.specs.declared.piece.Piece.{Piece}
-use Rattle.serve_threads.specs.declared.reading.ReaderDone.{ReaderDone}
-use Rattle.serve_threads.specs.declared.session.LinkDone.{LinkDone}
+use Rattle.serve_end.specs.declared.done.DeviceDone.{DeviceDone}
+use Rattle.serve_end.specs.declared.done.MonitorDone.{MonitorDone}
+use Rattle.serve_end.specs.declared.done.SessionDone.{SessionDone}
+use Rattle.serve_end.specs.declared.device.DeviceRun.{DeviceRun}
+use Rattle.gps_lane.specs.declared.piece.Ending.{Ending}
+use Rattle.gps_lane.specs.declared.piece.Ending.TheVariants as reading
+use Rattle.gps_lane.specs.declared.piece.Piece.{Piece}
+use Rattle.serve_workers.specs.declared.reading.ReaderDone.{ReaderDone}
+use Rattle.serve_workers.specs.declared.session.LinkDone.{LinkDone}
 use Rattle.session_core.specs.declared.mark.Close.{Close}
 use Rattle.session_core.specs.declared.mark.Close.TheVariants as closed
 use Rattle.serve_workers.specs.Watching.{each_once}

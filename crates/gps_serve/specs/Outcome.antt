@@ -2,10 +2,10 @@
 use Rattle.std.specs.Prelude.{◌≡◌, ◌⊎◌, ℕ, true, false, IfSome, IsSome}
 use Rattle.std.specs.List.{All}
 use Rattle.report_book.specs.BookView.{BookView}
-use Rattle.serve_end_parts.specs.declared.served.Served.{Served}
-use Rattle.serve_end_settling.specs.Failing.{AnyOf, DeviceFailed, SourceFailed}
-use Rattle.world_opening.specs.declared.opening.Stop.{Stop}
-use Rattle.world_opening.specs.declared.opening.Stop.TheVariants.{Input, Listen, NoMemory}
+use Rattle.serve_end.specs.declared.served.Served.{Served}
+use Rattle.serve_end.specs.Failing.{AnyOf, DeviceFailed, SourceFailed}
+use Rattle.gps_world.specs.declared.opening.Stop.{Stop}
+use Rattle.gps_world.specs.declared.opening.Stop.TheVariants.{Input, Listen, NoMemory}
 use Rattle.gps_serve.specs.Lost.{NoneLost, ReadersHadMemory}
 use Rattle.gps_serve.specs.Statuses.{AllEnded, TellsNoFault, WasLostByFault}
 

@@ -7,20 +7,20 @@ use Rattle.book_units.specs.Units.{UnitView, segment_of}
 use Rattle.gps_lane.specs.Ends.{Taking}
 use Rattle.gps_outside.specs.Links.{IsUnwritten}
 use Rattle.session_core.specs.Naming.{table_of}
-use Rattle.serve_pieces.specs.declared.piece.Piece.{Piece}
-use Rattle.serve_end_parts.specs.declared.done.MonitorDone.{MonitorDone}
-use Rattle.serve_end_parts.specs.declared.done.SessionDone.{SessionDone}
-use Rattle.serve_threads.specs.declared.monitors.ReadingsDone.{ReadingsDone}
-use Rattle.serve_threads.specs.declared.session.SessionLink.{SessionLink}
-use Rattle.serve_threads.specs.declared.session.LinkDone.{LinkDone}
-use Rattle.serve_threads.specs.Monitors.{MonitorRan}
-use Rattle.serve_threads.specs.Sessions.{SessionRuns, Wrote}
+use Rattle.gps_lane.specs.declared.piece.Piece.{Piece}
+use Rattle.serve_end.specs.declared.done.MonitorDone.{MonitorDone}
+use Rattle.serve_end.specs.declared.done.SessionDone.{SessionDone}
+use Rattle.serve_workers.specs.declared.monitors.ReadingsDone.{ReadingsDone}
+use Rattle.serve_workers.specs.declared.session.SessionLink.{SessionLink}
+use Rattle.serve_workers.specs.declared.session.LinkDone.{LinkDone}
+use Rattle.serve_workers.specs.Monitors.{MonitorRan}
+use Rattle.serve_workers.specs.Sessions.{SessionRuns, Wrote}
 use Rattle.gps_serve.specs.Facts.{SinkFacts}
 use Rattle.gps_serve.specs.Served.{InputServed, MonitorServed, OutletServed}
 use Rattle.serve_door.specs.Doors.{HasNewLanes}
-use Rattle.serve_end_settling.specs.Lanes.{OneMoreAtMost}
-use Rattle.serve_end_settling.specs.Outlets.{writer_end}
-use Rattle.serve_end_settling.specs.Runs.{SourceFacts}
+use Rattle.serve_end.specs.Lanes.{OneMoreAtMost}
+use Rattle.serve_end.specs.Outlets.{writer_end}
+use Rattle.serve_end.specs.Runs.{SourceFacts}
 use Rattle.gps_serve.specs.Starts.{IsUnreadBy}
 
 -- the threads of a session worked on a new link, whose lanes are those of its admission

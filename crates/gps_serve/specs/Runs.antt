@@ -6,11 +6,11 @@ use Rattle.gps_outside.specs.Told.{Goes, Stream}
 use Rattle.hub_promise.specs.declared.ends.DeviceEnd.{DeviceEnd}
 use Rattle.hub_promise.specs.declared.ends.DeviceEnd.TheVariants.{Ended}
 use Rattle.hub_promise.specs.Parts.{LaneNames, InletsView, names_of}
-use Rattle.serve_end_parts.specs.declared.done.DeviceDone.{DeviceDone}
-use Rattle.serve_end_settling.specs.declared.device.DeviceRun.{DeviceRun}
-use Rattle.serve_end_settling.specs.Failing.{source_of}
-use Rattle.serve_end_settling.specs.Lanes.{ZipOption, tx_of}
-use Rattle.serve_end_settling.specs.Runs.{Ran, SourceFacts}
+use Rattle.serve_end.specs.declared.done.DeviceDone.{DeviceDone}
+use Rattle.serve_end.specs.declared.device.DeviceRun.{DeviceRun}
+use Rattle.serve_end.specs.Failing.{source_of}
+use Rattle.serve_end.specs.Lanes.{ZipOption, tx_of}
+use Rattle.serve_end.specs.Runs.{Ran, SourceFacts}
 use Rattle.gps_serve.specs.declared.starts.DeviceStart.{DeviceStart}
 use Rattle.gps_serve.specs.Served.{DeviceServed, TakesFirst}
 use Rattle.gps_serve.specs.Starts.{IsFreshDevice, edge_source_of, starts_of}

@@ -8,9 +8,9 @@ use Rattle.gps_outside.specs.declared.client_sink.ClientSink.{Ghosts as SinkGhos
 use Rattle.gps_outside.specs.declared.source.Source.{Ghosts as SourceGhosts}
 use Rattle.gps_hub.specs.declared.naming.HubNaming.{Ghosts as HubGhosts}
 use Rattle.hub_door.specs.declared.naming.DoorNaming.{Ghosts as DoorNamingGhosts}
-use Rattle.serve_end_settling.specs.Runs.{EachRun, RunCause, SourceFacts}
-use Rattle.serve_threads.specs.declared.monitors.MonitorStart.{MonitorStart}
-use Rattle.serve_threads.specs.Sessions.{SessionRuns}
+use Rattle.serve_end.specs.Runs.{EachRun, RunCause, SourceFacts}
+use Rattle.serve_workers.specs.declared.monitors.MonitorStart.{MonitorStart}
+use Rattle.serve_workers.specs.Sessions.{SessionRuns}
 use Rattle.gps_serve.specs.declared.starts.DeviceStart.{DeviceStart}
 use Rattle.gps_serve.specs.declared.scope.Ended.{Ended}
 use Rattle.gps_serve.specs.Facts.{GateFacts, SinkFacts}

@@ -13,25 +13,25 @@ use Rattle.book_sessions.specs.MemberView.{MemberView}
 use Rattle.hub_door.specs.Admissions.{LinkDrop}
 use Rattle.book_units.specs.Units.{UnitView, segment_of}
 use Rattle.output_lines.specs.declared.closing.SessionEnd.TheVariants.{Drained, WriteFault}
-use Rattle.serve_pieces.specs.Carried.{device_part, input_part}
-use Rattle.serve_pieces.specs.declared.piece.Ending.{Ending}
-use Rattle.serve_pieces.specs.declared.piece.Ending.TheVariants.{Failed}
-use Rattle.serve_pieces.specs.declared.piece.Piece.{Piece}
+use Rattle.gps_lane.specs.Carried.{device_part, input_part}
+use Rattle.gps_lane.specs.declared.piece.Ending.{Ending}
+use Rattle.gps_lane.specs.declared.piece.Ending.TheVariants.{Failed}
+use Rattle.gps_lane.specs.declared.piece.Piece.{Piece}
 use Rattle.serve_workers.specs.EdgeLines.{HandsLines}
 use Rattle.serve_workers.specs.Readings.{HandsOn, IsDevicePiece, IsInputPiece, WasRead}
 use Rattle.serve_workers.specs.Watching.{Climbs, each_once}
 use Rattle.serve_workers.specs.Writing.{Writes}
-use Rattle.serve_end_parts.specs.declared.done.DeviceDone.{DeviceDone}
-use Rattle.serve_end_parts.specs.declared.done.SessionDone.{SessionDone}
-use Rattle.serve_end_parts.specs.declared.done.MonitorDone.{MonitorDone}
-use Rattle.serve_end_settling.specs.Lanes.{OneMoreOfEach, ZipOption, lanes}
-use Rattle.serve_end_settling.specs.Outlets.{writer_end}
-use Rattle.serve_end_settling.specs.Units.{ArePublished}
+use Rattle.serve_end.specs.declared.done.DeviceDone.{DeviceDone}
+use Rattle.serve_end.specs.declared.done.SessionDone.{SessionDone}
+use Rattle.serve_end.specs.declared.done.MonitorDone.{MonitorDone}
+use Rattle.serve_end.specs.Lanes.{OneMoreOfEach, ZipOption, lanes}
+use Rattle.serve_end.specs.Outlets.{writer_end}
+use Rattle.serve_end.specs.Units.{ArePublished}
 use Rattle.session_core.specs.Naming.{table_of}
 use Rattle.hub_promise.specs.declared.ends.DeviceEnd.{DeviceEnd}
 use Rattle.hub_promise.specs.declared.ends.DeviceEnd.TheVariants.{Ended}
 use Rattle.hub_promise.specs.Parts.{InletsView}
-use Rattle.serve_end_settling.specs.Runs.{SourceFacts}
+use Rattle.serve_end.specs.Runs.{SourceFacts}
 use Rattle.serve_door.specs.Doors.{Tends, Way, door_now}
 use Rattle.gps_serve.specs.Starts.{IsUnreadBy}
 use Rattle.gps_serve.specs.Facts.{GateFacts, SinkFacts, WorldFacts}

@@ -2,8 +2,8 @@
 use Rattle.std.specs.Prelude.{◌≡◌, ◌≤◌, ℕ, suc, List, [], ◌∷◌, ◌++◌, length, Option}
 use Rattle.gps_fixed.specs.Moment.{Moment}
 use Rattle.gps_outside.specs.Ticks.{Dial}
-use Rattle.serve_pieces.specs.declared.piece.Piece.{Piece}
-use Rattle.serve_pieces.specs.Carried.{stamps_of}
+use Rattle.gps_lane.specs.declared.piece.Piece.{Piece}
+use Rattle.gps_lane.specs.Carried.{stamps_of}
 use Rattle.serve_workers.specs.Clocks.{Gave}
 use Rattle.stamp_shares.specs.declared.view.Given.{Given}
 use Rattle.stamp_shares.specs.Shares.{stamps_for, stamps_in}

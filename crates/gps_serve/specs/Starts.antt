@@ -4,13 +4,13 @@ use Rattle.std.specs.List.{All}
 use Rattle.gps_lane.specs.Ends.{Putting, Taking, IsFreshLane}
 use Rattle.gps_outside.specs.Links.{IsUnread}
 use Rattle.gps_outside.specs.Told.{Stream}
-use Rattle.serve_pieces.specs.declared.piece.Piece.{Piece}
+use Rattle.gps_lane.specs.declared.piece.Piece.{Piece}
 use Rattle.serve_workers.specs.Sourced.{held_in}
 use Rattle.hub_promise.specs.Parts.{InletsView}
-use Rattle.serve_end_settling.specs.Runs.{ReaderStart, ReaderStarts, SourceFacts}
+use Rattle.serve_end.specs.Runs.{ReaderStart, ReaderStarts, SourceFacts}
 use Rattle.gps_serve.specs.declared.starts.DeviceStart.{DeviceStart}
 use Rattle.gps_serve.specs.declared.starts.EdgeStart.{EdgeStart}
-use Rattle.serve_pieces.specs.Held.{of_source}
+use Rattle.gps_lane.specs.Held.{of_source}
 
 -- nothing was taken from the source, if it tells that, and it counted nothing
 abbrev pub IsUnreadBy : {S : Type 0} → SourceFacts S → S → Type 0

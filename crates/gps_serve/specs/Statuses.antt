@@ -4,10 +4,10 @@ use Rattle.std.specs.List.{list_all}
 use Rattle.gps_lane.specs.Ends.{Putting}
 use Rattle.hub_promise.specs.declared.ends.DeviceEnd.TheVariants.{ReadFault}
 use Rattle.hub_promise.specs.Given.{ending_of, is_end}
-use Rattle.serve_end_parts.specs.declared.done.DeviceDone.{DeviceDone}
-use Rattle.serve_pieces.specs.declared.piece.Ending.TheVariants.{Failed}
-use Rattle.serve_pieces.specs.declared.piece.Piece.{Piece}
-use Rattle.serve_threads.specs.declared.monitors.ReadingsDone.{ReadingsDone}
+use Rattle.serve_end.specs.declared.done.DeviceDone.{DeviceDone}
+use Rattle.gps_lane.specs.declared.piece.Ending.TheVariants.{Failed}
+use Rattle.gps_lane.specs.declared.piece.Piece.{Piece}
+use Rattle.serve_workers.specs.declared.monitors.ReadingsDone.{ReadingsDone}
 use Rattle.gps_serve.specs.declared.status.DaemonOutcome.{DaemonOutcome}
 
 -- it was seen; or a device was lost, and no source failed

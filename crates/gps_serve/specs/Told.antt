@@ -2,9 +2,9 @@
 use Rattle.std.specs.Prelude.{ℕ, List, [], ◌∷◌, ◌++◌, Option, option_map}
 use Rattle.gps_world.specs.declared.place.Place.{Place}
 use Rattle.hub_promise.specs.Parts.{edges_in_source}
-use Rattle.serve_end_parts.specs.declared.plan.Plan.{Plan}
+use Rattle.serve_end.specs.declared.plan.Plan.{Plan}
 use Rattle.session_core.specs.declared.subject.DeviceHeld.{DeviceHeld}
-use Rattle.world_opening.specs.Opening.{behind_once, places_in}
+use Rattle.gps_world.specs.OpenInOrder.{behind_once, places_in}
 
 abbrev pub device_told : (Place → Option (List ℕ)) → List ℕ → Place → Option Place → DeviceHeld
 device_told behind name input edges = record { name = name; bytes = behind input; edges = edges_in_source (option_map behind edges) }

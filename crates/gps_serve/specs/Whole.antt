@@ -6,13 +6,13 @@ use Rattle.gps_outside.specs.Told.{Goes, Stream}
 use Rattle.hub_promise.specs.declared.ends.DeviceEnd.{DeviceEnd}
 use Rattle.hub_promise.specs.declared.ends.DeviceEnd.TheVariants.{Ended, ReadFault}
 use Rattle.hub_promise.specs.Given.{end_of}
-use Rattle.serve_end_parts.specs.declared.done.DeviceDone.{DeviceDone}
-use Rattle.serve_pieces.specs.Carried.{device_part}
-use Rattle.serve_pieces.specs.declared.piece.Ending.{Ending}
-use Rattle.serve_pieces.specs.declared.piece.Ending.TheVariants.{End}
-use Rattle.serve_pieces.specs.declared.piece.Piece.{Piece}
-use Rattle.serve_end_settling.specs.Lanes.{ZipOption}
-use Rattle.serve_end_settling.specs.Runs.{SourceFacts}
+use Rattle.serve_end.specs.declared.done.DeviceDone.{DeviceDone}
+use Rattle.gps_lane.specs.Carried.{device_part}
+use Rattle.gps_lane.specs.declared.piece.Ending.{Ending}
+use Rattle.gps_lane.specs.declared.piece.Ending.TheVariants.{End}
+use Rattle.gps_lane.specs.declared.piece.Piece.{Piece}
+use Rattle.serve_end.specs.Lanes.{ZipOption}
+use Rattle.serve_end.specs.Runs.{SourceFacts}
 use Rattle.serve_workers.specs.EdgeLines.{HandsLines}
 use Rattle.serve_workers.specs.Readings.{HandsOn, IsDevicePiece}
 use Rattle.gps_serve.specs.Starts.{IsUnreadBy}

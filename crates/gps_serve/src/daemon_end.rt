@@ -6,13 +6,12 @@ ghost use Rattle.gps_serve.specs.Outcome.{OutcomeHasCause, status_of};
 use crate::status::DaemonOutcome;
 use gps_lane::Tx;
 use gps_outside::{ClientSink, Source};
-use gps_world::World;
+use gps_world::{Stop, World};
 use report_book::Book;
-use serve_end_parts::{DeviceDone, MonitorDone, Served, SessionDone};
+use serve_end::{DeviceDone, MonitorDone, Served, SessionDone};
 use session_core::Item;
 use std::alloc::Global;
 use std::sync::Wait;
-use world_opening::Stop;
 
 /// What is left of a daemon that served, and how its work ended.
 #[derive(Drop)]

@@ -2,20 +2,19 @@ ghost use Rattle.std.specs.Prelude.{◌≡◌, ◌≤◌, ◌<◌, ◌∷◌, []
 ghost use Rattle.std.specs.List.{AllZip};
 ghost use Rattle.std.specs.Option.{option_to_list};
 ghost use Rattle.std.specs.Vec.Iter.{into_iter_items};
-ghost use Rattle.world_opening.specs.Opening.{AreUnread, sources_in};
+ghost use Rattle.gps_world.specs.OpenInOrder.{AreUnread, sources_in};
 ghost use Rattle.gps_lane.specs.Ends.{IsFreshLane};
-ghost use Rattle.serve_pieces.specs.Held.{of_source};
+ghost use Rattle.gps_lane.specs.Held.{of_source};
 ghost use Rattle.serve_workers.specs.Sourced.{held_in};
-ghost use Rattle.serve_end_settling.specs.Runs.{source_facts};
+ghost use Rattle.serve_end.specs.Runs.{source_facts};
 ghost use Rattle.gps_serve.specs.Starts.{IsFreshDevice, IsFreshEdge, IsUnreadBy, edge_source_of, edges_at, sources_at};
 
 use crate::starts::{DeviceStart, EdgeStart};
 use gps_fixed::NoMemory;
 use gps_hub::Inlets;
-use gps_lane::{About, Rx, Tx, lane_about};
+use gps_lane::{About, Piece, Rx, Tx, lane_about};
 use gps_outside::Source;
 use serve_door::PIECES;
-use serve_pieces::Piece;
 use std::alloc::Global;
 use std::marker::Brand;
 use std::sync::Wait;
@@ -133,7 +132,7 @@ fn next_edge<S: Source>(edges: &mut IntoIter<Option<S>>) -> Option<S>
 }
 
 /// A lane for each device, and one for its edges if it has a source of them.
-#[tactic(auto, using(serve_threads::proofs::Zips::zip_more))]
+#[tactic(auto, using(serve_workers::proofs::Zips::zip_more))]
 pub(crate) fn lay<S: Source, R: Wait + Copy>(
     rt: R,
     alloc: Global,

@@ -17,7 +17,5 @@ mod starts;
 mod status;
 
 pub use laws::ended_devices_are_logged_whole;
-pub use serve_end_parts::{
-    DeviceDone, DeviceEnd, MonitorDone, Plan, Served, SessionDone, SessionEnd,
-};
+pub use serve_end::{DeviceDone, DeviceEnd, MonitorDone, Plan, Served, SessionDone, SessionEnd};
 pub use served::serve;

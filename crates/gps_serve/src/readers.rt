@@ -1,5 +1,5 @@
 ghost use Rattle.std.specs.Prelude.{◌≡◌, option_map};
-ghost use Rattle.serve_end_settling.specs.Runs.{EdgeCause, EdgesRan, RunCause, source_facts};
+ghost use Rattle.serve_end.specs.Runs.{EdgeCause, EdgesRan, RunCause, source_facts};
 ghost use Rattle.gps_serve.specs.Dealt.{UsesShare};
 ghost use Rattle.gps_serve.specs.Starts.{AreTold, EdgesTold, edge_start_of};
 ghost use Rattle.gps_serve.specs.Works.{BytesAre, EdgesAre, JoinsDevice, ReadersAre};
@@ -7,12 +7,11 @@ ghost use Rattle.gps_serve.specs.Works.{BytesAre, EdgesAre, JoinsDevice, Readers
 use crate::starts::{DeviceStart, EdgeStart};
 use gps_lane::Bell;
 use gps_outside::{Clock, Source};
-use serve_end_settling::DeviceRun;
-use serve_threads::{
-    DeviceBells, DeviceReaderDone, DeviceReading, EdgeReading, ReaderBells, ReaderDone, Spawner,
-    Work, start_device, start_edges,
+use serve_end::DeviceRun;
+use serve_workers::{
+    DeviceBells, DeviceReaderDone, DeviceReading, Dials, EdgeReading, ReaderBells, ReaderDone,
+    SharedClock, Spawner, Work, start_device, start_edges,
 };
-use serve_workers::{Dials, SharedClock};
 use stamp_shares::StampShare;
 use std::sync::{Mutex, Wait};
 use std::thread::Threads;
@@ -89,7 +88,7 @@ pub(crate) fn start_readers<
     DeviceWork { bytes, edges }
 }
 
-#[tactic(auto, using(serve_end_settling::proofs::Causes::lines_cause))]
+#[tactic(auto, using(serve_end::proofs::Causes::lines_cause))]
 fn join_edges<S: Source, R: Wait + Copy, T: Threads>(
     rt: &T,
     work: Option<Work<ReaderDone<S, R>, EdgeReading<S, R>>>,
@@ -104,7 +103,7 @@ fn join_edges<S: Source, R: Wait + Copy, T: Threads>(
 }
 
 /// Waits for the readers of a device.
-#[tactic(auto, using(serve_end_settling::proofs::Causes::reads_cause))]
+#[tactic(auto, using(serve_end::proofs::Causes::reads_cause))]
 pub(crate) fn join_readers<S: Source, D: Dials, R: Wait + Copy, T: Threads>(
     rt: &T,
     work: DeviceWork<S, D, R>,

@@ -1,7 +1,7 @@
 ghost use Rattle.std.specs.Prelude.{◌≡◌, ◌≤◌, ◌⊎◌, [], true, false, length, IfOk};
 ghost use Rattle.std.specs.List.{AllZip, list_all, list_any};
 ghost use Rattle.std.specs.Vec.{vec_len, vec_capacity};
-ghost use Rattle.serve_end_settling.specs.Runs.{RunCause, EachRun, source_facts};
+ghost use Rattle.serve_end.specs.Runs.{RunCause, EachRun, source_facts};
 ghost use Rattle.gps_serve.specs.Dealt.{AreNumbered, SharesUsed, StampedIf};
 ghost use Rattle.gps_serve.specs.Facts.{gate_facts, sink_facts};
 ghost use Rattle.gps_serve.specs.Lost.{link_out_of_memory, run_out_of_memory};
@@ -18,12 +18,12 @@ use gps_fixed::NoMemory;
 use gps_hub::HubNaming;
 use gps_outside::{ClientSink, Clock, Door, Source};
 use serve_door::{DoorBegin, DoorContext, DoorDone, start_door};
-use serve_end_settling::DeviceRun;
+use serve_end::DeviceRun;
 use serve_floor::{Floor, Waker, pump, start_publisher, wake_readers};
-use serve_threads::{
-    Bells, MonitorPromise, MonitorStart, ReadingsDone, Spawner, Work, start_monitor,
+use serve_workers::{
+    Bells, Dials, MonitorPromise, MonitorStart, ReadingsDone, SharedClock, Spawner, Work,
+    start_monitor,
 };
-use serve_workers::{Dials, SharedClock};
 use stamp_shares::StampRoll;
 use std::alloc::Global;
 use std::sync::{Mutex, Wait};
@@ -211,7 +211,7 @@ pub(crate) fn set_up<
 }
 
 /// Starts the monitors.
-#[tactic(auto, using(serve_threads::proofs::Zips::ran_none, serve_threads::proofs::Zips::ran_more, serve_threads::proofs::Zips::ran_all))]
+#[tactic(auto, using(serve_workers::proofs::Zips::ran_none, serve_workers::proofs::Zips::ran_more, serve_workers::proofs::Zips::ran_all))]
 fn start_monitors<'s, E, R: Threads + Wait + Copy + Send + Sync + 's>(
     spawner: &Spawner<'s, E, R>,
     monitor_starts: Vec<MonitorStart>,
@@ -234,7 +234,7 @@ fn start_monitors<'s, E, R: Threads + Wait + Copy + Send + Sync + 's>(
 }
 
 /// Starts the readers of the devices.
-#[tactic(auto, using(serve_threads::proofs::Zips::ran_none, serve_threads::proofs::Zips::ran_more, serve_threads::proofs::Zips::ran_all, crate::proofs::Stamps::none_numbered, crate::proofs::Stamps::none_counted))]
+#[tactic(auto, using(serve_workers::proofs::Zips::ran_none, serve_workers::proofs::Zips::ran_more, serve_workers::proofs::Zips::ran_all, crate::proofs::Stamps::none_numbered, crate::proofs::Stamps::none_counted))]
 fn start_devices<
     's,
     E,
@@ -274,7 +274,7 @@ fn start_devices<
 }
 
 /// Waits for the readers of the devices, and takes in their shares of the clock's stamps.
-#[tactic(auto, using(serve_threads::proofs::Zips::ran_none, serve_threads::proofs::Zips::ran_more, serve_threads::proofs::Zips::ran_all, crate::proofs::Stamps::none_used, serve_end_settling::proofs::Causes::each_run_more))]
+#[tactic(auto, using(serve_workers::proofs::Zips::ran_none, serve_workers::proofs::Zips::ran_more, serve_workers::proofs::Zips::ran_all, crate::proofs::Stamps::none_used, serve_end::proofs::Causes::each_run_more))]
 fn join_devices<S: Source, C: Clock, D: Dials, R: Wait + Copy, T: Threads + Wait>(
     rt: &T,
     clock: &Mutex<SharedClock<C, D>>,
@@ -306,7 +306,7 @@ fn join_devices<S: Source, C: Clock, D: Dials, R: Wait + Copy, T: Threads + Wait
 }
 
 /// Waits for the monitors.
-#[tactic(auto, using(serve_threads::proofs::Zips::ran_none, serve_threads::proofs::Zips::ran_more, serve_threads::proofs::Zips::ran_all))]
+#[tactic(auto, using(serve_workers::proofs::Zips::ran_none, serve_workers::proofs::Zips::ran_more, serve_workers::proofs::Zips::ran_all))]
 fn join_monitors<T: Threads>(
     rt: &T,
     works: Vec<Work<ReadingsDone, MonitorPromise>>,

@@ -10,11 +10,11 @@ ghost use Rattle.session_runs.specs.Due.{MayWrite};
 ghost use Rattle.serve_workers.specs.Writing.{AllowsClients};
 ghost use Rattle.gps_serve.specs.Told.{devices_in};
 ghost use Rattle.gps_world.specs.Asking.{asked_nothing};
-ghost use Rattle.world_opening.specs.Opening.{AsksAll, AsksPrefix, behind_once, dial_of, places_in};
-ghost use Rattle.serve_end_parts.specs.Plans.{IsPlan};
-ghost use Rattle.serve_end_settling.specs.Runs.{RunCause, EachRun, source_facts};
-ghost use Rattle.serve_threads.specs.Segments.{segments_of};
-ghost use Rattle.serve_threads.specs.Sessions.{SessionRuns};
+ghost use Rattle.gps_world.specs.OpenInOrder.{AsksAll, AsksPrefix, behind_once, dial_of, places_in};
+ghost use Rattle.serve_end.specs.Plans.{IsPlan};
+ghost use Rattle.serve_end.specs.Runs.{RunCause, EachRun, source_facts};
+ghost use Rattle.serve_workers.specs.Segments.{segments_of};
+ghost use Rattle.serve_workers.specs.Sessions.{SessionRuns};
 ghost use Rattle.gps_serve.specs.AtEnd.{AtEnd, handed_back, settings_in, settings_of, start_in, start_with};
 ghost use Rattle.gps_serve.specs.Facts.{gate_facts, world_facts};
 ghost use Rattle.gps_serve.specs.HandingBack.{EndHasCause, back_of};
@@ -40,9 +40,9 @@ use crate::status::{DaemonOutcome, all_ended, was_out_of_memory};
 use gps_fixed::NoMemory;
 use gps_hub::{DoorSeat, Hub, HubNaming, Parted};
 use gps_outside::{ClientSink, Door, Source};
-use gps_world::World;
+use gps_world::{Outside, Stop, World, open};
 use serve_door::{DoorBegin, DoorDone, DueSinks};
-use serve_end_parts::{DeviceDone, MonitorDone, Plan, Served};
+use serve_end::{DeviceDone, MonitorDone, Plan, Served};
 use serve_floor::{Burst, Floor, Rings, floor_of};
 use serve_workers::{Dials, SharedClock};
 use std::alloc::Global;
@@ -50,7 +50,6 @@ use std::marker::Brand;
 use std::snapshot::Snapshot;
 use std::sync::{Mutex, Wait};
 use std::thread::Threads;
-use world_opening::{Outside, Stop, open};
 
 /// The numbers of a plan.
 #[derive(Clone, Copy)]

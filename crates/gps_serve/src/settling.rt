@@ -4,9 +4,9 @@ ghost use Rattle.std.specs.Vec.{vec_len, vec_capacity};
 ghost use Rattle.std.specs.Vec.Iter.{into_iter_items};
 ghost use Rattle.book_sessions.specs.MemberView.{MemberView};
 ghost use Rattle.book_units.specs.Units.{UnitView};
-ghost use Rattle.serve_end_settling.specs.Failing.{DeviceFailed, AnyOf, source_of};
-ghost use Rattle.serve_end_settling.specs.Lanes.{tx_of};
-ghost use Rattle.serve_end_settling.specs.Runs.{RunCause, EachRun, source_facts};
+ghost use Rattle.serve_end.specs.Failing.{DeviceFailed, AnyOf, source_of};
+ghost use Rattle.serve_end.specs.Lanes.{tx_of};
+ghost use Rattle.serve_end.specs.Runs.{RunCause, EachRun, source_facts};
 ghost use Rattle.gps_serve.specs.Facts.{sink_facts};
 ghost use Rattle.gps_serve.specs.Served.{DeviceServed, MonitorServed, OutletServed, monitored};
 ghost use Rattle.gps_serve.specs.Readies.{AllServed, AreReady, InputLeft, IsLeftOfLink, IsLeftOfWatch, MonitorReady, SessionReady};
@@ -15,14 +15,14 @@ ghost use Rattle.gps_serve.specs.Statuses.{TellsNoFault};
 
 use crate::status::either;
 use gps_hub::{DeviceEnd, Inlets};
-use gps_lane::{Rx, Tx};
+use gps_lane::{Piece, Rx, Tx};
 use gps_outside::{ClientSink, Source};
 use report_book::Book;
-use serve_end_parts::{DeviceDone, MonitorDone, SessionDone};
-use serve_end_settling::{DeviceRun, device_done, device_failed, monitor_done, session_done};
-use serve_pieces::Piece;
-use serve_threads::{LinkDone, ReadingsDone};
-use serve_workers::Dials;
+use serve_end::{
+    DeviceDone, DeviceRun, MonitorDone, SessionDone, device_done, device_failed, monitor_done,
+    session_done,
+};
+use serve_workers::{Dials, LinkDone, ReadingsDone};
 use session_core::Item;
 use std::sync::Wait;
 use std::vec::IntoIter;
@@ -45,7 +45,7 @@ struct Left<S: Source, R> {
     failed: bool,
 }
 
-#[tactic(auto, using(crate::proofs::Devices::bytes_lane, crate::proofs::Devices::edges_lane, serve_end_settling::proofs::Causes::failed_done))]
+#[tactic(auto, using(crate::proofs::Devices::bytes_lane, crate::proofs::Devices::edges_lane, serve_end::proofs::Causes::failed_done))]
 fn left_of<S: Source, D: Dials, R: Wait + Copy>(
     run: DeviceRun<S, R>,
     inlets: Inlets<R>,
@@ -153,7 +153,7 @@ fn settled<S: Source, K: ClientSink, R: Wait + Copy>(
 }
 
 /// Puts together what is left of the sessions, in order.
-#[tactic(auto, using(crate::proofs::Sessions::sessions_begin, serve_threads::proofs::Zips::ran_begin))]
+#[tactic(auto, using(crate::proofs::Sessions::sessions_begin, serve_workers::proofs::Zips::ran_begin))]
 pub(crate) fn sessions_done<S: Source, K: ClientSink, R: Wait + Copy>(
     rt: &R,
     book: &mut Book<Tx<Item, R>>,

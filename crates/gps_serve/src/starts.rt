@@ -1,8 +1,7 @@
 // What the readers of the devices begin with: a source, and a lane that takes what it gives.
 ghost use Rattle.std.specs.Prelude.{◌≡◌, [], true};
 
-use gps_lane::Tx;
-use serve_pieces::Piece;
+use gps_lane::{Piece, Tx};
 
 /// What the reader of a device's edges begins with. Nothing was put into its lane.
 #[derive(Drop)]

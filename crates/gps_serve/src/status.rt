@@ -1,7 +1,7 @@
 ghost use Rattle.std.specs.Prelude.{◌≡◌, ◌⊎◌, ◌||◌, true, false};
 ghost use Rattle.std.specs.List.{All, list_all, list_any};
 ghost use Rattle.hub_promise.specs.Given.{is_end};
-ghost use Rattle.serve_end_settling.specs.Failing.{AnyOf};
+ghost use Rattle.serve_end.specs.Failing.{AnyOf};
 ghost use Rattle.gps_serve.specs.Lost.{IsNotClosedOutOfMemory, IsNotLostOutOfMemory, WasClosedOutOfMemory, closed_out_of_memory, lost_out_of_memory, ended_out_of_memory, lines_out_of_memory, link_out_of_memory, run_out_of_memory};
 ghost use Rattle.gps_serve.specs.Statuses.{daemon_out_of_memory, outcome_status};
 
@@ -9,8 +9,8 @@ use gps_hub::{DeviceEnd, Ending};
 use gps_lane::Tx;
 use gps_outside::{ClientSink, Source};
 use report_book::Book;
-use serve_end_settling::DeviceRun;
-use serve_threads::{LinkDone, ReaderDone, ReadingsDone};
+use serve_end::DeviceRun;
+use serve_workers::{LinkDone, ReaderDone, ReadingsDone};
 use session_core::{Close, Item};
 use std::sync::Wait;
 

@@ -1,1 +1,4 @@
 pub mod Firsts
+pub mod Asking
+pub mod Held
+pub mod Unread

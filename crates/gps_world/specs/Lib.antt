@@ -3,3 +3,4 @@ pub mod Asking
 pub mod Opening
 pub mod MemoryWorlds
 pub mod RealWorlds
+pub mod OpenInOrder

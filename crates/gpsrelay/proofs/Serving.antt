@@ -6,17 +6,17 @@ use Rattle.gps_words.specs.declared.command.WordsFault.TheVariants.{Refused, NoM
 use Rattle.gps_words.specs.Serve.{Serve}
 use Rattle.gps_world.specs.Asking.{Asking, asked_nothing}
 use Rattle.gps_world.specs.declared.place.Place.{Place}
-use Rattle.serve_end_parts.specs.declared.done.DeviceDone.{DeviceDone}
-use Rattle.serve_end_parts.specs.declared.served.Served.{Served}
-use Rattle.serve_end_settling.specs.Runs.{SourceFacts}
+use Rattle.serve_end.specs.declared.done.DeviceDone.{DeviceDone}
+use Rattle.serve_end.specs.declared.served.Served.{Served}
+use Rattle.serve_end.specs.Runs.{SourceFacts}
 use Rattle.gps_serve.specs.AtEnd.{DaemonSettings, settings_in}
 use Rattle.gps_serve.specs.Outcome.{OutcomeHasCause}
 use Rattle.gps_serve.specs.Served.{BytesHeld, EdgesHeld}
 use Rattle.gps_serve.proofs.Outcome.{nothing_served}
-use Rattle.world_opening.specs.Opening.{AsksAll, AsksPrefix, behind_once, places_in}
+use Rattle.gps_world.specs.OpenInOrder.{AsksAll, AsksPrefix, behind_once, places_in}
 use Rattle.gpsrelay.specs.Served.{AsksFor, AsksWhole, HaveEdges, HeldBehind, edge_place_of, fault_status, place_of, places_of, told_by, devices_asked}
 use Rattle.gps_serve.specs.Told.{devices_in, devices_told}
-use Rattle.serve_end_parts.specs.declared.plan.Plan.{Plan}
+use Rattle.serve_end.specs.declared.plan.Plan.{Plan}
 use Rattle.serve_workers.specs.Writing.{AllowsClients}
 use Rattle.session_core.specs.declared.subject.DeviceHeld.{DeviceHeld}
 

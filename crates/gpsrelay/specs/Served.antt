@@ -9,11 +9,11 @@ use Rattle.gps_words.specs.Serve.{Serve}
 use Rattle.gps_world.specs.Asking.{Asking, asked_nothing}
 use Rattle.gps_world.specs.declared.place.Place.{Place}
 use Rattle.gps_world.specs.declared.place.Place.TheVariants as place
-use Rattle.serve_end_parts.specs.declared.done.DeviceDone.{DeviceDone}
-use Rattle.serve_end_settling.specs.Runs.{SourceFacts}
+use Rattle.serve_end.specs.declared.done.DeviceDone.{DeviceDone}
+use Rattle.serve_end.specs.Runs.{SourceFacts}
 use Rattle.gps_serve.specs.AtEnd.{DaemonSettings}
 use Rattle.gps_serve.specs.Served.{BytesHeld, EdgesHeld}
-use Rattle.world_opening.specs.Opening.{AsksAll, AsksPrefix, behind_once, places_in}
+use Rattle.gps_world.specs.OpenInOrder.{AsksAll, AsksPrefix, behind_once, places_in}
 use Rattle.gps_serve.specs.Told.{devices_told}
 use Rattle.session_core.specs.declared.subject.DeviceHeld.{DeviceHeld}
 

@@ -6,20 +6,19 @@ ghost use Rattle.std.specs.Prelude.{◌≡◌, ◌≤◌, IfSome, map, string_by
 ghost use Rattle.gps_words.specs.Serve.{serve_asked_of};
 ghost use Rattle.gps_world.specs.Asking.{asked_nothing};
 ghost use Rattle.serve_workers.specs.Writing.{AllowsClients};
-ghost use Rattle.serve_end_parts.specs.Lines.{text_of};
+ghost use Rattle.serve_end.specs.Lines.{text_of};
 ghost use Rattle.gpsrelay.specs.Closing.{WritesClosing};
 ghost use Rattle.gpsrelay.specs.Served.{devices_asked};
 
 mod serve;
 
-use command_outcome::CommandOutcome;
 use command_run::{
     CountedInput, CountedOutput, REFUSED, StandardStreams, answer, run_words, tell_end,
     tell_no_memory, tell_no_text, tell_refused,
 };
 use gps_fixed::NoMemory;
 use gps_help::question_in;
-use gps_outside::{RealClock, RealSink, RealSource, Sink, write_all};
+use gps_outside::{CommandOutcome, RealClock, RealSink, RealSource, Sink, write_all};
 use gps_serve::Served;
 use gps_words::{ServeOptions, WordsFault, serve_asked};
 use gps_world::World;

@@ -26,11 +26,11 @@ use Rattle.packet_cut.specs.Packets.{bytes_of}
 use Rattle.pps_edges.specs.Scan.{edge_in as readable}
 use Rattle.report_book.specs.Allowing.{MayAdd}
 use Rattle.report_book.specs.Refusals.{fault_of}
-use Rattle.serve_pieces.specs.Carried.{input_bytes, input_part}
-use Rattle.serve_pieces.specs.EdgeLines.{all_edge_lines}
-use Rattle.serve_pieces.specs.Held.{AreDue, AreHeld}
-use Rattle.serve_pieces.specs.declared.piece.Piece.{Piece}
-use Rattle.serve_pieces.specs.declared.piece.Piece.TheVariants.{Bytes, Line, Input}
+use Rattle.gps_lane.specs.Carried.{input_bytes, input_part}
+use Rattle.gps_lane.specs.EdgeLines.{all_edge_lines}
+use Rattle.gps_lane.specs.Held.{AreDue, AreHeld}
+use Rattle.gps_lane.specs.declared.piece.Piece.{Piece}
+use Rattle.gps_lane.specs.declared.piece.Piece.TheVariants.{Bytes, Line, Input}
 use Rattle.session_core.specs.declared.mark.Close.{Close}
 use Rattle.session_core.specs.declared.subject.DeviceHeld.{DeviceHeld}
 use Rattle.session_core.specs.declared.subject.Subject.{Subject}

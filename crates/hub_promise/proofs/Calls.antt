@@ -19,8 +19,8 @@ use Rattle.hub_door.specs.Admissions.{SessionLanes, admitting, finished, link_of
 use Rattle.report_book.specs.BookView.{BookView}
 use Rattle.report_book.specs.Moves.{Admits, PublishesAt}
 use Rattle.report_book.specs.Standing.{BookHolds}
-use Rattle.serve_pieces.specs.Carried.{input_bytes}
-use Rattle.serve_pieces.specs.declared.piece.Piece.{Piece}
+use Rattle.gps_lane.specs.Carried.{input_bytes}
+use Rattle.gps_lane.specs.declared.piece.Piece.{Piece}
 use Rattle.session_core.specs.Naming.{OutletName, of_table, table_of}
 use Rattle.session_runs.specs.Accounts.{Account}
 use Rattle.session_runs.specs.Following.{opened_run}

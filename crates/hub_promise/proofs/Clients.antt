@@ -4,8 +4,8 @@ use Rattle.std.specs.List.{AllZip}
 use Rattle.atomic_table.specs.Seated.{TableId}
 use Rattle.book_sessions.specs.MemberView.{MemberView}
 use Rattle.gps_lane.specs.Ends.{Taking}
-use Rattle.serve_pieces.specs.Held.{AreDue}
-use Rattle.serve_pieces.specs.declared.piece.Piece.{Piece}
+use Rattle.gps_lane.specs.Held.{AreDue}
+use Rattle.gps_lane.specs.declared.piece.Piece.{Piece}
 use Rattle.session_core.specs.declared.subject.Subject.{Subject}
 use Rattle.session_core.specs.Naming.{OutletName, table_of}
 use Rattle.hub_promise.specs.Keeping.{ServesClient}

@@ -13,8 +13,8 @@ use Rattle.device_core.proofs.Streams.{bytes_join, edges_join}
 use Rattle.gps_lane.specs.Ends.{Taking}
 use Rattle.gps_report.specs.declared.edge.Edge.{Edge}
 use Rattle.packet_cut.specs.Packets.{Stamped}
-use Rattle.serve_pieces.specs.declared.piece.Ending.{Ending}
-use Rattle.serve_pieces.specs.declared.piece.Piece.{Piece}
+use Rattle.gps_lane.specs.declared.piece.Ending.{Ending}
+use Rattle.gps_lane.specs.declared.piece.Piece.{Piece}
 use Rattle.hub_promise.specs.declared.ends.DeviceEnd.{DeviceEnd}
 use Rattle.hub_promise.specs.declared.ends.DeviceEnd.TheVariants.{NoMemory as LostNoMemory}
 use Rattle.hub_promise.specs.DaemonHub.{DeviceFits}

@@ -19,7 +19,7 @@ use Rattle.book_units.proofs.Given.{joined}
 use Rattle.gps_lane.specs.Ends.{Taking}
 use Rattle.report_book.specs.BookView.{BookView}
 use Rattle.report_book.specs.Standing.{BookHolds}
-use Rattle.serve_pieces.specs.declared.piece.Piece.{Piece}
+use Rattle.gps_lane.specs.declared.piece.Piece.{Piece}
 use Rattle.session_core.specs.declared.mark.Close.{Close}
 use Rattle.session_core.specs.SessionView.{SessionView}
 use Rattle.session_runs.specs.Accounts.{CarriesOn}
@@ -34,7 +34,7 @@ use Rattle.hub_promise.specs.Steps.{Abides, ClosesBy, DeviceStep, MovesOn, Onwar
 use Rattle.hub_promise.proofs.Lists.{device_fits, devices_on, numbered_at, numbered_by, push_watched, set_watched, zip_all, zip_at, zip_length, zip_maps, zip_watched}
 use Rattle.hub_promise.proofs.Sessions.{session_onward}
 use Rattle.session_core.specs.Naming.{table_of}
-use Rattle.serve_pieces.specs.Held.{AreDue}
+use Rattle.gps_lane.specs.Held.{AreDue}
 use Rattle.hub_promise.proofs.Clients.{clients_stay, serves_on, tables_stay}
 
 pub map_length : {A B : Type 0} (f : A → B) (xs : List A) → length (map f xs) ≡ length xs

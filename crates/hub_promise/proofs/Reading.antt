@@ -15,12 +15,12 @@ use Rattle.packet_cut.proofs.StreamLaws.{bytes_of-append, bytes_of-stamped}
 use Rattle.pps_edges.specs.Scan.{edge_in}
 use Rattle.report_book.specs.BookView.{BookView}
 use Rattle.report_book.specs.Standing.{BookHolds}
-use Rattle.serve_pieces.specs.declared.piece.Piece.{Piece}
-use Rattle.serve_pieces.specs.declared.piece.Piece.TheVariants.{Bytes, Line, Input, Last}
-use Rattle.serve_pieces.specs.Carried.{device_part, line_part, device_bytes, lines_of}
-use Rattle.serve_pieces.specs.EdgeLines.{all_edge_lines}
-use Rattle.serve_pieces.specs.Held.{AreDue, AreHeld}
-use Rattle.serve_pieces.proofs.Held.{begun_held}
+use Rattle.gps_lane.specs.declared.piece.Piece.{Piece}
+use Rattle.gps_lane.specs.declared.piece.Piece.TheVariants.{Bytes, Line, Input, Last}
+use Rattle.gps_lane.specs.Carried.{device_part, line_part, device_bytes, lines_of}
+use Rattle.gps_lane.specs.EdgeLines.{all_edge_lines}
+use Rattle.gps_lane.specs.Held.{AreDue, AreHeld}
+use Rattle.gps_lane.proofs.Held.{begun_held}
 use Rattle.hub_promise.specs.declared.ends.DeviceEnd.{DeviceEnd}
 use Rattle.hub_promise.specs.DaemonHub.{DeviceFits, LogIsRead}
 use Rattle.hub_promise.specs.Given.{edges_of, edges_said, got_of, stamped_of}

@@ -18,11 +18,11 @@ use Rattle.report_book.specs.BookView.{BookView}
 use Rattle.report_book.specs.Knowing.{known_in}
 use Rattle.report_book.specs.Moves.{HangsUp, AnswersRequests, SameButSessions}
 use Rattle.report_book.specs.Standing.{BookHolds}
-use Rattle.serve_pieces.specs.Carried.{input_bytes, input_part}
-use Rattle.serve_pieces.specs.declared.piece.Ending.{Ending}
-use Rattle.serve_pieces.specs.declared.piece.Ending.TheVariants.{End, Failed, NoMemory as EndingNoMemory}
-use Rattle.serve_pieces.specs.declared.piece.Piece.{Piece}
-use Rattle.serve_pieces.specs.declared.piece.Piece.TheVariants.{Input, Last}
+use Rattle.gps_lane.specs.Carried.{input_bytes, input_part}
+use Rattle.gps_lane.specs.declared.piece.Ending.{Ending}
+use Rattle.gps_lane.specs.declared.piece.Ending.TheVariants.{End, Failed, NoMemory as EndingNoMemory}
+use Rattle.gps_lane.specs.declared.piece.Piece.{Piece}
+use Rattle.gps_lane.specs.declared.piece.Piece.TheVariants.{Input, Last}
 use Rattle.session_core.specs.declared.mark.Close.{Close}
 use Rattle.session_core.specs.declared.mark.Close.TheVariants.{HungUp, ReadFault, DaemonEnd, TooManyRequests, Overrun, NoMemory}
 use Rattle.session_core.specs.Naming.{OutletName}

@@ -14,9 +14,9 @@ use Rattle.hub_door.specs.Admissions.{SessionLanes, link_of}
 use Rattle.report_book.specs.BookView.{BookView}
 use Rattle.report_book.specs.Refusals.{RefusesOnly, missing, missing_session}
 use Rattle.report_book.specs.declared.fault.BookFault.{BookFault}
-use Rattle.serve_pieces.specs.Carried.{input_bytes, input_part}
-use Rattle.serve_pieces.specs.declared.piece.Ending.{Ending}
-use Rattle.serve_pieces.specs.declared.piece.Piece.{Piece}
+use Rattle.gps_lane.specs.Carried.{input_bytes, input_part}
+use Rattle.gps_lane.specs.declared.piece.Ending.{Ending}
+use Rattle.gps_lane.specs.declared.piece.Piece.{Piece}
 use Rattle.session_core.specs.declared.mark.Close.{Close}
 use Rattle.session_core.specs.declared.subject.Subject.{Subject}
 use Rattle.session_core.specs.Naming.{OutletName, alone, of_table, table_of}
@@ -30,7 +30,7 @@ use Rattle.hub_promise.specs.Steps.{GetsMore, SessionStep}
 use Rattle.hub_promise.proofs.Going.{closed_at}
 use Rattle.hub_promise.proofs.Hubs.{hub_session, map_length, member_at}
 use Rattle.hub_promise.proofs.Sessions.{cause_on, nobody, still_step}
-use Rattle.serve_pieces.specs.Held.{AreDue}
+use Rattle.gps_lane.specs.Held.{AreDue}
 
 -- ---- a lane tells once how its source ended
 

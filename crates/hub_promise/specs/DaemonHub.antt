@@ -16,12 +16,12 @@ use Rattle.gps_fixed.specs.Lists.{IsPrefix}
 use Rattle.gps_command.specs.Requests.{requests}
 use Rattle.packet_cut.specs.Packets.{bytes_of}
 use Rattle.report_book.specs.BookView.{BookView}
-use Rattle.serve_pieces.specs.Carried.{input_bytes}
-use Rattle.serve_pieces.specs.EdgeLines.{all_edge_lines}
-use Rattle.serve_pieces.specs.declared.piece.Ending.{Ending}
-use Rattle.serve_pieces.specs.declared.piece.Ending.TheVariants.{End, Failed, NoMemory}
-use Rattle.serve_pieces.specs.declared.piece.Piece.{Piece}
-use Rattle.serve_pieces.specs.declared.piece.Piece.TheVariants.{Bytes, Line, Input, Last}
+use Rattle.gps_lane.specs.Carried.{input_bytes}
+use Rattle.gps_lane.specs.EdgeLines.{all_edge_lines}
+use Rattle.gps_lane.specs.declared.piece.Ending.{Ending}
+use Rattle.gps_lane.specs.declared.piece.Ending.TheVariants.{End, Failed, NoMemory}
+use Rattle.gps_lane.specs.declared.piece.Piece.{Piece}
+use Rattle.gps_lane.specs.declared.piece.Piece.TheVariants.{Bytes, Line, Input, Last}
 use Rattle.session_core.specs.declared.mark.Close.{Close}
 use Rattle.session_core.specs.declared.mark.Close.TheVariants.{HungUp, ReadFault, DaemonEnd, TooManyRequests, Overrun, NoMemory as CloseNoMemory}
 use Rattle.session_core.specs.SessionView.{SessionView}

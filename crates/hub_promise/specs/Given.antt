@@ -6,10 +6,10 @@ use Rattle.gps_lane.specs.Ends.{Taking}
 use Rattle.gps_report.specs.declared.edge.Edge.{Edge}
 use Rattle.packet_cut.specs.Packets.{Stamped}
 use Rattle.pps_edges.specs.Scan.{edge_in}
-use Rattle.serve_pieces.specs.declared.piece.Ending.{Ending}
-use Rattle.serve_pieces.specs.declared.piece.Ending.TheVariants.{End, Failed, NoMemory}
-use Rattle.serve_pieces.specs.declared.piece.Piece.{Piece}
-use Rattle.serve_pieces.specs.declared.piece.Piece.TheVariants.{Bytes, Line, Input, Last}
+use Rattle.gps_lane.specs.declared.piece.Ending.{Ending}
+use Rattle.gps_lane.specs.declared.piece.Ending.TheVariants.{End, Failed, NoMemory}
+use Rattle.gps_lane.specs.declared.piece.Piece.{Piece}
+use Rattle.gps_lane.specs.declared.piece.Piece.TheVariants.{Bytes, Line, Input, Last}
 use Rattle.session_core.specs.declared.mark.Close.{Close}
 use Rattle.session_core.specs.declared.mark.Close.TheVariants.{HungUp, ReadFault as CloseReadFault, NoMemory as CloseNoMemory}
 use Rattle.hub_promise.specs.declared.ends.DeviceEnd.{DeviceEnd}

@@ -8,9 +8,9 @@ use Rattle.gps_report.specs.declared.edge.Edge.{Edge}
 use Rattle.pps_edges.specs.Scan.{edge_in}
 use Rattle.report_book.specs.Allowing.{MayAdd, MayInput}
 use Rattle.report_book.specs.BookView.{BookView}
-use Rattle.serve_pieces.specs.Held.{AreDue}
-use Rattle.serve_pieces.specs.declared.piece.Piece.{Piece}
-use Rattle.serve_pieces.specs.declared.piece.Piece.TheVariants.{Bytes, Line, Input}
+use Rattle.gps_lane.specs.Held.{AreDue}
+use Rattle.gps_lane.specs.declared.piece.Piece.{Piece}
+use Rattle.gps_lane.specs.declared.piece.Piece.TheVariants.{Bytes, Line, Input}
 use Rattle.hub_promise.specs.Keeping.{LaneIsRead}
 use Rattle.hub_promise.specs.Parts.{InletsView}
 use Rattle.hub_promise.specs.Steps.{with_bytes, with_edge, with_got}

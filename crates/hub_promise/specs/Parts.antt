@@ -6,11 +6,11 @@ use Rattle.hub_door.specs.Admissions.{Admissions, SessionLanes}
 use Rattle.report_book.specs.BookView.{BookView}
 use Rattle.book_sessions.specs.MemberView.{MemberView}
 use Rattle.book_units.specs.Units.{segment_of}
-use Rattle.serve_pieces.specs.declared.piece.Piece.{Piece}
+use Rattle.gps_lane.specs.declared.piece.Piece.{Piece}
 use Rattle.session_core.specs.Naming.{table_of}
 use Rattle.session_core.specs.declared.subject.DeviceHeld.{DeviceHeld}
 use Rattle.session_core.specs.declared.subject.Subject.{Subject}
-use Rattle.serve_pieces.specs.EdgeLines.{all_edge_lines}
+use Rattle.gps_lane.specs.EdgeLines.{all_edge_lines}
 use Rattle.shm_segment.specs.Seats.{SegmentId}
 use Rattle.gps_report.specs.declared.edge.Edge.{Edge}
 use Rattle.hub_promise.specs.Given.{edges_said}

@@ -12,7 +12,7 @@ use Rattle.book_units.specs.Units.{UnitView, all_of, segment_of}
 use Rattle.gps_lane.specs.Ends.{Taking}
 use Rattle.report_book.specs.BookView.{BookView}
 use Rattle.report_book.specs.Moves.{SameButSessions}
-use Rattle.serve_pieces.specs.declared.piece.Piece.{Piece}
+use Rattle.gps_lane.specs.declared.piece.Piece.{Piece}
 use Rattle.session_core.specs.declared.mark.Close.{Close}
 use Rattle.session_core.specs.declared.mark.Close.TheVariants.{Overrun}
 use Rattle.session_core.specs.SessionView.{SessionView}

@@ -4,7 +4,7 @@ ghost use Rattle.std.specs.Prelude.{◌≡◌, ◌≤◌, [], ◌∷◌, IfOk, N
 ghost use Rattle.gps_outside.specs.DoorPlans.{HaveLinks};
 ghost use Rattle.gps_outside.specs.Links.{AsksOf, IsUnread, IsUnwritten};
 ghost use Rattle.gps_world.specs.MemoryWorlds.{HaveSources};
-ghost use Rattle.serve_end_parts.specs.Plans.{IsPlan};
+ghost use Rattle.serve_end.specs.Plans.{IsPlan};
 
 use crate::cues::{CountingSink, Cue, CuedSource};
 use crate::texts::{ACTIVE, ENDED, FIVE, Parts, RMC, joined, one_name};

@@ -4,7 +4,7 @@ ghost use Rattle.std.specs.Prelude.{◌≡◌, IfOk, Some};
 ghost use Rattle.gps_outside.specs.Links.{IsUnread};
 ghost use Rattle.gps_serve.specs.Told.{devices_in};
 ghost use Rattle.gps_world.specs.MemoryWorlds.{HaveSources, IsUnusedGate, bytes_at};
-ghost use Rattle.serve_end_parts.specs.Plans.{IsPlan};
+ghost use Rattle.serve_end.specs.Plans.{IsPlan};
 
 use crate::daemon::{HISTORY, WATCH_JSON, WHOLE, file, place_x, plan_of};
 use crate::texts::{FIVE, joined};

@@ -1,6 +1,6 @@
 //! The script that is made for measuring.
 
-use replay_workload::workload;
+use replay_script::workload;
 use std::test::Fail;
 
 /// What a script begins with.

@@ -1,8 +1,8 @@
 -- What the counts of the source and of the sink say when a play breaks off.
 use Rattle.std.proofs.Common.{◌≡◌, ℕ, Err}
-use Rattle.command_outcome.specs.Calls.{SinkCall, SourceCall}
-use Rattle.command_outcome.specs.declared.outcome.CommandOutcome.{CommandOutcome}
-use Rattle.command_outcome.specs.Outcomes.{HasCause, NoReadFailed}
+use Rattle.gps_outside.specs.Calls.{SinkCall, SourceCall}
+use Rattle.gps_outside.specs.declared.outcome.CommandOutcome.{CommandOutcome}
+use Rattle.gps_outside.specs.Outcomes.{HasCause, NoReadFailed}
 use Rattle.line_player.specs.declared.fault.Fault.{Fault}
 use Rattle.line_player.specs.declared.fault.Fault.TheVariants.{BadLine, Sink, NoMemory}
 use Rattle.line_player.specs.LineSteps.{WriteCause}

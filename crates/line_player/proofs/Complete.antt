@@ -10,15 +10,15 @@ use Rattle.line_cut.specs.Limits.{is_too_long, most}
 use Rattle.line_cut.specs.Lines.{has_feed, is_feed, last_lines, lines, open_line}
 use Rattle.line_cut.proofs.Splits.{lines_go_on, lines_none, open_goes_on, open_plain, open_whole}
 use Rattle.line_cut.proofs.Texts.{long_stays, text_bounds}
-use Rattle.command_outcome.specs.declared.outcome.CommandOutcome.{CommandOutcome}
-use Rattle.command_outcome.specs.declared.outcome.CommandOutcome.TheVariants.{Done, ReadFault, TooQuiet, WriteFault, Full, BadLine, NoMemory}
+use Rattle.gps_outside.specs.declared.outcome.CommandOutcome.{CommandOutcome}
+use Rattle.gps_outside.specs.declared.outcome.CommandOutcome.TheVariants.{Done, ReadFault, TooQuiet, WriteFault, Full, BadLine, NoMemory}
 use Rattle.line_player.specs.Rules.{Rules, effect_within, text_in}
 use Rattle.line_player.specs.Courses.{Course, course_so_far, ended_texts, whole_course, with_line}
-use Rattle.command_outcome.specs.Calls.{SinkCall, SourceCall}
-use Rattle.command_outcome.specs.Outcomes.{HasCause, NothingFails}
-use Rattle.command_outcome.specs.Ends.{HasReadAll, HasReadSoFar, IsWithin as HoldsFew}
-use Rattle.command_outcome.proofs.Statuses.{quiet_long}
-use Rattle.command_outcome.proofs.Limits.{no_more}
+use Rattle.gps_outside.specs.Calls.{SinkCall, SourceCall}
+use Rattle.gps_outside.specs.Outcomes.{HasCause, NothingFails}
+use Rattle.gps_outside.specs.Ends.{HasReadAll, HasReadSoFar, IsWithin as HoldsFew}
+use Rattle.gps_outside.proofs.Statuses.{quiet_long}
+use Rattle.gps_outside.proofs.Limits.{no_more}
 use Rattle.line_player.specs.Played.{IsWithin, HasPlayed}
 use Rattle.line_player.specs.LineSteps.{ended_course}
 use Rattle.line_player.proofs.Courses.{course_on, long_is, next_line, so_far_ended, stops}

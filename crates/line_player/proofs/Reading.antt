@@ -10,14 +10,14 @@ use Rattle.gps_outside.proofs.Writing.{appends_none, appends_on, part_of, part_o
 use Rattle.gps_outside.proofs.ReadSteps.{taken_none, taken_piece, taken_quiet, ends_at_end, ends_full}
 use Rattle.line_cut.specs.Lines.{last_lines, lines, open_line}
 use Rattle.line_cut.specs.Standing.{LineCutterView, StandsFor}
-use Rattle.command_outcome.specs.declared.outcome.CommandOutcome.{CommandOutcome}
-use Rattle.command_outcome.specs.declared.outcome.CommandOutcome.TheVariants.{Done, Full}
+use Rattle.gps_outside.specs.declared.outcome.CommandOutcome.{CommandOutcome}
+use Rattle.gps_outside.specs.declared.outcome.CommandOutcome.TheVariants.{Done, Full}
 use Rattle.line_player.specs.declared.fault.Fault.{Fault}
 use Rattle.line_player.specs.declared.fault.Fault.TheVariants.{BadLine, Sink, NoMemory as NoMemoryFault}
 use Rattle.line_player.specs.Rules.{Effect, Rules, effect_within}
 use Rattle.line_player.specs.Courses.{Course, bad_line, course_so_far, due_at_end, due_so_far, ended_texts, gone_on, long_texts, new_course, output_of, unless, whole_course, with_line, written_so_far}
 use Rattle.line_player.specs.Outcomes.{outcome_of}
-use Rattle.command_outcome.specs.Ends.{HasReadAll, HasReadSoFar}
+use Rattle.gps_outside.specs.Ends.{HasReadAll, HasReadSoFar}
 use Rattle.line_player.specs.Played.{EndsPlay, HasPlayed}
 use Rattle.line_player.specs.LineSteps.{IsAt, Writes, WritesAtEnd, Written, ended_course}
 use Rattle.line_player.proofs.Courses.{course_on, so_far_on}

@@ -1,6 +1,6 @@
 -- How a play ends by a fault.
-use Rattle.command_outcome.specs.declared.outcome.CommandOutcome.{CommandOutcome}
-use Rattle.command_outcome.specs.declared.outcome.CommandOutcome.TheVariants.{WriteFault, BadLine, NoMemory}
+use Rattle.gps_outside.specs.declared.outcome.CommandOutcome.{CommandOutcome}
+use Rattle.gps_outside.specs.declared.outcome.CommandOutcome.TheVariants.{WriteFault, BadLine, NoMemory}
 use Rattle.line_player.specs.declared.fault.Fault.{Fault}
 use Rattle.line_player.specs.declared.fault.Fault.TheVariants as fault
 

@@ -1,9 +1,9 @@
 -- What a play promises of the bytes that it reads and of those that it writes.
 use Rattle.std.specs.Prelude.{◌≡◌, ℕ, ◌≤◌, List, length, Option, Some, None}
 use Rattle.gps_outside.specs.Told.{Stream}
-use Rattle.command_outcome.specs.declared.outcome.CommandOutcome.{CommandOutcome}
-use Rattle.command_outcome.specs.declared.outcome.CommandOutcome.TheVariants.{Done, ReadFault, TooQuiet, WriteFault, Full, BadLine, NoMemory}
-use Rattle.command_outcome.specs.Ends.{Ends, Wrote}
+use Rattle.gps_outside.specs.declared.outcome.CommandOutcome.{CommandOutcome}
+use Rattle.gps_outside.specs.declared.outcome.CommandOutcome.TheVariants.{Done, ReadFault, TooQuiet, WriteFault, Full, BadLine, NoMemory}
+use Rattle.gps_outside.specs.Ends.{Ends, Wrote}
 use Rattle.line_player.specs.Rules.{Rules}
 use Rattle.line_player.specs.Courses.{course_so_far, output_of, whole_course, written_so_far}
 

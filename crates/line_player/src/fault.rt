@@ -1,7 +1,7 @@
 ghost use Rattle.std.specs.Prelude.{◌≡◌};
 ghost use Rattle.line_player.specs.Outcomes.{outcome_of};
 
-use command_outcome::CommandOutcome;
+use gps_outside::CommandOutcome;
 
 /// Why a play goes no further.
 #[derive(Clone, Copy, Debug, PartialEq, Eq)]

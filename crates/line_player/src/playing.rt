@@ -1,19 +1,18 @@
 ghost use Rattle.std.specs.Prelude.{◌≡◌, ◌≤◌, ◌<◌, ◌+◌, ◌-◌, ◌^◌, ◌++◌, ◌⊎◌, List, ℕ, Option, Ok, IfOk, length};
 ghost use Rattle.line_player.specs.Courses.{course_so_far, output_of, whole_course, written_so_far};
-ghost use Rattle.command_outcome.specs.Calls.{sink_call, source_call};
-ghost use Rattle.command_outcome.specs.Outcomes.{HasCause, NothingFails};
+ghost use Rattle.gps_outside.specs.Calls.{sink_call, source_call};
+ghost use Rattle.gps_outside.specs.Outcomes.{HasCause, NothingFails};
 ghost use Rattle.line_player.specs.Played.{IsWithin, HasPlayed};
 ghost use Rattle.line_player.specs.LineSteps.{IsAt, IsDue, WriteCause, Writes, WritesAtEnd, WritesEnd, WritesPart};
 ghost use Rattle.line_player.specs.declared.lines.Round.{Round};
 ghost use Rattle.line_player.specs.declared.plays_lines.EndStep.{EndStep};
-ghost use Rattle.command_outcome.specs.declared.outcome.CommandOutcome.{CommandOutcome};
+ghost use Rattle.gps_outside.specs.declared.outcome.CommandOutcome.{CommandOutcome};
 
 use crate::fault::Fault;
 use crate::lines::{Lines, Round};
 use crate::plays_lines::{EndStep, PlaysLines};
-use command_outcome::CommandOutcome;
 use gps_fixed::NoMemory;
-use gps_outside::{Intake, IntakeStep, Sink, Source, write_all};
+use gps_outside::{CommandOutcome, Intake, IntakeStep, Sink, Source, write_all};
 use line_cut::Limit;
 use std::alloc::Global;
 

@@ -11,7 +11,7 @@ use Rattle.book_log.specs.Entries.{Entry, ended, stops_in}
 use Rattle.output_lines.specs.declared.closing.SessionEnd.TheVariants.{Drained}
 use Rattle.output_lines.specs.Closings.{closing_line}
 use Rattle.output_lines.specs.Items.{item_line}
-use Rattle.replay_monitors.specs.Stored.{shown_state, stores_at_end}
+use Rattle.replay_player.specs.Stored.{shown_state, stores_at_end}
 use Rattle.replay_player.specs.Clients.{Client, items_of, kept_of}
 use Rattle.replay_player.specs.Effects.{item_lines}
 use Rattle.replay_player.specs.Ends.{all_drained, counted, drained, end_line, ended_at, last_lines, published}

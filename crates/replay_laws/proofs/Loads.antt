@@ -20,8 +20,8 @@ use Rattle.shm_monitor.specs.declared.reading.Reading.TheVariants.{Taken, NotRea
 use Rattle.shm_monitor.specs.Readings.{EndsAs, reading_words}
 use Rattle.shm_segment.proofs.Reading.{length_body}
 use Rattle.shm_monitor.proofs.Whole.{word_body, word_count, word_valid}
-use Rattle.replay_monitors.specs.Loads.{end_of, is_whole, next_value, next_word, reading_after, step_of, with_next}
-use Rattle.replay_monitors.proofs.Readings.{ends_as, goes_on}
+use Rattle.replay_player.specs.Loads.{end_of, is_whole, next_value, next_word, reading_after, step_of, with_next}
+use Rattle.replay_player.proofs.Readings.{ends_as, goes_on}
 use Rattle.replay_player.specs.Effects.{reading_after_loads}
 use Rattle.replay_laws.specs.Readings.{ended_by, readings_in, taken_in}
 

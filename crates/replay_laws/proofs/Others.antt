@@ -20,7 +20,7 @@ use Rattle.output_lines.specs.Closings.{closing_line}
 use Rattle.output_lines.specs.Items.{item_line}
 use Rattle.output_lines.specs.Readings.{reading_line, reading_text, taken_text, two_numbers}
 use Rattle.output_lines.specs.Words.{line_end, numbered}
-use Rattle.replay_monitors.specs.Stored.{shown_state, stores_at_end}
+use Rattle.replay_player.specs.Stored.{shown_state, stores_at_end}
 use Rattle.replay_player.specs.Clients.{Client, items_of, kept_of}
 use Rattle.replay_player.specs.Ends.{all_closed, all_ended, closing_lines, counted, end_line, shut}
 use Rattle.replay_player.specs.States.{State, samples_at, units_in}

@@ -14,7 +14,7 @@ use Rattle.line_cut.specs.Limits.{most}
 use Rattle.line_player.specs.Rules.{Effect, effect_within}
 use Rattle.book_log.specs.Entries.{edged, ended, fed, lost}
 use Rattle.output_lines.specs.Readings.{reading_line}
-use Rattle.replay_monitors.specs.Loads.{reading_after, step_of}
+use Rattle.replay_player.specs.Loads.{reading_after, step_of}
 use Rattle.replay_script.specs.Events.{event_in}
 use Rattle.replay_script.specs.declared.event.ScriptEvent.{ScriptEvent}
 use Rattle.replay_script.specs.declared.event.ScriptEvent.TheVariants.{Nothing, Device, Segment, Feed, Edge, End, Lose, Open, Input, Hang, Take, Monitor, Store, Load}

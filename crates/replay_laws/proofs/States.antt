@@ -16,7 +16,7 @@ use Rattle.book_log.proofs.HistoryLaws.{whole_history}
 use Rattle.book_units.specs.Samples.{samples_in, samples_of}
 use Rattle.gps_report.specs.declared.report.Report.{Report}
 use Rattle.device_core.specs.Stream.{piece}
-use Rattle.replay_monitors.specs.Stored.{makes_store, stores_next}
+use Rattle.replay_player.specs.Stored.{makes_store, stores_next}
 use Rattle.replay_player.specs.Clients.{Client, after_take, closed, is_open, next_taken, opened, served}
 use Rattle.replay_player.specs.Effects.{EventEffect, allowed, brings, changes, declares, hangs, hears, item_lines, numbers, opens, quietly, stores, stores_after, takes, watches, with_client, with_stores}
 use Rattle.replay_player.specs.States.{MonitorState, State, came, samples_at, units_in}

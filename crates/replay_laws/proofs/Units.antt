@@ -17,7 +17,7 @@ use Rattle.output_lines.specs.declared.closing.SessionEnd.TheVariants.{Drained}
 use Rattle.output_lines.specs.Closings.{closing_line, unit_line}
 use Rattle.output_lines.specs.Items.{item_line}
 use Rattle.output_lines.specs.Words.{line_end, numbered}
-use Rattle.replay_monitors.specs.Stored.{shown_state, stores_at_end}
+use Rattle.replay_player.specs.Stored.{shown_state, stores_at_end}
 use Rattle.replay_player.specs.Clients.{Client, items_of, kept_of}
 use Rattle.replay_player.specs.Ends.{counted}
 use Rattle.replay_player.specs.States.{State, samples_at, units_in}

@@ -13,7 +13,7 @@ use Rattle.output_lines.specs.Readings.{reading_line}
 use Rattle.replay_script.specs.Events.{event_in}
 use Rattle.replay_script.specs.declared.event.ScriptEvent.{ScriptEvent}
 use Rattle.replay_script.specs.declared.event.ScriptEvent.TheVariants.{Load}
-use Rattle.replay_monitors.specs.Loads.{reading_after, step_of}
+use Rattle.replay_player.specs.Loads.{reading_after, step_of}
 use Rattle.replay_player.specs.States.{MonitorState, State, new_state, samples_at, words_at}
 use Rattle.gps_replay.specs.Run.{rules_of}
 

@@ -23,9 +23,9 @@ use Rattle.session_runs.specs.Runs.{SessionRun, IsRunOf}
 use Rattle.session_runs.specs.Following.{Extends, Follows, closing_after, forgotten_if, run_after}
 use Rattle.session_runs.proofs.Whole.{nothing_after}
 use Rattle.session_runs.proofs.Quiet.{quiet_entries}
-use Rattle.replay_monitors.specs.Books.{IsStoredAt, KeepSegments}
-use Rattle.replay_monitors.specs.UnitMonitorView.{UnitMonitorView}
-use Rattle.replay_monitors.proofs.Books.{fed, keeps_moves, keeps_same, same_units, still_of}
+use Rattle.replay_player.specs.Books.{IsStoredAt, KeepSegments}
+use Rattle.replay_player.specs.UnitMonitorView.{UnitMonitorView}
+use Rattle.replay_player.proofs.Books.{fed, keeps_moves, keeps_same, same_units, still_of}
 use Rattle.replay_player.specs.Clients.{Client, overrun_at, overrun_by, room_of, told}
 use Rattle.replay_player.specs.Playing.{Attends, BookStandsFor, ReplayBookView, Watches, state_of}
 use Rattle.replay_player.specs.States.{State, MonitorState, came}

@@ -19,10 +19,10 @@ use Rattle.report_book.specs.BookView.{BookView}
 use Rattle.report_book.specs.Moves.{PublishesAt}
 use Rattle.report_book.specs.Standing.{BookHolds}
 use Rattle.output_lines.specs.Closings.{unit_text}
-use Rattle.replay_monitors.specs.Stored.{is_store, makes_store, shown_state, stores_at_end, stores_next}
-use Rattle.replay_monitors.specs.Books.{IsStoredAt}
-use Rattle.replay_monitors.proofs.Books as books
-use Rattle.replay_monitors.proofs.Stored as stored
+use Rattle.replay_player.specs.Stored.{is_store, makes_store, shown_state, stores_at_end, stores_next}
+use Rattle.replay_player.specs.Books.{IsStoredAt}
+use Rattle.replay_player.proofs.Books as books
+use Rattle.replay_player.proofs.Stored as stored
 use Rattle.replay_player.specs.Effects.{with_stores}
 use Rattle.replay_player.specs.Ending.{Alike, IsUnitPublished, PublishesOne, Shows, StandsAlike, phase_left, stores_left, unit_left}
 use Rattle.replay_player.specs.Ends.{published, published_text}

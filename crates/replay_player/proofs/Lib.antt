@@ -18,3 +18,7 @@ pub mod EndsPublished
 pub mod EndsWhole
 pub mod Finishing
 pub mod EndsClosed
+pub mod Readings
+pub mod Known
+pub mod Stored
+pub mod Books

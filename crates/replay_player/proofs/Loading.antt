@@ -10,9 +10,9 @@ use Rattle.book_units.specs.Samples.{samples_of}
 use Rattle.book_units.specs.Units.{UnitView}
 use Rattle.report_book.specs.BookView.{BookView}
 use Rattle.session_runs.proofs.Zipping.{zip_set}
-use Rattle.replay_monitors.specs.Loads.{reading_after, step_of}
-use Rattle.replay_monitors.specs.UnitMonitorView.{UnitMonitorView, IsOf, after_load, words_beside}
-use Rattle.replay_monitors.proofs.Books.{loads_as}
+use Rattle.replay_player.specs.Loads.{reading_after, step_of}
+use Rattle.replay_player.specs.UnitMonitorView.{UnitMonitorView, IsOf, after_load, words_beside}
+use Rattle.replay_player.proofs.Books.{loads_as}
 use Rattle.replay_player.specs.declared.event_step.EventStep.TheVariants.{Made, Refused}
 use Rattle.replay_player.specs.Effects.{EventEffect, load_lines, loads, reading_after_loads, step_line, with_watch}
 use Rattle.replay_player.specs.Playing.{Acts, LoadsOne, BookStandsFor, ReplayBookView, Watches, state_of}

@@ -8,8 +8,8 @@ use Rattle.book_units.specs.Samples.{samples_of}
 use Rattle.report_book.specs.BookView.{BookView}
 use Rattle.report_book.specs.Moves.{IsNewBook}
 use Rattle.session_runs.proofs.Whole.{nothing_after}
-use Rattle.replay_monitors.specs.Books.{IsStoredAt}
-use Rattle.replay_monitors.proofs.Books.{new_book}
+use Rattle.replay_player.specs.Books.{IsStoredAt}
+use Rattle.replay_player.proofs.Books.{new_book}
 use Rattle.replay_player.specs.Playing.{Attends, Opens}
 use Rattle.replay_player.specs.States.{most_units}
 use Rattle.replay_player.proofs.Bringing.{same_state}

@@ -28,8 +28,8 @@ use Rattle.session_runs.specs.Following.{Extends, closed_run, opened_run, shut_r
 use Rattle.session_runs.proofs.Books.{admitted_begins, place_is}
 use Rattle.session_runs.proofs.Going.{closings_end}
 use Rattle.session_runs.proofs.Zipping.{zip_push, zip_set}
-use Rattle.replay_monitors.specs.Books.{IsStoredAt}
-use Rattle.replay_monitors.proofs.Books.{keeps_same, same_units}
+use Rattle.replay_player.specs.Books.{IsStoredAt}
+use Rattle.replay_player.proofs.Books.{keeps_same, same_units}
 use Rattle.replay_player.specs.declared.event_step.EventStep.{EventStep}
 use Rattle.replay_player.specs.declared.event_step.EventStep.TheVariants.{Refused}
 use Rattle.replay_player.specs.Clients.{Client, closed, is_open, items_of, opened}

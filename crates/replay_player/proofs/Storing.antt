@@ -14,10 +14,10 @@ use Rattle.report_book.specs.BookView.{BookView}
 use Rattle.report_book.specs.Moves.{PublishesAt}
 use Rattle.report_book.specs.Standing.{BookHolds}
 use Rattle.session_runs.proofs.Zipping.{zip_push}
-use Rattle.replay_monitors.specs.Books.{IsStoredAt}
-use Rattle.replay_monitors.specs.Stored.{stores_next}
-use Rattle.replay_monitors.specs.UnitMonitorView.{UnitMonitorView, IsOf, watched}
-use Rattle.replay_monitors.proofs.Books.{keeps_publishes, published, published_beside}
+use Rattle.replay_player.specs.Books.{IsStoredAt}
+use Rattle.replay_player.specs.Stored.{stores_next}
+use Rattle.replay_player.specs.UnitMonitorView.{UnitMonitorView, IsOf, watched}
+use Rattle.replay_player.proofs.Books.{keeps_publishes, published, published_beside}
 use Rattle.replay_player.specs.declared.event_step.EventStep.TheVariants.{Made, Refused}
 use Rattle.replay_player.specs.Effects.{allowed, most_watches, quietly, stores, stores_after, watches, with_stores}
 use Rattle.replay_player.specs.Playing.{Acts, Attends, BookStandsFor, ReplayBookView, Watches, state_of}

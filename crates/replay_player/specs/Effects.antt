@@ -10,8 +10,8 @@ use Rattle.book_log.specs.Entries.{Entry, edged, ended, fed, lost, stops_in}
 use Rattle.book_sessions.specs.Roster.{most_live, most_opened}
 use Rattle.output_lines.specs.Items.{item_line}
 use Rattle.output_lines.specs.Readings.{reading_line}
-use Rattle.replay_monitors.specs.Loads.{reading_after, step_of}
-use Rattle.replay_monitors.specs.Stored.{stores_next}
+use Rattle.replay_player.specs.Loads.{reading_after, step_of}
+use Rattle.replay_player.specs.Stored.{stores_next}
 use Rattle.replay_script.specs.declared.event.ScriptEvent.{ScriptEvent}
 use Rattle.replay_script.specs.declared.event.ScriptEvent.TheVariants.{Nothing, Device, Segment, Feed, Edge, End, Lose, Open, Input, Hang, Take, Monitor, Store, Load}
 use Rattle.replay_player.specs.Clients.{Client, after_take, closed, is_open, next_taken, opened, served}

@@ -9,7 +9,7 @@ use Rattle.book_units.specs.Steps.{state_of}
 use Rattle.book_units.specs.Units.{UnitView}
 use Rattle.report_book.specs.declared.fault.BookFault.{BookFault}
 use Rattle.report_book.specs.declared.fault.BookFault.TheVariants as book
-use Rattle.replay_monitors.specs.Stored.{shown_state, stores_at_end}
+use Rattle.replay_player.specs.Stored.{shown_state, stores_at_end}
 use Rattle.replay_player.specs.Clients.{Client, after_take}
 use Rattle.replay_player.specs.Effects.{with_client}
 use Rattle.replay_player.specs.Ends.{all_drained, drained, published}

@@ -7,7 +7,7 @@ use Rattle.shm_segment.specs.declared.sample.Sample.{Sample}
 use Rattle.book_log.specs.Entries.{Entry, ended, stops_in}
 use Rattle.output_lines.specs.declared.closing.SessionEnd.TheVariants.{Drained}
 use Rattle.output_lines.specs.Closings.{closing_line, unit_text}
-use Rattle.replay_monitors.specs.Stored.{shown_state, stores_at_end}
+use Rattle.replay_player.specs.Stored.{shown_state, stores_at_end}
 use Rattle.replay_player.specs.Clients.{Client, closed, items_of, kept_of}
 use Rattle.replay_player.specs.States.{State, came, samples_at, units_in}
 use Rattle.replay_player.specs.Effects.{item_lines}

@@ -5,3 +5,7 @@ pub mod Ends
 pub mod Playing
 pub mod Players
 pub mod Ending
+pub mod Loads
+pub mod UnitMonitorView
+pub mod Stored
+pub mod Books

@@ -15,9 +15,9 @@ use Rattle.report_book.specs.BookView.{BookView}
 use Rattle.report_book.specs.declared.fault.BookFault.{BookFault}
 use Rattle.report_book.specs.declared.fault.BookFault.TheVariants as book
 use Rattle.session_runs.specs.Runs.{IsRunOf}
-use Rattle.replay_monitors.specs.Books.{IsStoredAt}
-use Rattle.replay_monitors.specs.Loads.{reading_after, step_of}
-use Rattle.replay_monitors.specs.UnitMonitorView.{UnitMonitorView, IsOf}
+use Rattle.replay_player.specs.Books.{IsStoredAt}
+use Rattle.replay_player.specs.Loads.{reading_after, step_of}
+use Rattle.replay_player.specs.UnitMonitorView.{UnitMonitorView, IsOf}
 use Rattle.output_lines.specs.Items.{item_line}
 use Rattle.replay_player.specs.declared.event_step.EventStep.{EventStep}
 use Rattle.replay_player.specs.declared.event_step.EventStep.TheVariants.{Made, Refused}

@@ -2,7 +2,7 @@
 
 ghost use Rattle.std.specs.Prelude.{◌≡◌, ◌<◌, ◌*◌, ◌++◌, true, ℕ, Some, List, length, slice_get, OnOk};
 ghost use Rattle.std.specs.List.{flat_map, range_with_len};
-ghost use Rattle.replay_monitors.specs.Stored.{is_store};
+ghost use Rattle.replay_player.specs.Stored.{is_store};
 ghost use Rattle.replay_player.specs.Clients.{Client, items_of};
 ghost use Rattle.replay_player.specs.Ending.{DrainsOne, HaveStopped, IsServed, PublishesOne, Shows, stores_left};
 ghost use Rattle.replay_player.specs.Ends.{all_closed, all_ended, closings_at_end, counted, end_line, ended_at, published, shut};

@@ -8,9 +8,9 @@ ghost use Rattle.replay_player.specs.Playing.{Acts, Opens, BookStandsFor};
 ghost use Rattle.replay_player.specs.States.{State};
 
 use crate::event_step::{EventStep, event_step_of};
+use crate::unit_monitor::UnitMonitor;
 use gps_fixed::{NoMemory, Stamp};
 use gps_report::{Edge, Names};
-use replay_monitors::UnitMonitor;
 use report_book::Book;
 use session_core::PlainOutlet;
 use std::alloc::Global;

@@ -3,18 +3,18 @@
 ghost use Rattle.std.specs.Prelude.{◌≡◌, ◌≤◌, ◌<◌, ◌*◌, ◌&&◌, ◌++◌, true, Some, OnOk, get_or, set, slice_get, List, [], length, nat_eq, nat_lt, slice_index};
 ghost use Rattle.shm_monitor.specs.declared.reading.MonStep.{MonStep};
 ghost use Rattle.book_units.specs.Units.{UnitView};
-ghost use Rattle.replay_monitors.specs.Loads.{step_of};
-ghost use Rattle.replay_monitors.specs.Stored.{stores_next};
-ghost use Rattle.replay_monitors.specs.UnitMonitorView.{UnitMonitorView, IsOf, after_load, words_beside};
+ghost use Rattle.replay_player.specs.Loads.{step_of};
+ghost use Rattle.replay_player.specs.Stored.{stores_next};
+ghost use Rattle.replay_player.specs.UnitMonitorView.{UnitMonitorView, IsOf, after_load, words_beside};
 ghost use Rattle.replay_player.specs.Effects.{loads, most_watches, step_line, stores, watches, with_stores};
 ghost use Rattle.replay_player.specs.Playing.{Acts, LoadsOne, BookStandsFor};
 ghost use Rattle.replay_player.specs.States.{State, MonitorState, samples_at};
 
 use crate::event_step::EventStep;
 use crate::replay_book::ReplayBook;
+use crate::unit_monitor::UnitMonitor;
 use gps_fixed::{Bytes, NoMemory};
 use output_lines::push_reading_line;
-use replay_monitors::UnitMonitor;
 use report_book::Book;
 use session_core::PlainOutlet;
 use shm_monitor::MonStep;

@@ -1,1 +1,3 @@
 mod Halves
+pub mod Lengths
+pub mod Seconds

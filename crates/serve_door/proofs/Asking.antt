@@ -5,7 +5,7 @@ use Rattle.gps_outside.specs.Counts.{Rose, one_more}
 use Rattle.gps_outside.specs.Links.{HasNoLink, PassLinks}
 use Rattle.gps_outside.specs.Told.{Goes, Stays}
 use Rattle.gps_outside.proofs.Going.{goes_as, goes_on}
-use Rattle.serve_threads.specs.declared.session.SessionLink.{SessionLink}
+use Rattle.serve_workers.specs.declared.session.SessionLink.{SessionLink}
 use Rattle.hub_door.specs.Admissions.{LinkDrop}
 use Rattle.serve_door.specs.Doors.{Dealt, Deals, DoorNow, Drops, IsDropped, IsSublist, NoneLeft, Taken, Tally, Tends, WasAsked, Way, door_now, tally, way_of}
 

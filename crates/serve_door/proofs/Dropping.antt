@@ -2,7 +2,7 @@
 use Rattle.std.proofs.Common.{◌≡◌, ◌≤◌, ◌⊎◌, inl, inr, ℕ, Bool, List, [], ◌∷◌, map, length, suc, refl, sym, ◌∙◌, ap, arith}
 use Rattle.gps_outside.specs.Counts.{one_more}
 use Rattle.hub_door.specs.Admissions.{Admissions}
-use Rattle.serve_threads.specs.declared.session.SessionLink.{SessionLink}
+use Rattle.serve_workers.specs.declared.session.SessionLink.{SessionLink}
 use Rattle.serve_floor.specs.Admitting.{DropsOne}
 use Rattle.serve_door.specs.declared.seated.Seated.{Seated}
 use Rattle.serve_door.specs.Doors.{AreSeated, Deals, Drops, Way, lanes_of, links_at, tally, way_of}

@@ -8,19 +8,19 @@ use Rattle.gps_outside.specs.Writes.{WritesAll}
 use Rattle.hub_door.specs.Admissions.{Admissions, SessionLanes}
 use Rattle.hub_promise.specs.Given.{TellsOnce}
 use Rattle.hub_promise.proofs.Settling.{tells_once as once_of}
-use Rattle.serve_pieces.specs.Carried.{input_part}
-use Rattle.serve_pieces.specs.declared.piece.Ending.{Ending}
-use Rattle.serve_pieces.specs.declared.piece.Piece.{Piece}
+use Rattle.gps_lane.specs.Carried.{input_part}
+use Rattle.gps_lane.specs.declared.piece.Ending.{Ending}
+use Rattle.gps_lane.specs.declared.piece.Piece.{Piece}
 use Rattle.serve_workers.specs.declared.writer.WriterEnd.{WriterEnd}
 use Rattle.serve_workers.specs.declared.writer.WriterEnd.TheVariants.{Drained, WriteFault}
 use Rattle.serve_workers.specs.Readings.{IsInputPiece, last_piece}
-use Rattle.serve_threads.specs.declared.session.SessionLink.{SessionLink}
-use Rattle.serve_threads.specs.declared.session.LinkDone.{LinkDone}
-use Rattle.serve_threads.specs.Writers.{WriterView}
-use Rattle.serve_threads.specs.Reading.{Reads, counts}
-use Rattle.serve_threads.specs.Sessions.{SessionRuns, Wrote}
-use Rattle.serve_end_settling.proofs.Emptying.{wrote_item, wrote_less, wrote_none, wrote_part}
-use Rattle.serve_end_settling.proofs.Endings.{sessions_tell_last}
+use Rattle.serve_workers.specs.declared.session.SessionLink.{SessionLink}
+use Rattle.serve_workers.specs.declared.session.LinkDone.{LinkDone}
+use Rattle.serve_workers.specs.Writers.{WriterView}
+use Rattle.serve_workers.specs.Reading.{Reads, counts}
+use Rattle.serve_workers.specs.Sessions.{SessionRuns, Wrote}
+use Rattle.serve_end.proofs.Emptying.{wrote_item, wrote_less, wrote_none, wrote_part}
+use Rattle.serve_end.proofs.Endings.{sessions_tell_last}
 use Rattle.serve_door.specs.declared.seated.Seated.{Seated}
 use Rattle.serve_door.specs.Doors.{AreSeated, EachLink, HaveLanes, HasNewLanes, lanes_of, link_at, links_at}
 use Rattle.serve_door.specs.Released.{AreEndsOf, GotMore, WritesItem, WritesOn}

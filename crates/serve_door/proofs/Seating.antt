@@ -4,7 +4,7 @@ use Rattle.std.proofs.lemmas.List.{map-append}
 use Rattle.std.specs.List.{AllZip}
 use Rattle.gps_outside.specs.Counts.{Rose}
 use Rattle.hub_door.specs.Admissions.{Admissions, admitting, link_of}
-use Rattle.serve_threads.specs.declared.session.SessionLink.{SessionLink}
+use Rattle.serve_workers.specs.declared.session.SessionLink.{SessionLink}
 use Rattle.serve_door.specs.Doors.{AreSeated, DoorNow, EachLink, FailsBy, HasNewLanes, Tended, Tends, Way, lanes_of, way_of}
 
 each_more : {L : Type 0} (P : L → Type 0) (links : List L) (link : L) → EachLink P links → P link → EachLink P (links ++ link ∷ [])

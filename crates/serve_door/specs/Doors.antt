@@ -7,7 +7,7 @@ use Rattle.gps_outside.specs.Told.{Goes, Stream}
 use Rattle.book_sessions.specs.Roster.{most_live}
 use Rattle.gps_hub.specs.Admitting.{HasBound}
 use Rattle.hub_door.specs.Admissions.{Admissions, LinkDrop, SessionLanes, link_of}
-use Rattle.serve_threads.specs.declared.session.SessionLink.{SessionLink}
+use Rattle.serve_workers.specs.declared.session.SessionLink.{SessionLink}
 use Rattle.serve_door.specs.declared.seated.Seated.{Seated}
 
 -- the link on which a session's threads work

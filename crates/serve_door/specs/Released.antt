@@ -2,10 +2,10 @@
 use Rattle.std.specs.Prelude.{◌≡◌, ◌<◌, ℕ, List, [], ◌∷◌, ◌++◌, length, get_or, Option}
 use Rattle.gps_lane.specs.Ends.{Putting, Taking}
 use Rattle.hub_door.specs.Admissions.{Admissions, SessionLanes}
-use Rattle.serve_pieces.specs.declared.piece.Piece.{Piece}
+use Rattle.gps_lane.specs.declared.piece.Piece.{Piece}
 use Rattle.serve_workers.specs.declared.writer.WriterEnd.{WriterEnd}
-use Rattle.serve_threads.specs.Writers.{WriterView}
-use Rattle.serve_threads.specs.Sessions.{Wrote}
+use Rattle.serve_workers.specs.Writers.{WriterView}
+use Rattle.serve_workers.specs.Sessions.{Wrote}
 
 -- these are ends of the two lanes of the session that was admitted with this number
 pub record AreEndsOf (seat : Admissions) (number : ℕ) (items : Taking (List ℕ)) (pieces : Putting Piece) : Type 0 where

@@ -1,12 +1,12 @@
 ghost use Rattle.std.specs.Prelude.{◌≡◌, []};
-ghost use Rattle.serve_threads.specs.Sessions.{SessionRuns};
+ghost use Rattle.serve_workers.specs.Sessions.{SessionRuns};
 ghost use Rattle.serve_door.specs.Released.{AreEndsOf};
 
 use crate::release::release_lanes;
 use gps_hub::{DoorSeat, HubNaming};
 use gps_outside::{ClientSink, Source};
 use serve_floor::Floor;
-use serve_threads::{Attending, LinkDone, SessionLink, Work};
+use serve_workers::{Attending, LinkDone, SessionLink, Work};
 use std::marker::Model;
 use std::snapshot::Snapshot;
 use std::sync::{Mutex, Wait};
@@ -22,8 +22,8 @@ pub(crate) struct Attended<S: Source, K: ClientSink, R: Wait + Copy> {
 
 impl<S: Source, K: ClientSink, R: Wait + Copy> Model for Attended<S, K, R> {
     ghost use Rattle.std.specs.Prelude.{◌≡◌, IfSome, IsSome, None};
-    ghost use Rattle.serve_threads.specs.declared.session.SessionLink.{SessionLink};
-    ghost use Rattle.serve_threads.specs.Sessions.{SessionRuns};
+    ghost use Rattle.serve_workers.specs.declared.session.SessionLink.{SessionLink};
+    ghost use Rattle.serve_workers.specs.Sessions.{SessionRuns};
 
     ghost Value = { SessionLink S K R };
 

@@ -1,6 +1,6 @@
 use gps_hub::HubNaming;
 use serve_floor::Floor;
-use serve_threads::{Bells, Spawner};
+use serve_workers::{Bells, Spawner};
 use std::sync::{Mutex, Wait};
 
 /// What the door worker works with: what starts threads, and the floor and the bells that it shares with the other threads.

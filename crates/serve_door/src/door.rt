@@ -1,7 +1,7 @@
 ghost use Rattle.std.specs.Prelude.{◌≡◌, ◌≤◌, [], false};
 ghost use Rattle.std.specs.Vec.{vec_len, vec_capacity};
 ghost use Rattle.gps_fixed.specs.Limits.{most_queue};
-ghost use Rattle.serve_threads.specs.Sessions.{SessionRuns};
+ghost use Rattle.serve_workers.specs.Sessions.{SessionRuns};
 ghost use Rattle.serve_door.specs.Doors.{FailsBy, IsNewLink, Tended, door_now};
 
 use crate::context::DoorContext;
@@ -10,8 +10,8 @@ use crate::due_sinks::DueSinks;
 use crate::seated::Sessions;
 use gps_hub::{DoorSeat, HubNaming};
 use gps_outside::{ClientSink, Door, Source};
-use serve_end_parts::SessionDone;
-use serve_threads::LinkDone;
+use serve_end::SessionDone;
+use serve_workers::LinkDone;
 use std::sync::Wait;
 use std::thread::Threads;
 

@@ -4,7 +4,7 @@ use crate::context::DoorContext;
 use crate::door::{DoorBegin, DoorDone, tend};
 use gps_hub::HubNaming;
 use gps_outside::{ClientSink, Door, Source};
-use serve_threads::{Work, start};
+use serve_workers::{Work, start};
 use std::marker::PhantomData;
 use std::snapshot::Snapshot;
 use std::sync::Wait;
@@ -21,7 +21,7 @@ pub struct Tending<G: Door, J: HubNaming> {
 impl<S: Source, K: ClientSink, G: Door<In = S, Out = K>, J: HubNaming, R: Wait + Copy> Promise<
     DoorDone<S, K, G, J, R>,
 > for Tending<G, J> {
-    ghost use Rattle.serve_threads.specs.Sessions.{SessionRuns};
+    ghost use Rattle.serve_workers.specs.Sessions.{SessionRuns};
     ghost use Rattle.serve_door.specs.Doors.{FailsBy, IsNewLink, Tended, door_now};
 
     ghost kept_by = { λ p r. Tended (IsNewLink S.content S.faults S.quiets K.written K.faults)

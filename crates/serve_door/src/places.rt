@@ -1,14 +1,13 @@
 ghost use Rattle.std.specs.Prelude.{◌≡◌, ◌≤◌, [], true, IfOk};
 ghost use Rattle.gps_fixed.specs.Limits.{most_queue};
-ghost use Rattle.serve_pieces.specs.Held.{of_source};
+ghost use Rattle.gps_lane.specs.Held.{of_source};
 ghost use Rattle.hub_promise.specs.Parts.{subject_of};
 
 use gps_fixed::NoMemory;
 use gps_hub::HubNaming;
-use gps_lane::{About, Due, Rx, Tx, lane_about};
+use gps_lane::{About, Due, Piece, Rx, Tx, lane_about};
 use gps_outside::ClientSink;
-use serve_pieces::Piece;
-use serve_threads::SessionBells;
+use serve_workers::SessionBells;
 use session_core::Item;
 use std::alloc::Global;
 use std::marker::Brand;

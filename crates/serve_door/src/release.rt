@@ -3,8 +3,8 @@ ghost use Rattle.std.specs.Option.{option_to_list};
 ghost use Rattle.gps_outside.specs.Writes.{AllowsInParts};
 ghost use Rattle.hub_door.specs.Admissions.{SessionLanes};
 ghost use Rattle.hub_promise.specs.Given.{TellsOnce};
-ghost use Rattle.serve_threads.specs.declared.session.SessionLink.{SessionLink};
-ghost use Rattle.serve_threads.specs.Sessions.{SessionRuns};
+ghost use Rattle.serve_workers.specs.declared.session.SessionLink.{SessionLink};
+ghost use Rattle.serve_workers.specs.Sessions.{SessionRuns};
 ghost use Rattle.serve_workers.specs.declared.writer.WriterEnd.{WriterEnd};
 ghost use Rattle.serve_door.specs.Released.{AreEndsOf, GotMore, WritesItem, WritesOn};
 
@@ -12,8 +12,7 @@ use gps_hub::{DoorSeat, Hub, HubNaming};
 use gps_lane::Rx;
 use gps_outside::{ClientSink, Source, send_all};
 use serve_floor::Floor;
-use serve_threads::{LinkDone, WriterDone};
-use serve_workers::WriterEnd;
+use serve_workers::{LinkDone, WriterDone, WriterEnd};
 use session_core::Item;
 use std::sync::{Mutex, Wait};
 

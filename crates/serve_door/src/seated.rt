@@ -2,7 +2,7 @@ ghost use Rattle.std.specs.Prelude.{◌≡◌, ◌<◌, ◌≤◌, ◌+◌, ◌+
 ghost use Rattle.std.specs.List.{AllZip};
 ghost use Rattle.std.specs.Vec.{vec_len, vec_capacity};
 ghost use Rattle.book_sessions.specs.Roster.{most_live};
-ghost use Rattle.serve_threads.specs.Sessions.{SessionRuns};
+ghost use Rattle.serve_workers.specs.Sessions.{SessionRuns};
 ghost use Rattle.serve_door.specs.Doors.{HaveLanes, links_at};
 
 use crate::attended::Attended;
@@ -10,7 +10,7 @@ use gps_fixed::NoMemory;
 use gps_hub::{DoorSeat, HubNaming};
 use gps_outside::{ClientSink, Source};
 use serve_floor::{Floor, MOST};
-use serve_threads::{LinkDone, SessionBells};
+use serve_workers::{LinkDone, SessionBells};
 use std::alloc::Global;
 use std::sync::{Arc, Mutex, Wait};
 use std::thread::Threads;

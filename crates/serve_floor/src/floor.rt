@@ -11,10 +11,9 @@ ghost use Rattle.serve_floor.specs.Bursts.{AreAtRest, HasStopped, IsAtRestIn};
 
 use crate::rings::{Call, Rings};
 use gps_hub::{DoorSeat, Hub, HubNaming, Look, Pumped};
-use gps_lane::{Rx, Tx};
+use gps_lane::{Piece, Rx, Tx};
 use report_book::{BookFault, UnitStep};
-use serve_pieces::Piece;
-use serve_threads::SessionBells;
+use serve_workers::SessionBells;
 use session_core::Item;
 use std::alloc::Global;
 use std::sync::{Arc, Wait};

@@ -5,7 +5,7 @@ use crate::rings::Rings;
 use gps_hub::HubNaming;
 use gps_lane::Bell;
 use gps_outside::Closer;
-use serve_threads::{Bells, Spawner, Work, start};
+use serve_workers::{Bells, Spawner, Work, start};
 use std::alloc::Global;
 use std::sync::{Mutex, Wait};
 use std::thread::Promise;

@@ -1,4 +1,4 @@
-use serve_threads::SessionBells;
+use serve_workers::SessionBells;
 use std::alloc::Global;
 use std::sync::Arc;
 

@@ -14,6 +14,7 @@ mod place_text;
 mod readability;
 mod report;
 mod same_place;
+mod start_notice;
 mod stopping;
 mod system;
 mod tally;

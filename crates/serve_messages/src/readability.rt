@@ -3,8 +3,8 @@
 
 use crate::messages::Tell;
 use crate::place_text::{PlaceText, text_of};
+use class_counts::{Finding, FirstBytes, PacketCounts};
 use gps_world::Place;
-use packet_counts::{Finding, FirstBytes, PacketCounts};
 use std::alloc::Global;
 use std::fmt;
 use std::time::Duration;

@@ -6,6 +6,7 @@ ghost use Rattle.gps_world.specs.Asking.{asked_nothing};
 
 use crate::messages::Tell;
 use crate::place_text::{PlaceText, copy_of, text_of};
+use crate::start_notice::tell_ready;
 use crate::stopping::{StopRequest, share};
 use crate::system::{Reason, is_regular, is_terminal, speed_in, who_may_read};
 use crate::tally::{Meter, Tally};
@@ -16,7 +17,6 @@ use cycle_gap::CycleSource;
 use gps_fixed::Bytes;
 use gps_outside::{Door, LinkSink, RealClock};
 use gps_world::{HeldPipes, Opened, Place, RealWorld, World};
-use start_notice::tell_ready;
 use std::alloc::Global;
 use std::fs::File;
 use std::io::{self, ErrorKind};

@@ -2,8 +2,8 @@
 use Rattle.std.proofs.Common.{◌≡◌, ℕ, ◌-◌, List, [], ◌∷◌, ◌++◌, length, take, drop, map, refl, sym, ◌∙◌, ap, subst, append_assoc, append-nil}
 use Rattle.std.proofs.lemmas.List.{map-append, take-append-drop, take_rest}
 use Rattle.std.proofs.Math.Seq.{take-length}
-use Rattle.serve_pieces.specs.declared.piece.Piece.{Piece}
-use Rattle.serve_pieces.specs.declared.piece.Piece.TheVariants as made
+use Rattle.gps_lane.specs.declared.piece.Piece.{Piece}
+use Rattle.gps_lane.specs.declared.piece.Piece.TheVariants as made
 use Rattle.line_cut.specs.declared.next.WholeLine.{WholeLine}
 use Rattle.line_cut.specs.declared.next.Next.{Next}
 use Rattle.line_cut.specs.declared.next.Next.TheVariants as next
@@ -11,7 +11,7 @@ use Rattle.line_cut.specs.Lines.{lines, open_line, text_of}
 use Rattle.line_cut.specs.Limits.{fitting_lines}
 use Rattle.line_cut.specs.Standing.{LineCutterView, StandsFor, Steps, spelling, used, gained}
 use Rattle.line_cut.proofs.Splits.{fitting_goes_on}
-use Rattle.serve_pieces.specs.EdgeLines.{edge_limit, edge_lines}
+use Rattle.gps_lane.specs.EdgeLines.{edge_limit, edge_lines}
 use Rattle.serve_workers.specs.EdgeLines.{line_pieces, AreFirst, PutsLines}
 use Rattle.serve_workers.specs.declared.edges.Put.TheVariants as put
 

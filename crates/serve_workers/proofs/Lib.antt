@@ -8,3 +8,5 @@ pub mod Once
 pub mod Cutting
 pub mod LineStepping
 pub mod LineSourcing
+pub mod Segments
+pub mod Zips

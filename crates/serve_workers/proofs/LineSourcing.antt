@@ -17,13 +17,13 @@ use Rattle.line_cut.specs.Lines.{open_line, last_lines, text_of}
 use Rattle.line_cut.specs.Limits.{fitting_lines, is_too_long, most}
 use Rattle.line_cut.specs.Standing.{IsLast, LineCutterView, StandsFor, Steps, spelling}
 use Rattle.line_cut.proofs.Splits.{fitting_goes_on}
-use Rattle.serve_pieces.specs.declared.piece.Ending.{Ending}
-use Rattle.serve_pieces.specs.declared.piece.Piece.{Piece}
-use Rattle.serve_pieces.specs.declared.piece.Piece.TheVariants as made
-use Rattle.serve_pieces.specs.Carried.{device_part, input_part, line_part, device_bytes, input_bytes, lines_of}
-use Rattle.serve_pieces.specs.EdgeLines.{all_edge_lines, edge_limit, edge_lines, last_edge_line}
-use Rattle.serve_pieces.specs.Held.{AreDue, AreHeld, CarryHeld}
-use Rattle.serve_pieces.proofs.Held.{held_begins}
+use Rattle.gps_lane.specs.declared.piece.Ending.{Ending}
+use Rattle.gps_lane.specs.declared.piece.Piece.{Piece}
+use Rattle.gps_lane.specs.declared.piece.Piece.TheVariants as made
+use Rattle.gps_lane.specs.Carried.{device_part, input_part, line_part, device_bytes, input_bytes, lines_of}
+use Rattle.gps_lane.specs.EdgeLines.{all_edge_lines, edge_limit, edge_lines, last_edge_line}
+use Rattle.gps_lane.specs.Held.{AreDue, AreHeld, CarryHeld}
+use Rattle.gps_lane.proofs.Held.{held_begins}
 use Rattle.serve_workers.specs.declared.readers.ReaderStep.TheVariants.{Over}
 use Rattle.serve_workers.specs.declared.edges.Put.TheVariants as was
 use Rattle.serve_workers.specs.EdgeLines.{line_pieces, PutsLines}

@@ -5,10 +5,10 @@ use Rattle.std.proofs.lemmas.Option.{same_Some}
 use Rattle.gps_outside.specs.Told.{Stream, Goes, Stays, Passes, IsAtEnd, MayLose}
 use Rattle.gps_outside.specs.ReadSteps.{TakesAll, TakesSome}
 use Rattle.gps_outside.proofs.Going.{goes_as, goes_on}
-use Rattle.serve_pieces.specs.declared.piece.Ending.{Ending}
-use Rattle.serve_pieces.specs.declared.piece.Ending.TheVariants.{End, Failed, NoMemory}
-use Rattle.serve_pieces.specs.declared.piece.Piece.{Piece}
-use Rattle.serve_pieces.specs.declared.piece.Piece.TheVariants as made
+use Rattle.gps_lane.specs.declared.piece.Ending.{Ending}
+use Rattle.gps_lane.specs.declared.piece.Ending.TheVariants.{End, Failed, NoMemory}
+use Rattle.gps_lane.specs.declared.piece.Piece.{Piece}
+use Rattle.gps_lane.specs.declared.piece.Piece.TheVariants as made
 use Rattle.line_cut.specs.Lines.{lines}
 use Rattle.line_cut.specs.Standing.{LineCutterView, StandsFor}
 use Rattle.serve_workers.specs.declared.readers.ReaderStep.{ReaderStep}
@@ -16,7 +16,7 @@ use Rattle.serve_workers.specs.declared.readers.ReaderStep.TheVariants.{On, Over
 use Rattle.serve_workers.specs.declared.edges.Put.{Put}
 use Rattle.serve_workers.specs.declared.edges.Put.TheVariants as was
 use Rattle.serve_workers.specs.Readings.{last_piece}
-use Rattle.serve_pieces.specs.EdgeLines.{edge_lines, last_edge_line}
+use Rattle.gps_lane.specs.EdgeLines.{edge_lines, last_edge_line}
 use Rattle.serve_workers.specs.EdgeLines.{line_pieces, AreFirst, AreLinesOf, TookLines, HandsLines, CutsLines, PutsLines, PutsLast, TookRound, LinesIn, StandsIn, EdgeLineSteps}
 use Rattle.serve_workers.proofs.Stepping.{pass_on, all_on, some_on, all_closed, some_closed, stays}
 

@@ -8,12 +8,12 @@ use Rattle.gps_lane.specs.Ends.{Putting}
 use Rattle.gps_lane.specs.Lane.{Begins}
 use Rattle.gps_fixed.specs.Lists.{IsPrefix}
 use Rattle.gps_outside.specs.Told.{Stream, Goes, Stays, Passes}
-use Rattle.serve_pieces.specs.declared.piece.Piece.{Piece}
-use Rattle.serve_pieces.specs.declared.piece.Piece.TheVariants.{Bytes, Line, Input, Last}
-use Rattle.serve_pieces.specs.Carried.{device_bytes, input_bytes, lines_of}
-use Rattle.serve_pieces.specs.EdgeLines.{all_edge_lines}
-use Rattle.serve_pieces.specs.Held.{AreDue, AreHeld, CarryHeld}
-use Rattle.serve_pieces.proofs.Held.{held_begins}
+use Rattle.gps_lane.specs.declared.piece.Piece.{Piece}
+use Rattle.gps_lane.specs.declared.piece.Piece.TheVariants.{Bytes, Line, Input, Last}
+use Rattle.gps_lane.specs.Carried.{device_bytes, input_bytes, lines_of}
+use Rattle.gps_lane.specs.EdgeLines.{all_edge_lines}
+use Rattle.gps_lane.specs.Held.{AreDue, AreHeld, CarryHeld}
+use Rattle.gps_lane.proofs.Held.{held_begins}
 use Rattle.serve_workers.specs.Readings.{Each, IsDevicePiece, IsInputPiece}
 use Rattle.serve_workers.specs.Sourced.{Carries, FromSource, LinesFrom, held_in}
 use Rattle.serve_workers.proofs.LineStepping.{no_lines_yet}

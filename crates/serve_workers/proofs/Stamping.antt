@@ -4,10 +4,10 @@ use Rattle.std.specs.List.{flat_map}
 use Rattle.std.proofs.lemmas.List.{nil_from_length}
 use Rattle.std.proofs.lemmas.List.Concat.{flat_map-append}
 use Rattle.gps_fixed.specs.Moment.{Moment}
-use Rattle.serve_pieces.specs.declared.piece.Ending.{Ending}
-use Rattle.serve_pieces.specs.declared.piece.Piece.{Piece}
-use Rattle.serve_pieces.specs.declared.piece.Piece.TheVariants.{Bytes, Line, Input, Last}
-use Rattle.serve_pieces.specs.Carried.{stamp_part, stamps_of}
+use Rattle.gps_lane.specs.declared.piece.Ending.{Ending}
+use Rattle.gps_lane.specs.declared.piece.Piece.{Piece}
+use Rattle.gps_lane.specs.declared.piece.Piece.TheVariants.{Bytes, Line, Input, Last}
+use Rattle.gps_lane.specs.Carried.{stamp_part, stamps_of}
 use Rattle.stamp_shares.specs.declared.view.ShareView.{ShareView}
 use Rattle.serve_workers.specs.Readings.{last_piece}
 use Rattle.serve_workers.specs.Stamping.{GivenOneAtMost, StampsPieces, given_on}

@@ -12,9 +12,9 @@ use Rattle.gps_outside.specs.Reads.{FitsBuffer, Reads}
 use Rattle.gps_outside.specs.declared.source.ReadStep.{ReadStep}
 use Rattle.gps_outside.specs.declared.source.ReadStep.TheVariants.{Got, End, Quiet, Failed}
 use Rattle.gps_outside.proofs.Going.{goes_as, goes_on}
-use Rattle.serve_pieces.specs.declared.piece.Ending.{Ending}
-use Rattle.serve_pieces.specs.declared.piece.Ending.TheVariants as ending
-use Rattle.serve_pieces.specs.declared.piece.Piece.{Piece}
+use Rattle.gps_lane.specs.declared.piece.Ending.{Ending}
+use Rattle.gps_lane.specs.declared.piece.Ending.TheVariants as ending
+use Rattle.gps_lane.specs.declared.piece.Piece.{Piece}
 use Rattle.serve_workers.specs.declared.readers.ReaderStep.{ReaderStep}
 use Rattle.serve_workers.specs.declared.readers.ReaderStep.TheVariants.{On, Over, Closed}
 use Rattle.serve_workers.specs.Readings.{Each, HandsOn, Meets, StepHasCause, Took, TookIn, TakesMore, ReaderSteps, WasRead, is_fault, last_piece, over}

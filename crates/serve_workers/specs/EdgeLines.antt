@@ -2,11 +2,11 @@
 use Rattle.std.specs.Prelude.{◌≡◌, ℕ, List, [], ◌∷◌, ◌++◌, map, Option, Some, None}
 use Rattle.gps_outside.specs.Told.{Stream, Goes, Passes}
 use Rattle.gps_outside.specs.ReadSteps.{TakesAll, TakesSome}
-use Rattle.serve_pieces.specs.EdgeLines.{edge_lines, last_edge_line}
-use Rattle.serve_pieces.specs.declared.piece.Ending.{Ending}
-use Rattle.serve_pieces.specs.declared.piece.Ending.TheVariants.{End, Failed, NoMemory}
-use Rattle.serve_pieces.specs.declared.piece.Piece.{Piece}
-use Rattle.serve_pieces.specs.declared.piece.Piece.TheVariants.{Line}
+use Rattle.gps_lane.specs.EdgeLines.{edge_lines, last_edge_line}
+use Rattle.gps_lane.specs.declared.piece.Ending.{Ending}
+use Rattle.gps_lane.specs.declared.piece.Ending.TheVariants.{End, Failed, NoMemory}
+use Rattle.gps_lane.specs.declared.piece.Piece.{Piece}
+use Rattle.gps_lane.specs.declared.piece.Piece.TheVariants.{Line}
 use Rattle.line_cut.specs.Standing.{LineCutterView, StandsFor}
 use Rattle.serve_workers.specs.declared.readers.ReaderStep.{ReaderStep}
 use Rattle.serve_workers.specs.declared.readers.ReaderStep.TheVariants.{On, Over, Closed}

@@ -6,3 +6,9 @@ pub mod Writing
 pub mod Watching
 pub mod EdgeLines
 pub mod Sourced
+pub mod Joining
+pub mod Monitors
+pub mod Reading
+pub mod Segments
+pub mod Sessions
+pub mod Writers

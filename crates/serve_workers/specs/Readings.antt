@@ -6,11 +6,11 @@ use Rattle.gps_fixed.specs.Moment.{Moment}
 use Rattle.gps_outside.specs.Counts.{Rose}
 use Rattle.gps_outside.specs.Told.{Stream, Goes, Passes}
 use Rattle.gps_outside.specs.ReadSteps.{TakesAll, TakesSome}
-use Rattle.serve_pieces.specs.declared.piece.Ending.{Ending}
-use Rattle.serve_pieces.specs.declared.piece.Ending.TheVariants.{End, Failed, NoMemory}
-use Rattle.serve_pieces.specs.declared.piece.Piece.{Piece}
-use Rattle.serve_pieces.specs.declared.piece.Piece.TheVariants.{Bytes, Line, Input, Last}
-use Rattle.serve_pieces.specs.Sizes.{IsChunk}
+use Rattle.gps_lane.specs.declared.piece.Ending.{Ending}
+use Rattle.gps_lane.specs.declared.piece.Ending.TheVariants.{End, Failed, NoMemory}
+use Rattle.gps_lane.specs.declared.piece.Piece.{Piece}
+use Rattle.gps_lane.specs.declared.piece.Piece.TheVariants.{Bytes, Line, Input, Last}
+use Rattle.gps_lane.specs.Sizes.{IsChunk}
 use Rattle.serve_workers.specs.declared.readers.ReaderStep.{ReaderStep}
 use Rattle.serve_workers.specs.declared.readers.ReaderStep.TheVariants.{On, Over, Closed}
 use Rattle.serve_workers.specs.Clocks.{IsAllowed}

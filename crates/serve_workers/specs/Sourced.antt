@@ -3,11 +3,11 @@ use Rattle.std.specs.Prelude.{◌≡◌, ℕ, List, [], ◌++◌, Option, Some, 
 use Rattle.std.specs.List.{flat_map}
 use Rattle.gps_fixed.specs.Lists.{IsPrefix}
 use Rattle.gps_outside.specs.Told.{Stream}
-use Rattle.serve_pieces.specs.declared.piece.Piece.{Piece}
-use Rattle.serve_pieces.specs.declared.piece.Ending.TheVariants.{End, Failed, NoMemory}
-use Rattle.serve_pieces.specs.Carried.{device_bytes, input_bytes, lines_of}
-use Rattle.serve_pieces.specs.EdgeLines.{edge_lines}
-use Rattle.serve_pieces.specs.Held.{CarryHeld}
+use Rattle.gps_lane.specs.declared.piece.Piece.{Piece}
+use Rattle.gps_lane.specs.declared.piece.Ending.TheVariants.{End, Failed, NoMemory}
+use Rattle.gps_lane.specs.Carried.{device_bytes, input_bytes, lines_of}
+use Rattle.gps_lane.specs.EdgeLines.{edge_lines}
+use Rattle.gps_lane.specs.Held.{CarryHeld}
 use Rattle.line_cut.specs.Standing.{LineCutterView, StandsFor}
 use Rattle.serve_workers.specs.declared.readers.ReaderStep.{ReaderStep}
 use Rattle.serve_workers.specs.declared.readers.ReaderStep.TheVariants.{On, Over, Closed}

@@ -1,8 +1,8 @@
 -- The stamps of a reader's pieces.
 use Rattle.std.specs.Prelude.{◌≡◌, ◌≤◌, ℕ, List, ◌++◌, length}
 use Rattle.gps_fixed.specs.Moment.{Moment}
-use Rattle.serve_pieces.specs.declared.piece.Piece.{Piece}
-use Rattle.serve_pieces.specs.Carried.{stamps_of}
+use Rattle.gps_lane.specs.declared.piece.Piece.{Piece}
+use Rattle.gps_lane.specs.Carried.{stamps_of}
 use Rattle.serve_workers.specs.declared.readers.ReaderStep.{ReaderStep}
 use Rattle.serve_workers.specs.declared.readers.ReaderStep.TheVariants.{On, Over, Closed}
 use Rattle.stamp_shares.specs.declared.view.ShareView.{ShareView}

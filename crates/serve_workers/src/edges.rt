@@ -1,9 +1,9 @@
 ghost use Rattle.std.specs.Prelude.{◌≡◌, ◌≤◌, ℕ, List, [], ◌∷◌, ◌++◌, true};
 ghost use Rattle.gps_lane.specs.Lane.{Begins};
-ghost use Rattle.serve_pieces.specs.declared.piece.Piece.TheVariants.{Line};
-ghost use Rattle.serve_pieces.specs.EdgeLines.{edge_limit};
-ghost use Rattle.serve_pieces.specs.Held.{AreDue};
-ghost use Rattle.serve_pieces.specs.Sizes.{IsShort};
+ghost use Rattle.gps_lane.specs.declared.piece.Piece.TheVariants.{Line};
+ghost use Rattle.gps_lane.specs.EdgeLines.{edge_limit};
+ghost use Rattle.gps_lane.specs.Held.{AreDue};
+ghost use Rattle.gps_lane.specs.Sizes.{IsShort};
 ghost use Rattle.line_cut.specs.Standing.{StandsFor};
 ghost use Rattle.serve_workers.specs.Readings.{Meets, StepHasCause, over};
 ghost use Rattle.serve_workers.specs.Sourced.{CutterAtEnd, CutterBefore, CutterFrom, CutterFromOn, LinesFrom};
@@ -12,10 +12,9 @@ ghost use Rattle.serve_workers.specs.EdgeLines.{PutsLine, PutsLines, PutsLast, E
 use crate::pauses::pause;
 use crate::puts::put;
 use crate::readers::{READ, ReaderEnd, ReaderStep, Span, tell};
-use gps_lane::{Bell, Tx};
+use gps_lane::{Bell, Ending, Piece, Tx};
 use gps_outside::{ReadStep, Source};
 use line_cut::{Last, Limit, LineCutter, Next, text_of};
-use serve_pieces::{Ending, Piece};
 use std::alloc::Global;
 use std::sync::Wait;
 

@@ -1,7 +1,7 @@
 use crate::{Dials, SharedClock};
 use gps_fixed::NoMemory;
+use gps_lane::Piece;
 use gps_outside::Clock;
-use serve_pieces::Piece;
 use stamp_shares::StampShare;
 use std::alloc::Global;
 use std::sync::{Mutex, Wait};
@@ -9,9 +9,9 @@ use std::sync::{Mutex, Wait};
 /// How a reader makes a piece of the bytes that a read gave.
 pub(crate) trait Maker {
     ghost use Rattle.std.specs.Prelude.{◌≡◌, ℕ, List, IfOk, OnErr};
-    ghost use Rattle.serve_pieces.specs.declared.piece.Piece.{Piece};
-    ghost use Rattle.serve_pieces.specs.Carried.{stamp_part};
-    ghost use Rattle.serve_pieces.specs.Sizes.{IsChunk};
+    ghost use Rattle.gps_lane.specs.declared.piece.Piece.{Piece};
+    ghost use Rattle.gps_lane.specs.Carried.{stamp_part};
+    ghost use Rattle.gps_lane.specs.Sizes.{IsChunk};
     ghost use Rattle.serve_workers.specs.Sourced.{Carries};
     ghost use Rattle.serve_workers.specs.Stamping.{GivenOneAtMost, given_on};
     ghost use Rattle.stamp_shares.specs.declared.view.ShareView.{ShareView};
@@ -39,7 +39,7 @@ pub(crate) trait Maker {
 pub(crate) struct Requests;
 
 impl Maker for Requests {
-    ghost use Rattle.serve_pieces.specs.Carried.{input_part};
+    ghost use Rattle.gps_lane.specs.Carried.{input_part};
     ghost use Rattle.serve_workers.specs.Readings.{IsInputPiece};
     ghost use Rattle.stamp_shares.specs.Shares.{new_share};
 
@@ -62,7 +62,7 @@ pub(crate) struct Stamped<'c, C: Clock, D: Dials> {
 }
 
 impl<'c, C: Clock, D: Dials> Maker for Stamped<'c, C, D> {
-    ghost use Rattle.serve_pieces.specs.Carried.{device_part};
+    ghost use Rattle.gps_lane.specs.Carried.{device_part};
     ghost use Rattle.serve_workers.specs.Readings.{IsDevicePiece};
 
     ghost part = { device_part };

@@ -1,11 +1,10 @@
 ghost use Rattle.std.specs.Prelude.{◌≡◌, ◌++◌, [], ◌∷◌, true, IfSome};
 ghost use Rattle.gps_lane.specs.Lane.{Begins};
-ghost use Rattle.serve_pieces.specs.Held.{AreDue};
+ghost use Rattle.gps_lane.specs.Held.{AreDue};
 ghost use Rattle.serve_workers.specs.Readings.{last_piece};
 ghost use Rattle.serve_workers.specs.Putting.{puts_if};
 
-use gps_lane::{Bell, Pushed, Tx};
-use serve_pieces::{Ending, Piece};
+use gps_lane::{Bell, Ending, Piece, Pushed, Tx};
 use std::sync::Wait;
 
 /// Puts a piece that is due, and waits for room if the lane is full. Once it is told to end, drops the piece, and answers false.

@@ -1,4 +1,4 @@
-use Rattle.command_outcome.proofs.Statuses.{read_cause, write_cause}
+use Rattle.gps_outside.proofs.Statuses.{read_cause, write_cause}
 use Rattle.command_run.proofs.laws.faults_show_at_their_statuses.Goals as goal
 
 pub returns : goal.returns

@@ -1,6 +1,6 @@
 use Rattle.std.proofs.Common.{◌≡◌, ◌∙◌, ℕ, ◌⊎◌, ap, subst, sym}
-use Rattle.command_outcome.specs.Calls.{sink_call, sink_state, source_call, source_state}
-use Rattle.command_outcome.specs.Outcomes.{StatusHasCause}
+use Rattle.gps_outside.specs.Calls.{sink_call, sink_state, source_call, source_state}
+use Rattle.gps_outside.specs.Outcomes.{StatusHasCause}
 use Rattle.command_run.proofs.Commands.{caused, complete, done_by, refused_by, two_or_seven}
 use Rattle.command_run.proofs.running.run.Goals as goal
 

@@ -1,5 +1,5 @@
 use Rattle.std.proofs.Common.{◌≡◌, subst}
-use Rattle.serve_pieces.specs.declared.piece.Piece.TheVariants.{Last}
+use Rattle.gps_lane.specs.declared.piece.Piece.TheVariants.{Last}
 use Rattle.session_core.specs.declared.mark.Close.{Close}
 use Rattle.report_book.specs.Moves.{HangsUp}
 use Rattle.hub_promise.specs.Given.{why_of}

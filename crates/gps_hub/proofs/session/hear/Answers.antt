@@ -4,7 +4,7 @@ use Rattle.std.specs.Prelude.{Err, Option}
 use Rattle.report_book.specs.Moves.{HangsUp, AnswersRequests}
 use Rattle.report_book.specs.Refusals.{RefusesAs}
 use Rattle.report_book.specs.declared.fault.BookFault.{BookFault}
-use Rattle.serve_pieces.specs.declared.piece.Piece.TheVariants.{Input}
+use Rattle.gps_lane.specs.declared.piece.Piece.TheVariants.{Input}
 use Rattle.session_core.specs.declared.mark.Close.TheVariants.{NoMemory}
 use Rattle.hub_promise.specs.Steps.{SessionStep, with_got}
 use Rattle.hub_promise.proofs.Sessions.{cut_short, heard_step, hung_step}

@@ -1,12 +1,12 @@
 use Rattle.std.proofs.Common.{◌≡◌, sym, ap, ◌∙◌, subst, append-nil}
 use Rattle.gps_lane.specs.Ends.{Taking}
-use Rattle.serve_pieces.specs.declared.piece.Piece.{Piece}
+use Rattle.gps_lane.specs.declared.piece.Piece.{Piece}
 use Rattle.hub_promise.specs.Steps.{SessionStep, with_got}
 use Rattle.hub_promise.proofs.Sessions.{still_step}
 use Rattle.gps_hub.proofs.Pumps.{looked_at}
 use Rattle.gps_hub.proofs.session.pump.Goals as goal
-use Rattle.serve_pieces.specs.Held.{AreDue}
-use Rattle.serve_pieces.proofs.Held.{begun_held}
+use Rattle.gps_lane.specs.Held.{AreDue}
+use Rattle.gps_lane.proofs.Held.{begun_held}
 
 pub returns-in-None-clause-step : goal.returns-in-None-clause-step
 returns-in-None-clause-step g c =

@@ -1,6 +1,6 @@
 use Rattle.std.proofs.Common.{◌≡◌, refl, sym, subst}
-use Rattle.serve_pieces.specs.declared.piece.Piece.{Piece}
-use Rattle.serve_pieces.specs.declared.piece.Piece.TheVariants.{Bytes, Line}
+use Rattle.gps_lane.specs.declared.piece.Piece.{Piece}
+use Rattle.gps_lane.specs.declared.piece.Piece.TheVariants.{Bytes, Line}
 use Rattle.hub_promise.specs.Steps.{SessionStep, with_got}
 use Rattle.hub_promise.proofs.Sessions.{useless_step}
 use Rattle.gps_hub.specs.declared.pumped.Pumped.TheVariants.{Fed}

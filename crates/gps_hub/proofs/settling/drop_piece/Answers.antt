@@ -1,7 +1,7 @@
 use Rattle.std.proofs.Common.{subst}
 use Rattle.gps_lane.specs.Ends.{Putting}
 use Rattle.gps_fixed.specs.Lists.{IsPrefix}
-use Rattle.serve_pieces.specs.declared.piece.Piece.{Piece}
+use Rattle.gps_lane.specs.declared.piece.Piece.{Piece}
 use Rattle.hub_promise.proofs.Settling.{gets_one}
 use Rattle.gps_hub.proofs.settling.drop_piece.Goals as goal
 

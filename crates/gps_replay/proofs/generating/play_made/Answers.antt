@@ -1,6 +1,6 @@
 use Rattle.std.proofs.Common.{◌≡◌, [], length, Some, rules}
-use Rattle.command_outcome.specs.Calls.{sink_call}
-use Rattle.command_outcome.specs.Outcomes.{HasCause}
+use Rattle.gps_outside.specs.Calls.{sink_call}
+use Rattle.gps_outside.specs.Outcomes.{HasCause}
 use Rattle.line_player.specs.Played.{HasPlayed}
 use Rattle.gps_replay.specs.Closings.{closing_rules}
 use Rattle.gps_replay.specs.Generated.{default_queue}

@@ -3,7 +3,7 @@ use Rattle.gps_serve.specs.AtEnd.{back_with}
 use Rattle.gps_serve.specs.HandingBack.{EndHasCause, StoppedFor, back_by, book_by, status_by}
 use Rattle.gps_serve.proofs.Causes.{none_counted}
 use Rattle.gps_serve.proofs.Outcome.{end_has_cause, none_left, outcome_range, stop_range, stopped_has_cause}
-use Rattle.world_opening.specs.declared.opening.Stop.TheVariants.{Input, Listen}
+use Rattle.gps_world.specs.declared.opening.Stop.TheVariants.{Input, Listen}
 use Rattle.gps_serve.proofs.daemon_end.hand_back.Goals as goal
 
 pub returns-in-Ok-clause-book : goal.returns-in-Ok-clause-book

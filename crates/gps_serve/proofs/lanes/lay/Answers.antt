@@ -1,6 +1,6 @@
 use Rattle.std.proofs.Common.{rules, ◌∙◌, length, sym, ap, arith}
 use Rattle.gps_serve.proofs.Starting.{edges_more, none_behind, sources_more}
-use Rattle.serve_threads.proofs.Zips.{zip_grown}
+use Rattle.serve_workers.proofs.Zips.{zip_grown}
 use Rattle.gps_serve.proofs.lanes.lay.Goals as goal
 
 pub next_edge-edge-requires-clause-some : goal.next_edge-edge-requires-clause-some

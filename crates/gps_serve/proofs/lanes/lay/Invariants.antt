@@ -2,8 +2,8 @@ use Rattle.std.proofs.Common.{◌≡◌, ◌≤◌, ◌+◌, ◌++◌, length}
 use Rattle.std.specs.List.{AllZip}
 use Rattle.std.specs.Vec.{vec_len, vec_capacity}
 use Rattle.std.specs.Vec.Iter.{into_iter_items}
-use Rattle.world_opening.specs.Opening.{AreUnread, sources_in}
-use Rattle.serve_end_settling.specs.Runs.{source_facts}
+use Rattle.gps_world.specs.OpenInOrder.{AreUnread, sources_in}
+use Rattle.serve_end.specs.Runs.{source_facts}
 use Rattle.gps_serve.specs.Starts.{IsFreshDevice, edges_at, sources_at}
 use Rattle.gps_serve.proofs.lanes.lay.Given as goal
 

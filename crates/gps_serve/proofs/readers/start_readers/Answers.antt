@@ -1,4 +1,4 @@
-use Rattle.serve_pieces.specs.Carried.{device_part}
+use Rattle.gps_lane.specs.Carried.{device_part}
 use Rattle.serve_workers.specs.Readings.{IsDevicePiece}
 use Rattle.serve_workers.proofs.Sourcing.{from_new}
 use Rattle.gps_serve.proofs.readers.start_readers.Goals as goal

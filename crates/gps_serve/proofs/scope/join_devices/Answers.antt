@@ -1,8 +1,8 @@
 use Rattle.std.proofs.Common.{◌≡◌, length, sym, ◌∙◌, ap, subst, arith}
-use Rattle.serve_end_settling.specs.Runs.{EachRun, RunCause}
-use Rattle.serve_end_settling.proofs.Causes.{each_run_more}
+use Rattle.serve_end.specs.Runs.{EachRun, RunCause}
+use Rattle.serve_end.proofs.Causes.{each_run_more}
 use Rattle.std.specs.Vec.Iter.{into_iter_items}
-use Rattle.serve_threads.proofs.Zips.{ran_begin, ran_end, ran_next}
+use Rattle.serve_workers.proofs.Zips.{ran_begin, ran_end, ran_next}
 use Rattle.gps_serve.proofs.Stamps.{none_used, used_end, used_next}
 use Rattle.stamp_shares.specs.Shares.{Roll}
 use Rattle.gps_serve.proofs.scope.join_devices.Goals as goal

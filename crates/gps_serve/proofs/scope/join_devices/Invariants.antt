@@ -1,9 +1,9 @@
 use Rattle.std.proofs.Common.{◌≡◌, ◌≤◌, ◌+◌, length}
 use Rattle.std.specs.Vec.{vec_len, vec_capacity}
 use Rattle.std.specs.Vec.Iter.{into_iter_items}
-use Rattle.serve_threads.specs.Joining.{RanSoFar}
+use Rattle.serve_workers.specs.Joining.{RanSoFar}
 use Rattle.gps_serve.specs.Dealt.{UsedSoFar}
-use Rattle.serve_end_settling.specs.Runs.{EachRun, RunCause, source_facts}
+use Rattle.serve_end.specs.Runs.{EachRun, RunCause, source_facts}
 use Rattle.gps_serve.specs.Works.{JoinsDevice}
 use Rattle.gps_serve.proofs.scope.join_devices.Given as goal
 

@@ -1,6 +1,6 @@
 use Rattle.std.proofs.Common.{◌≡◌, length, refl, sym, ap, subst, ◌∙◌, arith}
 use Rattle.std.specs.Vec.Iter.{into_iter_items}
-use Rattle.serve_threads.proofs.Zips.{ran_begin, ran_end, ran_next}
+use Rattle.serve_workers.proofs.Zips.{ran_begin, ran_end, ran_next}
 use Rattle.gps_serve.proofs.Stamps.{count_next, none_counted, none_numbered, numbered_next}
 use Rattle.stamp_shares.specs.Shares.{Roll}
 use Rattle.std.proofs.lemmas.List.Elements.{All-head, All-tail}

@@ -2,7 +2,7 @@ use Rattle.std.proofs.Common.{◌≡◌, ◌≤◌, inl, inr, Bool, true, not, �
 use Rattle.std.specs.List.{All, list_all, list_any}
 use Rattle.hub_promise.specs.Given.{is_end}
 use Rattle.hub_promise.specs.Keeping.{IsClosed}
-use Rattle.serve_end_settling.specs.Runs.{source_facts}
+use Rattle.serve_end.specs.Runs.{source_facts}
 use Rattle.gps_serve.specs.AtEnd.{ShowsOutOfMemory, back_with}
 use Rattle.gps_serve.specs.Facts.{sink_facts, world_facts}
 use Rattle.gps_serve.specs.Lost.{IsNotLostOutOfMemory, lost_out_of_memory}

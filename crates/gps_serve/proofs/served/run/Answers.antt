@@ -2,7 +2,7 @@ use Rattle.std.proofs.Common.{◌≡◌, Some, ap, refl, sym, subst, arith}
 use Rattle.std.specs.List.{AllZip}
 use Rattle.std.specs.Vec.{vec_len}
 use Rattle.hub_promise.specs.Parts.{Terms}
-use Rattle.serve_end_settling.specs.Runs.{source_facts}
+use Rattle.serve_end.specs.Runs.{source_facts}
 use Rattle.gps_serve.specs.AtEnd.{AtEnd, settings_of, start_with}
 use Rattle.gps_serve.specs.HandingBack.{back_of}
 use Rattle.gps_serve.specs.Facts.{world_facts}

@@ -1,6 +1,6 @@
 use Rattle.std.proofs.Common.{◌++◌, ◌∙◌, Ok, Err, Some, inl, inr, ap, is_some, map, arith, refl, subst, sym, ℕ, List}
-use Rattle.world_opening.specs.Opening.{behind_once, places_in}
-use Rattle.serve_end_settling.specs.Runs.{source_facts}
+use Rattle.gps_world.specs.OpenInOrder.{behind_once, places_in}
+use Rattle.serve_end.specs.Runs.{source_facts}
 use Rattle.gps_serve.specs.AtEnd.{AtEnd, handed_back, settings_in, start_in}
 use Rattle.gps_serve.specs.Facts.{gate_facts, world_facts}
 use Rattle.gps_serve.specs.HandingBack.{back_of}

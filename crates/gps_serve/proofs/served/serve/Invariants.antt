@@ -1,5 +1,5 @@
 use Rattle.hub_promise.specs.Parts.{terms_of}
-use Rattle.world_opening.specs.Opening.{dial_of}
+use Rattle.gps_world.specs.OpenInOrder.{dial_of}
 use Rattle.gps_serve.proofs.served.serve.Given as goal
 
 abbrev pub ghosts-run-J-Ledger : goal.ghosts-run-J-Ledger

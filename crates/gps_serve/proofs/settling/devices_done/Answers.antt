@@ -1,11 +1,11 @@
 use Rattle.std.proofs.Common.{◌≡◌, true, false, length, sym, ◌∙◌, ap, subst, arith}
-use Rattle.serve_end_settling.specs.Failing.{DeviceFailed}
-use Rattle.serve_end_settling.specs.Runs.{EachRun, RunCause}
+use Rattle.serve_end.specs.Failing.{DeviceFailed}
+use Rattle.serve_end.specs.Runs.{EachRun, RunCause}
 use Rattle.gps_serve.proofs.Causes.{failed_more}
 use Rattle.gps_serve.proofs.Devices.{devices_all, devices_begin, devices_more, ends_all, ends_begin, ends_more, lanes_left, next_device}
 use Rattle.gps_serve.proofs.First.{missed_begin, missed_more, untold_begin, untold_more}
 use Rattle.gps_serve.specs.Runs.{IsLeftOf}
-use Rattle.serve_threads.proofs.Zips.{ran_begin, ran_end, ran_next}
+use Rattle.serve_workers.proofs.Zips.{ran_begin, ran_end, ran_next}
 use Rattle.gps_serve.proofs.settling.devices_done.Goals as goal
 
 pub devices-init : goal.devices-init

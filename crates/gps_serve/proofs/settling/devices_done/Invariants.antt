@@ -1,10 +1,10 @@
 use Rattle.std.proofs.Common.{◌≡◌, ◌≤◌, ◌+◌, true, false, ◌++◌, length, map}
 use Rattle.std.specs.Vec.{vec_len, vec_capacity}
 use Rattle.std.specs.Vec.Iter.{into_iter_items}
-use Rattle.serve_end_parts.specs.declared.done.DeviceDone.{DeviceDone}
-use Rattle.serve_end_settling.specs.Failing.{DeviceFailed, AnyOf}
-use Rattle.serve_end_settling.specs.Runs.{EachRun, RunCause, source_facts}
-use Rattle.serve_threads.specs.Joining.{RanSoFar}
+use Rattle.serve_end.specs.declared.done.DeviceDone.{DeviceDone}
+use Rattle.serve_end.specs.Failing.{DeviceFailed, AnyOf}
+use Rattle.serve_end.specs.Runs.{EachRun, RunCause, source_facts}
+use Rattle.serve_workers.specs.Joining.{RanSoFar}
 use Rattle.gps_serve.specs.Runs.{DevicesSoFar, IsLeftOf}
 use Rattle.gps_serve.specs.Statuses.{TellsNoFault}
 use Rattle.gps_serve.proofs.settling.devices_done.Given as goal

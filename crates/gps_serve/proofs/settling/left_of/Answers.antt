@@ -1,7 +1,7 @@
 use Rattle.std.proofs.Common.{subst}
 use Rattle.hub_promise.specs.Parts.{InletsView}
-use Rattle.serve_end_settling.specs.Lanes.{Settles, SettlesSome, tx_of}
-use Rattle.serve_end_settling.specs.Runs.{source_facts}
+use Rattle.serve_end.specs.Lanes.{Settles, SettlesSome, tx_of}
+use Rattle.serve_end.specs.Runs.{source_facts}
 use Rattle.gps_serve.proofs.Devices.{device_served}
 use Rattle.gps_serve.proofs.First.{none_failed, tells_none}
 use Rattle.gps_serve.proofs.settling.left_of.Goals as goal

@@ -1,10 +1,10 @@
 use Rattle.std.proofs.Common.{refl, ◌∙◌, length, map, sym, ap, subst, arith}
 use Rattle.std.specs.List.{AllZip}
 use Rattle.report_book.specs.BookView.{BookView}
-use Rattle.serve_end_parts.specs.declared.done.MonitorDone.{MonitorDone}
+use Rattle.serve_end.specs.declared.done.MonitorDone.{MonitorDone}
 use Rattle.gps_serve.specs.Served.{MonitorServed, monitored}
 use Rattle.gps_serve.specs.Readies.{IsLeftOfWatch}
-use Rattle.serve_threads.proofs.Zips.{ran_begin, ran_end, ran_next}
+use Rattle.serve_workers.proofs.Zips.{ran_begin, ran_end, ran_next}
 use Rattle.gps_serve.proofs.Monitors.{few_monitors, monitors_all, monitors_begin, monitors_count, next_monitor, next_served, none_left, numbers_all, numbers_more, same_book, some_left}
 use Rattle.gps_serve.proofs.settling.monitors_done.Goals as goal
 

@@ -2,9 +2,9 @@ use Rattle.std.proofs.Common.{◌≡◌, ◌≤◌, ◌+◌, length, map}
 use Rattle.std.specs.List.{range_with_len}
 use Rattle.std.specs.Vec.{vec_len, vec_capacity}
 use Rattle.std.specs.Vec.Iter.{into_iter_items}
-use Rattle.serve_end_parts.specs.declared.done.MonitorDone.{MonitorDone}
+use Rattle.serve_end.specs.declared.done.MonitorDone.{MonitorDone}
 use Rattle.gps_serve.specs.Served.{monitored}
-use Rattle.serve_threads.specs.Joining.{RanSoFar}
+use Rattle.serve_workers.specs.Joining.{RanSoFar}
 use Rattle.gps_serve.specs.Readies.{IsLeftOfWatch, MonitorsSoFar}
 use Rattle.gps_serve.proofs.settling.monitors_done.Given as goal
 

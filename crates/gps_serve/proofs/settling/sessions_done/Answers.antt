@@ -1,10 +1,10 @@
 use Rattle.std.proofs.Common.{◌∙◌, length, refl, sym, ap, subst, arith}
 use Rattle.report_book.specs.BookView.{BookView}
-use Rattle.serve_end_settling.specs.Runs.{source_facts}
+use Rattle.serve_end.specs.Runs.{source_facts}
 use Rattle.gps_serve.specs.Facts.{sink_facts}
 use Rattle.gps_serve.specs.Readies.{AllServed, IsLeftOfLink}
 use Rattle.gps_serve.proofs.Sessions.{is_next, next_session, none_left, same_book, sessions_all, sessions_begin, sessions_more, some_left}
-use Rattle.serve_threads.proofs.Zips.{ran_begin, ran_end, ran_next}
+use Rattle.serve_workers.proofs.Zips.{ran_begin, ran_end, ran_next}
 use Rattle.gps_serve.proofs.settling.sessions_done.Goals as goal
 
 pub sessions-init : goal.sessions-init

@@ -2,9 +2,9 @@ use Rattle.std.proofs.Common.{◌≡◌, ◌≤◌, ◌+◌, length}
 use Rattle.std.specs.Vec.{vec_len, vec_capacity}
 use Rattle.std.specs.Vec.Iter.{into_iter_items}
 use Rattle.gps_serve.specs.Facts.{sink_facts}
-use Rattle.serve_threads.specs.Joining.{RanSoFar}
+use Rattle.serve_workers.specs.Joining.{RanSoFar}
 use Rattle.gps_serve.specs.Readies.{IsLeftOfLink, SessionsSoFar}
-use Rattle.serve_end_settling.specs.Runs.{source_facts}
+use Rattle.serve_end.specs.Runs.{source_facts}
 use Rattle.gps_serve.proofs.settling.sessions_done.Given as goal
 
 abbrev pub invariant-sessions : goal.invariant-sessions

@@ -1,4 +1,4 @@
-use Rattle.serve_end_settling.specs.Runs.{source_facts}
+use Rattle.serve_end.specs.Runs.{source_facts}
 use Rattle.gps_serve.specs.Facts.{sink_facts}
 use Rattle.gps_serve.proofs.Sessions.{input_lane_at, input_served_at}
 use Rattle.gps_serve.proofs.settling.settled.Goals as goal

@@ -1,5 +1,5 @@
 use Rattle.std.proofs.Common.{◌≡◌, true, false, length}
-use Rattle.serve_end_settling.specs.Failing.{AnyOf}
+use Rattle.serve_end.specs.Failing.{AnyOf}
 use Rattle.gps_serve.specs.Lost.{WasClosedOutOfMemory}
 use Rattle.gps_serve.proofs.Lost.{NoneClosedOutOfMemory}
 use Rattle.gps_serve.proofs.status.book_out_of_memory.Given as goal

@@ -2,7 +2,7 @@ use Rattle.std.proofs.Common.{inr, ap}
 use Rattle.std.specs.Prelude.{Err}
 use Rattle.gps_words.specs.Serve.{shown}
 use Rattle.report_book.specs.BookView.{BookView}
-use Rattle.serve_end_settling.specs.Runs.{source_facts}
+use Rattle.serve_end.specs.Runs.{source_facts}
 use Rattle.gps_serve.specs.AtEnd.{AtEnd, DaemonSettings, handed_back, settings_in, start_in}
 use Rattle.gps_serve.specs.Facts.{world_facts}
 use Rattle.gpsrelay.specs.Served.{AsksWhole, HaveEdges, HeldBehind}

@@ -1,4 +1,4 @@
-use Rattle.serve_pieces.specs.Held.{of_source}
+use Rattle.gps_lane.specs.Held.{of_source}
 use Rattle.serve_door.proofs.places.input_lane.Given as goal
 
 abbrev pub ghosts-lane_of : goal.ghosts-lane_of

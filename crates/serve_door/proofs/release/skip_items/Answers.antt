@@ -1,5 +1,5 @@
 use Rattle.std.proofs.Common.{refl, ◌∙◌, ap, subst}
-use Rattle.serve_threads.specs.Writers.{WriterView}
+use Rattle.serve_workers.specs.Writers.{WriterView}
 use Rattle.serve_door.specs.Released.{WritesOn}
 use Rattle.serve_door.proofs.Released.{skipped_on}
 use Rattle.serve_door.proofs.release.skip_items.Goals as goal

@@ -1,6 +1,6 @@
 use Rattle.std.proofs.Common.{subst}
 use Rattle.serve_workers.proofs.GoingOn.{may_send_item, sent_item}
-use Rattle.serve_threads.specs.Writers.{WriterView}
+use Rattle.serve_workers.specs.Writers.{WriterView}
 use Rattle.serve_door.specs.Released.{WritesOn}
 use Rattle.serve_door.proofs.Released.{one_on}
 use Rattle.serve_door.proofs.release.write_next.Goals as goal

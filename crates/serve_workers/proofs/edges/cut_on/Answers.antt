@@ -1,6 +1,6 @@
 use Rattle.std.proofs.Common.{◌∙◌, ap, arith}
 use Rattle.gps_lane.specs.Ends.{Putting}
-use Rattle.serve_pieces.specs.declared.piece.Piece.{Piece}
+use Rattle.gps_lane.specs.declared.piece.Piece.{Piece}
 use Rattle.serve_workers.specs.declared.readers.ReaderStep.TheVariants.{On, Over, Closed}
 use Rattle.serve_workers.proofs.LineStepping.{line_rounds_on}
 use Rattle.serve_workers.proofs.edges.cut_on.Goals as goal

@@ -1,6 +1,6 @@
 use Rattle.std.proofs.Common.{◌≡◌, ◌≤◌, []}
 use Rattle.serve_workers.specs.declared.readers.ReaderStep.TheVariants.{On}
-use Rattle.serve_pieces.specs.EdgeLines.{edge_limit}
+use Rattle.gps_lane.specs.EdgeLines.{edge_limit}
 use Rattle.serve_workers.specs.EdgeLines.{EdgeLineSteps}
 use Rattle.serve_workers.specs.Sourced.{CutterFrom}
 use Rattle.serve_workers.proofs.edges.cut_on.Given as goal

@@ -1,5 +1,5 @@
 use Rattle.serve_workers.specs.declared.readers.ReaderStep.TheVariants.{On, Over, Closed}
-use Rattle.serve_pieces.specs.declared.piece.Ending.TheVariants.{End, Failed}
+use Rattle.gps_lane.specs.declared.piece.Ending.TheVariants.{End, Failed}
 use Rattle.serve_workers.specs.declared.edges.Put.TheVariants as was
 use Rattle.serve_workers.proofs.LineStepping.{got_round, no_lines, quiet_took, stop_took, end_took, fault_took}
 use Rattle.serve_workers.proofs.LineSourcing.{cutter_before, cutter_ends, cutter_on, cutter_stays}

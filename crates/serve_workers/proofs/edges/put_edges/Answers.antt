@@ -1,5 +1,5 @@
 use Rattle.std.proofs.Common.{Some, refl}
-use Rattle.serve_pieces.specs.declared.piece.Ending.TheVariants.{NoMemory}
+use Rattle.gps_lane.specs.declared.piece.Ending.TheVariants.{NoMemory}
 use Rattle.serve_workers.proofs.LineStepping.{handed_lines_by, lines_refused}
 use Rattle.serve_workers.proofs.Stepping.{meets}
 use Rattle.serve_workers.proofs.edges.put_edges.Goals as goal

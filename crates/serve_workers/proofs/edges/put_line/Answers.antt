@@ -1,7 +1,7 @@
 use Rattle.std.proofs.Common.{sym, subst, [], ◌∷◌, ◌++◌}
 use Rattle.gps_lane.specs.Lane.{Begins}
-use Rattle.serve_pieces.specs.declared.piece.Piece.{Piece}
-use Rattle.serve_pieces.specs.Held.{AreDue, AreHeld}
+use Rattle.gps_lane.specs.declared.piece.Piece.{Piece}
+use Rattle.gps_lane.specs.Held.{AreDue, AreHeld}
 use Rattle.serve_workers.proofs.edges.put_line.Goals as goal
 
 pub put-requires-clause-due : goal.put-requires-clause-due

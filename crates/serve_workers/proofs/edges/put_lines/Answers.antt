@@ -1,6 +1,6 @@
 use Rattle.std.proofs.Common.{refl, ◌∙◌, ap}
 use Rattle.gps_lane.specs.Ends.{Putting}
-use Rattle.serve_pieces.specs.declared.piece.Piece.{Piece}
+use Rattle.gps_lane.specs.declared.piece.Piece.{Piece}
 use Rattle.line_cut.specs.Lines.{text_of}
 use Rattle.serve_workers.proofs.Cutting.{begun, line_put, passed_over, all_put, first_put, first_put_closed, steps_as}
 use Rattle.serve_workers.proofs.LineSourcing.{line_begins, line_short}

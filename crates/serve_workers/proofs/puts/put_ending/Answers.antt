@@ -1,4 +1,4 @@
-use Rattle.serve_pieces.proofs.Held.{last_begins}
+use Rattle.gps_lane.proofs.Held.{last_begins}
 use Rattle.serve_workers.proofs.puts.put_ending.Goals as goal
 
 pub put-requires-clause-due : goal.put-requires-clause-due

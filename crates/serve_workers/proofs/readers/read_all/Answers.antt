@@ -1,6 +1,6 @@
 use Rattle.std.proofs.Common.{ap}
 use Rattle.gps_lane.specs.Ends.{Putting}
-use Rattle.serve_pieces.specs.declared.piece.Piece.{Piece}
+use Rattle.gps_lane.specs.declared.piece.Piece.{Piece}
 use Rattle.serve_workers.proofs.Stamping.{stamped_last}
 use Rattle.serve_workers.proofs.Stepping.{handed_by, meets}
 use Rattle.serve_workers.proofs.readers.read_all.Goals as goal

@@ -1,5 +1,5 @@
 use Rattle.std.proofs.Common.{Some}
-use Rattle.serve_pieces.specs.declared.piece.Ending.TheVariants.{NoMemory}
+use Rattle.gps_lane.specs.declared.piece.Ending.TheVariants.{NoMemory}
 use Rattle.serve_workers.proofs.Stepping.{meets, refused}
 use Rattle.serve_workers.proofs.readers.refuse.Goals as goal
 

@@ -3,7 +3,7 @@ use Rattle.gps_lane.specs.Ends.{Putting, Taking}
 use Rattle.hub_door.specs.Admissions.{Admissions, admitting, link_of}
 use Rattle.report_book.specs.BookView.{BookView}
 use Rattle.report_book.specs.Refusals.{crowd_fault}
-use Rattle.serve_pieces.specs.declared.piece.Piece.{Piece}
+use Rattle.gps_lane.specs.declared.piece.Piece.{Piece}
 use Rattle.hub_promise.specs.Keeping.{HubKeeps}
 use Rattle.hub_promise.specs.Parts.{HubView}
 use Rattle.gps_hub.specs.Admitting.{AdmitsAs, IsCrowded, RefusesLink}

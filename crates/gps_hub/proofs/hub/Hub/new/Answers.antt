@@ -1,7 +1,7 @@
 use Rattle.std.proofs.Common.{◌≡◌, List, Option, None, [], false, replicate, length, map, sym, ap, ◌∙◌, subst, rules}
 use Rattle.gps_lane.specs.Ends.{Taking}
 use Rattle.hub_door.specs.Admissions.{Admissions}
-use Rattle.serve_pieces.specs.declared.piece.Piece.{Piece}
+use Rattle.gps_lane.specs.declared.piece.Piece.{Piece}
 use Rattle.hub_promise.specs.declared.ends.DeviceEnd.{DeviceEnd}
 use Rattle.hub_promise.specs.Keeping.{HubKeeps, Lasts}
 use Rattle.hub_promise.proofs.Calls.{hub_new}

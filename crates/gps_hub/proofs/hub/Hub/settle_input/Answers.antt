@@ -1,7 +1,7 @@
 use Rattle.std.proofs.Common.{set, refl, sym, ap, ◌∙◌, subst, arith}
 use Rattle.gps_lane.specs.Ends.{Taking}
 use Rattle.hub_door.specs.Admissions.{Admissions}
-use Rattle.serve_pieces.specs.declared.piece.Piece.{Piece}
+use Rattle.gps_lane.specs.declared.piece.Piece.{Piece}
 use Rattle.hub_promise.specs.Keeping.{HubKeeps}
 use Rattle.hub_promise.specs.Parts.{AreAdmitted, HubView}
 use Rattle.hub_promise.proofs.Settling.{closed_one, hub_settled, input_named, input_there, session_there}

@@ -1,6 +1,6 @@
 use Rattle.std.proofs.Common.{◌∙◌, ◌≡◌, inl, inr, true, false, List, subst, sym}
 use Rattle.std.specs.List.{list_all, list_any}
-use Rattle.serve_threads.specs.declared.monitors.ReadingsDone.{ReadingsDone}
+use Rattle.serve_workers.specs.declared.monitors.ReadingsDone.{ReadingsDone}
 use Rattle.gps_serve.specs.Lost.{link_out_of_memory, run_out_of_memory}
 use Rattle.gps_serve.specs.Statuses.{EachWhole}
 use Rattle.gps_serve.proofs.Lost.{none_of_threads, some_of_threads}

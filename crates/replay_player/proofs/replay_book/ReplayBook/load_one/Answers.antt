@@ -1,7 +1,7 @@
 use Rattle.std.proofs.Common.{◌≡◌, ◌<◌, ℕ, length, set, sym, subst, get_or, slice_get, Some, OnOk}
 use Rattle.book_units.specs.Units.{UnitView}
-use Rattle.replay_monitors.specs.Loads.{step_of}
-use Rattle.replay_monitors.specs.UnitMonitorView.{UnitMonitorView, IsOf, after_load, words_beside}
+use Rattle.replay_player.specs.Loads.{step_of}
+use Rattle.replay_player.specs.UnitMonitorView.{UnitMonitorView, IsOf, after_load, words_beside}
 use Rattle.replay_player.specs.Playing.{LoadsOne, BookStandsFor, ReplayBookView}
 use Rattle.replay_player.specs.States.{State, MonitorState}
 use Rattle.replay_player.proofs.Loading.{count_kept, loaded_act}

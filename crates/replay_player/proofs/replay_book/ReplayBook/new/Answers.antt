@@ -1,5 +1,5 @@
 use Rattle.std.proofs.Common.{◌≤◌, length, subst, sym, arith, rules, List}
-use Rattle.replay_monitors.specs.UnitMonitorView.{UnitMonitorView}
+use Rattle.replay_player.specs.UnitMonitorView.{UnitMonitorView}
 use Rattle.replay_player.specs.Playing.{Opens}
 use Rattle.replay_player.proofs.Opening.{stage_opens}
 use Rattle.replay_player.proofs.replay_book.ReplayBook.new.Goals as goal

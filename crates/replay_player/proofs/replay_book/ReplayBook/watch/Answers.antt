@@ -1,5 +1,5 @@
 use Rattle.std.proofs.Common.{◌≡◌, ◌*◌, ◌&&◌, true, false, nat_eq, nat_lt, length, rules, sym, subst, List, [], Ok}
-use Rattle.replay_monitors.specs.UnitMonitorView.{UnitMonitorView}
+use Rattle.replay_player.specs.UnitMonitorView.{UnitMonitorView}
 use Rattle.replay_player.specs.declared.event_step.EventStep.TheVariants.{Made}
 use Rattle.replay_player.specs.Effects.{most_watches, watches}
 use Rattle.replay_player.specs.Playing.{Acts, BookStandsFor, ReplayBookView}

@@ -1,5 +1,5 @@
 use Rattle.std.proofs.Common.{rules, ◌≡◌, []}
-use Rattle.serve_threads.specs.Sessions.{SessionRuns}
+use Rattle.serve_workers.specs.Sessions.{SessionRuns}
 use Rattle.serve_door.proofs.Released.{tells_once}
 use Rattle.serve_door.proofs.attended.Attended.let_go.Goals as goal
 

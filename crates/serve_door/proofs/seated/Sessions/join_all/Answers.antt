@@ -1,6 +1,6 @@
 use Rattle.std.proofs.Common.{◌∙◌, length, sym, ap, arith}
 use Rattle.serve_door.specs.Doors.{link_at, links_at}
-use Rattle.serve_threads.proofs.Zips.{ran_begin, ran_each, ran_next}
+use Rattle.serve_workers.proofs.Zips.{ran_begin, ran_each, ran_next}
 use Rattle.serve_door.proofs.seated.Sessions.join_all.Goals as goal
 
 pub sessions-init : goal.sessions-init

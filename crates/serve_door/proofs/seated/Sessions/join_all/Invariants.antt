@@ -1,9 +1,9 @@
 use Rattle.std.proofs.Common.{◌≡◌, ◌≤◌, ◌+◌, length}
 use Rattle.std.specs.Vec.{vec_len, vec_capacity}
 use Rattle.std.specs.Vec.Iter.{into_iter_items}
-use Rattle.serve_threads.specs.Joining.{RanSoFar}
+use Rattle.serve_workers.specs.Joining.{RanSoFar}
 use Rattle.serve_door.specs.Doors.{links_at}
-use Rattle.serve_threads.specs.Sessions.{SessionRuns}
+use Rattle.serve_workers.specs.Sessions.{SessionRuns}
 use Rattle.serve_door.proofs.seated.Sessions.join_all.Given as goal
 
 abbrev pub invariant-sessions : goal.invariant-sessions

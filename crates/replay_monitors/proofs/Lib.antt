@@ -1,4 +1,0 @@
-pub mod Readings
-pub mod Known
-pub mod Stored
-pub mod Books

@@ -1,4 +1,0 @@
-pub mod Loads
-pub mod UnitMonitorView
-pub mod Stored
-pub mod Books

@@ -1,0 +1,5 @@
+pub mod Texts
+pub mod Causes
+pub mod Emptying
+pub mod Endings
+pub mod Published

@@ -1,4 +1,0 @@
-pub mod Causes
-pub mod Emptying
-pub mod Endings
-pub mod Published

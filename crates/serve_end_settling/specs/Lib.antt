@@ -1,5 +1,0 @@
-pub mod Failing
-pub mod Lanes
-pub mod Outlets
-pub mod Runs
-pub mod Units

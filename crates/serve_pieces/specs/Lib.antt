@@ -1,4 +1,0 @@
-pub mod Sizes
-pub mod Carried
-pub mod EdgeLines
-pub mod Held

@@ -1,6 +1,0 @@
-pub mod Joining
-pub mod Monitors
-pub mod Reading
-pub mod Segments
-pub mod Sessions
-pub mod Writers

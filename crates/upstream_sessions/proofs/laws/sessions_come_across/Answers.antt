@@ -1,5 +1,0 @@
-use Rattle.upstream_sessions.proofs.Crossing.{sessions_alike, sessions_begin_alike, sessions_cross, taken_cross}
-use Rattle.upstream_sessions.proofs.laws.sessions_come_across.Goals as goal
-
-pub returns : goal.returns
-returns c = record { packets = sessions_cross; taken = taken_cross; reports = sessions_alike; first_reports = sessions_begin_alike }

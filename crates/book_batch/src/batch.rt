@@ -106,13 +106,6 @@ impl Batch {
         self.reports.as_slice()
     }
 
-    /// How many rows are left.
-    pub fn shares(&self) -> usize
-        ensures { result ≡ shares_of self.now }
-    {
-        self.rows.len()
-    }
-
     /// Takes one row, for one session. Takes no memory.
     pub fn take_row(&mut self) -> Row
         requires { 0 < shares_of self.old }

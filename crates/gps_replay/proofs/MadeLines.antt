@@ -11,9 +11,9 @@ use Rattle.std.proofs.lemmas.Bool.Decides.{nat_tests}
 use Rattle.gps_report.specs.declared.edge.Edge.{Edge as PulseEdge}
 use Rattle.gps_report.specs.declared.edge.EdgeKind.TheVariants.{Assert}
 use Rattle.pps_edges.specs.EdgeLine.{AreParts, IsNumber, Parts, edge_from, is_digit, spelling}
-use Rattle.pps_edges.specs.Scan.{begins, capture_in, edge_in, is_not, nine_in as nine_at, number_in as number_at, past_first, up_to_first}
+use Rattle.pps_edges.specs.Scan.{begins, capture_in, edge_in, is_not, nine_in, number_in, past_first, up_to_first}
 use Rattle.replay_script.specs.declared.event.ScriptEvent.TheVariants.{Edge, Feed}
-use Rattle.replay_script.specs.Words.{HasNone, halves, nine_in, number_in, numbered, stamp_in, stamp_of, stamped, text_in}
+use Rattle.replay_script.specs.Words.{HasNone, halves, numbered, stamp_in, stamp_of, stamped, text_in}
 use Rattle.replay_script.specs.Events.{bytes_event, edge_at, event_in, feed_in, number_event}
 
 -- what comes before the first such byte, and what follows it
@@ -66,7 +66,7 @@ read_number text is =
     let some : nat_lt 0 (length text) ≡ true = let h = is.some in grind (arith, nat_tests) in
     let few : nat_le (length text) 10 ≡ true = let h = is.few in grind (arith, nat_tests) in
     let t : (nat_lt 0 (length text) && nat_le (length text) 10 && list_all is_digit text) ≡ true = and_from _ _ (and_from _ _ some few) is.digits in
-    ap (λ b. if b then Some (digits_value 10 text) else None) t
+    ap (λ b. cond b (Some (digits_value 10 text)) None) t
 
 read_numbered : (text rest : List ℕ) → IsNumber 10 text → numbered (text ++ 32 ∷ rest) ≡ Some (digits_value 10 text, rest)
 unfolding numbered
@@ -125,14 +125,6 @@ past_run : (mark : ℕ) (xs rest : List ℕ) → mark < 48 → list_all is_digit
 unfolding past_first
 past_run mark xs rest low all = rw (run mark xs rest low all) (ap (λ t. drop 1 t) (drop-append_seam xs (mark ∷ rest)))
 
-number_read : (text : List ℕ) → IsNumber 10 text → number_at text ≡ Some (digits_value 10 text)
-unfolding number_at
-number_read text is =
-    let some : nat_lt 0 (length text) ≡ true = let h = is.some in grind (arith, nat_tests) in
-    let few : nat_le (length text) 10 ≡ true = let h = is.few in grind (arith, nat_tests) in
-    let t : (nat_lt 0 (length text) && nat_le (length text) 10 && list_all is_digit text) ≡ true = and_from _ _ (and_from _ _ some few) is.digits in
-    ap (λ b. cond b (Some (digits_value 10 text)) None) t
-
 -- a whole second
 abbrev pub nought : List ℕ
 nought = codes "000000000"
@@ -142,7 +134,7 @@ pulse_of second number = record { kind = Assert; seconds = second; nanoseconds =
 
 capture_reads : (second number : List ℕ) → IsNumber 10 second → IsNumber 10 number → digits_value 10 number ≤ 4_294_967_295
     → capture_in Assert (second ++ 46 ∷ (nought ++ 35 ∷ number)) ≡ Some (edge_from (pulse_of second number))
-unfolding capture_in nine_at
+unfolding capture_in nine_in
 capture_reads second number at is fits =
     let back : List ℕ = nought ++ 35 ∷ number in
     let a : up_to_first 46 (second ++ 46 ∷ back) ≡ second = up_to_run 46 second back (lit< tt) at.digits in
@@ -150,7 +142,7 @@ capture_reads second number at is fits =
     let c : up_to_first 35 back ≡ nought = up_to_run 35 nought number (lit< tt) refl in
     let d : past_first 35 back ≡ number = past_run 35 nought number (lit< tt) refl in
     let n : nat_le (digits_value 10 number) 4_294_967_295 ≡ true = grind (arith, nat_tests) in
-    simp (a, b, c, d, number_read second at, number_read number is)
+    simp (a, b, c, d, read_number second at, read_number number is)
     (ap (λ b. cond b (Some (edge_from (pulse_of second number))) None) n)
 
 edge_reads : (second number : List ℕ) → IsNumber 10 second → IsNumber 10 number → digits_value 10 number ≤ 4_294_967_295

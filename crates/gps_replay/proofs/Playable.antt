@@ -13,7 +13,8 @@ use Rattle.pps_edges.specs.EdgeLine.{IsNumber, edge_from}
 use Rattle.line_player.specs.Courses.{whole_course}
 use Rattle.replay_script.specs.declared.event.ScriptEvent.{ScriptEvent}
 use Rattle.replay_script.specs.declared.event.ScriptEvent.TheVariants.{Device, Edge, Feed, Input, Load, Monitor, Open, Store, Take}
-use Rattle.replay_script.specs.Words.{halves, number_and_count, number_between, number_in, numbered, stamp_of, text_in}
+use Rattle.pps_edges.specs.Scan.{number_in}
+use Rattle.replay_script.specs.Words.{halves, number_and_count, number_between, numbered, stamp_of, text_in}
 use Rattle.replay_script.specs.Events.{bytes_event, device_in, event_in, input_in, monitor_in, number_event, open_in}
 use Rattle.replay_player.specs.Effects.{EventEffect, effect}
 use Rattle.replay_player.specs.States.{State}

@@ -17,9 +17,11 @@ up_to_first mark text = take (prefix_len (is_not mark) text) text
 unfoldable pub past_first : ℕ → List ℕ → List ℕ
 past_first mark text = drop 1 (drop (prefix_len (is_not mark) text) text)
 
+-- the number that 1 to 10 digits write
 unfoldable pub number_in : List ℕ → Option ℕ
 number_in text = cond (nat_lt 0 (length text) && nat_le (length text) 10 && list_all is_digit text) (Some (digits_value 10 text)) None
 
+-- the number that nine digits write
 unfoldable pub nine_in : List ℕ → Option ℕ
 nine_in text = cond (nat_eq (length text) 9 && list_all is_digit text) (Some (digits_value 10 text)) None
 

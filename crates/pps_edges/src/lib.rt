@@ -7,5 +7,5 @@
 mod line;
 mod pulses;
 
-pub use line::edge_of_line;
+pub use line::{edge_of_line, nine_digits, whole_number};
 pub use pulses::Pulses;

@@ -26,9 +26,9 @@ fn value(digits: &[u8]) -> u64
     number
 }
 
-/// The number that 1 to 10 digits write.
+/// The number that 1 to 10 decimal digits write; none if the text is anything else.
 #[tactic(auto, using(crate::proofs::Digits::value_below), unfolding(crate::specs::Scan::number_in))]
-fn number(text: &[u8]) -> Option<u64>
+pub fn whole_number(text: &[u8]) -> Option<u64>
     ensures is { result ≡ number_in text.now }
     ensures small { IfSome result (λ n. n < 10 ^ 10) }
 {
@@ -39,9 +39,9 @@ fn number(text: &[u8]) -> Option<u64>
     }
 }
 
-/// The number that nine digits write.
+/// The number that nine decimal digits write, as nanoseconds behind a point are written; none if the text is anything else.
 #[tactic(auto, using(crate::proofs::Digits::value_below), unfolding(crate::specs::Scan::nine_in))]
-fn nine(text: &[u8]) -> Option<u32>
+pub fn nine_digits(text: &[u8]) -> Option<u32>
     ensures is { result ≡ nine_in text.now }
     ensures small { IfSome result (λ n. n < 10 ^ 9) }
 {
@@ -83,9 +83,9 @@ fn capture(kind: EdgeKind, text: &[u8]) -> Option<Edge>
     ensures { result ≡ capture_in kind text.now }
 {
     let rest = past(text, b'.');
-    let sec = number(up_to(text, b'.'));
-    let nsec = nine(up_to(rest, b'#'));
-    let seq = number(past(rest, b'#'));
+    let sec = whole_number(up_to(text, b'.'));
+    let nsec = nine_digits(up_to(rest, b'#'));
+    let seq = whole_number(past(rest, b'#'));
     match (sec, nsec, seq) {
         (Some(sec), Some(nsec), Some(seq)) if seq <= 4_294_967_295 => Some(Edge {
             kind,

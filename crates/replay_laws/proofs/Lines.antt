@@ -9,11 +9,11 @@ use Rattle.gps_report.specs.declared.edge.Edge.{Edge}
 use Rattle.gps_report.specs.declared.edge.EdgeKind.{EdgeKind}
 use Rattle.gps_report.specs.declared.edge.EdgeKind.TheVariants.{Assert, Clear}
 use Rattle.gps_report.specs.Name.{is_name}
-use Rattle.pps_edges.specs.Scan.{begins, capture_in, captured, edge_in, nine_in as edge_nine, number_in as edge_number, past_first, up_to_first}
+use Rattle.pps_edges.specs.Scan.{begins, capture_in, captured, edge_in, nine_in, number_in, past_first, up_to_first}
 use Rattle.replay_script.specs.Events.{bytes_event, device_in, edge_at, event_in, feed_in, input_in, monitor_in, number_event, open_alone, open_in, word_event}
 use Rattle.replay_script.specs.declared.event.ScriptEvent.{ScriptEvent}
 use Rattle.replay_script.specs.declared.event.ScriptEvent.TheVariants.{Nothing, Device, Segment, Feed, Edge as EdgeEvent, End, Lose, Open, Input, Hang, Take, Monitor, Store, Load}
-use Rattle.replay_script.specs.Words.{halves, hex_in, nine_in, number_and_count, number_in, numbered, stamp_in, stamp_of, stamped, text_in}
+use Rattle.replay_script.specs.Words.{halves, hex_in, number_and_count, numbered, stamp_in, stamp_of, stamped, text_in}
 use Rattle.replay_laws.proofs.Stamps.{IsLate}
 
 abbrev pub IsLateEvent : ScriptEvent → Type 0
@@ -76,7 +76,7 @@ captured_is kind (Some sec) (Some nsec) (Some seq) =
 
 capture_is : (kind : EdgeKind) (text : List ℕ) → IfSome (capture_in kind text) LateEdge
 unfolding capture_in
-capture_is kind text = captured_is kind (edge_number (up_to_first 46 text)) (edge_nine (up_to_first 35 (past_first 46 text))) (edge_number (past_first 35 (past_first 46 text)))
+capture_is kind text = captured_is kind (number_in (up_to_first 46 text)) (nine_in (up_to_first 35 (past_first 46 text))) (number_in (past_first 35 (past_first 46 text)))
 
 edge_is : (line : List ℕ) → IfSome (edge_in line) LateEdge
 unfolding edge_in

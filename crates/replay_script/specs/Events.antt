@@ -4,12 +4,12 @@ use Rattle.std.specs.Option.{option_map}
 use Rattle.std.specs.Str.{bytes_eq}
 use Rattle.gps_fixed.specs.Limits.{longest_piece, most_queue}
 use Rattle.gps_report.specs.Name.{is_name}
-use Rattle.pps_edges.specs.Scan.{edge_in}
+use Rattle.pps_edges.specs.Scan.{edge_in, number_in}
 use Rattle.replay_script.specs.declared.event.ScriptEvent.{ScriptEvent}
 use Rattle.replay_script.specs.declared.event.ScriptEvent.TheVariants.{Nothing, Device, Segment, Feed, Edge, End, Lose, Open, Input, Hang, Take, Monitor, Store, Load}
 use Rattle.replay_script.specs.declared.payload.Payload.{Payload}
 use Rattle.replay_script.specs.declared.payload.Payload.TheVariants.{Hex, Sentence, Part, Request}
-use Rattle.replay_script.specs.Words.{halves, number_in, number_and_count, numbered, stamped, bytes_in}
+use Rattle.replay_script.specs.Words.{halves, number_and_count, numbered, stamped, bytes_in}
 
 -- a name
 unfoldable pub device_in : List ℕ → Option ScriptEvent

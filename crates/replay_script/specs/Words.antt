@@ -2,12 +2,11 @@
 use Rattle.std.specs.Prelude.{◌≡◌, ℕ, pos, ◌+◌, Bool, true, not, ◌&&◌, ◌==◌, List, [], ◌∷◌, ◌++◌, length, take, drop, nat_lt, nat_le, position, Option, Some, None, option_and_then, Result, Ok, Err, if◌then◌else◌}
 use Rattle.std.specs.Option.{option_map}
 use Rattle.std.specs.List.{list_all}
-use Rattle.std.specs.Str.Parse.{digits_value}
 use Rattle.hex.specs.Hex.{decode_of}
 use Rattle.hex.specs.declared.error.FromHexError.{FromHexError}
 use Rattle.gps_fixed.specs.Limits.{longest_piece}
 use Rattle.gps_fixed.specs.Moment.{Moment}
-use Rattle.pps_edges.specs.EdgeLine.{is_digit}
+use Rattle.pps_edges.specs.Scan.{number_in, nine_in}
 use Rattle.replay_script.specs.declared.payload.Payload.{Payload}
 use Rattle.replay_script.specs.declared.payload.Payload.TheVariants.{Hex, Sentence, Part, Request}
 
@@ -18,14 +17,6 @@ halves mark text = option_map (λ k. (take k text, drop (k + 1) text)) (position
 -- no such byte is in the text
 abbrev pub HasNone : ℕ → List ℕ → Type 0
 HasNone mark text = list_all (λ c. not (c == mark)) text ≡ true
-
--- the number that 1 to 10 digits write
-unfoldable pub number_in : List ℕ → Option ℕ
-number_in text = if nat_lt 0 (length text) && nat_le (length text) 10 && list_all is_digit text then Some (digits_value 10 text) else None
-
--- the number that nine digits write
-unfoldable pub nine_in : List ℕ → Option ℕ
-nine_in text = if (length text == 9) && list_all is_digit text then Some (digits_value 10 text) else None
 
 abbrev pub between : ℕ → ℕ → ℕ → Option ℕ
 between least most n = if nat_le least n && nat_le n most then Some n else None

@@ -3,10 +3,10 @@ ghost use Rattle.replay_script.specs.Events.{Fits, bytes_event, device_in, edge_
 
 use crate::event::ScriptEvent;
 use crate::payload::{Payload, payload_bytes};
-use crate::words::{halves, number, number_and_count, numbered, stamped};
+use crate::words::{halves, number_and_count, numbered, stamped};
 use gps_fixed::NoMemory;
 use gps_report::{Name, NameFault};
-use pps_edges::edge_of_line;
+use pps_edges::{edge_of_line, whole_number};
 use std::alloc::Global;
 
 #[tactic(auto, unfolding(crate::specs::Events::device_in))]
@@ -67,7 +67,7 @@ fn open(text: &[u8]) -> Option<ScriptEvent>
     ensures is { result ≡ open_in text.now }
     ensures fits { IfSome result Fits }
 {
-    if let Some(session) = number(text) {
+    if let Some(session) = whole_number(text) {
         return Some(ScriptEvent::Open { session, cap: None });
     }
     let (session, cap) = number_and_count(text, 1, 65_536)?;
@@ -83,7 +83,7 @@ fn monitor(text: &[u8]) -> Option<ScriptEvent>
     ensures fits { IfSome result Fits }
 {
     let (monitor, rest) = numbered(text)?;
-    let unit = number(rest)?;
+    let unit = whole_number(rest)?;
     Some(ScriptEvent::Monitor { monitor, unit })
 }
 
@@ -127,13 +127,13 @@ fn number_event(word: &[u8], rest: &[u8]) -> Option<ScriptEvent>
     } else if word == b"edge".as_slice() {
         edge(rest)
     } else if word == b"end".as_slice() {
-        Some(ScriptEvent::End(number(rest)?))
+        Some(ScriptEvent::End(whole_number(rest)?))
     } else if word == b"lose".as_slice() {
-        Some(ScriptEvent::Lose(number(rest)?))
+        Some(ScriptEvent::Lose(whole_number(rest)?))
     } else if word == b"open".as_slice() {
         open(rest)
     } else if word == b"hang".as_slice() {
-        Some(ScriptEvent::Hang(number(rest)?))
+        Some(ScriptEvent::Hang(whole_number(rest)?))
     } else if word == b"take".as_slice() {
         let (session, most) = number_and_count(rest, 1, 65_536)?;
         Some(ScriptEvent::Take { session, most })

@@ -1,55 +1,9 @@
 // Numbers and stamps, and the parts of a line between spaces.
-ghost use Rattle.std.specs.Prelude.{◌≡◌, ◌≤◌, ◌<◌, ◌^◌, ◌==◌, IfSome, length, true, position, option_map};
-ghost use Rattle.std.specs.List.{list_all};
-ghost use Rattle.std.specs.Str.Parse.{digits_value};
-ghost use Rattle.pps_edges.specs.EdgeLine.{is_digit};
-ghost use Rattle.replay_script.specs.Words.{halves, number_and_count, number_in, nine_in, number_between, numbered, stamp_in, stamped};
+ghost use Rattle.std.specs.Prelude.{◌≡◌, ◌≤◌, ◌<◌, ◌==◌, IfSome, length, position, option_map};
+ghost use Rattle.replay_script.specs.Words.{halves, number_and_count, number_between, numbered, stamp_in, stamped};
 
 use gps_fixed::Stamp;
-
-fn are_digits(text: &[u8]) -> bool
-    ensures { result ≡ list_all is_digit text.now }
-{
-    text.iter().all(|byte| (48..=57).contains(byte))
-}
-
-fn value(digits: &[u8]) -> u64
-    requires few { length digits.now ≤ 10 }
-    requires all { list_all is_digit digits.now ≡ true }
-    ensures { result ≡ digits_value 10 digits.now }
-{
-    let mut number = 0u64;
-    for digit in digits {
-        number = 10 * number + u64::from(*digit - b'0');
-    }
-    number
-}
-
-/// The number that 1 to 10 digits write.
-#[tactic(auto, using(pps_edges::proofs::Digits::value_below), unfolding(crate::specs::Words::number_in))]
-pub(crate) fn number(text: &[u8]) -> Option<u64>
-    ensures is { result ≡ number_in text.now }
-    ensures small { IfSome result (λ n. n < 10 ^ 10) }
-{
-    if !text.is_empty() && text.len() <= 10 && are_digits(text) {
-        Some(value(text))
-    } else {
-        None
-    }
-}
-
-/// The number that nine digits write.
-#[tactic(auto, using(pps_edges::proofs::Digits::value_below), unfolding(crate::specs::Words::nine_in))]
-fn nine(text: &[u8]) -> Option<u32>
-    ensures is { result ≡ nine_in text.now }
-    ensures small { IfSome result (λ n. n < 10 ^ 9) }
-{
-    if text.len() == 9 && are_digits(text) {
-        Some(value(text) as u32)
-    } else {
-        None
-    }
-}
+use pps_edges::{nine_digits, whole_number};
 
 /// A number of 1 to 10 digits in this range.
 #[tactic(auto, unfolding(crate::specs::Words::number_between))]
@@ -57,7 +11,7 @@ fn number_between(text: &[u8], least: u32, most: u32) -> Option<u32>
     ensures is { result ≡ number_between least most text.now }
     ensures range { IfSome result (λ n. (least ≤ n) × (n ≤ most)) }
 {
-    let number = number(text)?;
+    let number = whole_number(text)?;
     if u64::from(least) <= number && number <= u64::from(most) {
         Some(number as u32)
     } else {
@@ -89,8 +43,8 @@ fn stamp(text: &[u8]) -> Option<Stamp>
     ensures { result ≡ stamp_in text.now }
 {
     let (seconds, nanoseconds) = halves(text, b'.')?;
-    let seconds = number(seconds)?;
-    let nsec = nine(nanoseconds)?;
+    let seconds = whole_number(seconds)?;
+    let nsec = nine_digits(nanoseconds)?;
     Some(Stamp {
         sec: seconds as i64,
         nsec,
@@ -103,7 +57,7 @@ pub(crate) fn numbered(text: &[u8]) -> Option<(u64, &[u8])>
     ensures { option_map (λ p. (p.0, p.1.now)) result ≡ numbered text.entry.now }
 {
     let (word, rest) = halves(text, b' ')?;
-    let number = number(word)?;
+    let number = whole_number(word)?;
     Some((number, rest))
 }
 

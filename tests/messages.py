@@ -187,9 +187,13 @@ def same_file():
             done = subprocess.run([PROGRAM, "serve", "--listen", "127.0.0.1:0", *words], capture_output=True, timeout=WAIT)
             found = (done.returncode, done.stdout, done.stderr.decode())
             check(f"{text}: refused", (2, b"", f"gpsrelay: {text}\n"), found)
-        missing = f"--stop {place}/missing: no such file; make it first: mkfifo {place}/missing"
-        done = subprocess.run([PROGRAM, "serve", "--stop", f"{place}/missing", f"roof=file:{plain}"], capture_output=True, timeout=WAIT)
-        check("a path of --stop that is missing: refused", (2, b"", f"gpsrelay: {missing}\n"), (done.returncode, done.stdout, done.stderr.decode()))
+        for path, text in [
+            (f"{place}/missing", f"no such file; make it first: mkfifo {place}/missing"),
+            (f"{fifo}/stop", f"there is no folder {fifo}; make it first, and then the file: mkfifo {fifo}/stop"),
+        ]:
+            done = subprocess.run([PROGRAM, "serve", "--listen", "127.0.0.1:0", "--stop", path, f"roof=file:{plain}"], capture_output=True, timeout=WAIT)
+            found = (done.returncode, done.stdout, done.stderr.decode())
+            check(f"--stop {path.removeprefix(place)}: refused", (2, b"", f"gpsrelay: --stop {path}: {text}\n"), found)
         os.close(master)
         os.close(slave)
         ends("a file under two names", started(f"roof=file:{plain}", f"van=file:{plain}"), 0, "has ended")

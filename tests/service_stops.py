@@ -23,8 +23,9 @@ def stop_at_once():
     check("a stop that was there before the start, with --wait: status and lines", (0, b""), (status, out))
     device.close()
     daemon = Watched("--stop", "/nonexistent/stop", (device := TcpDevice()).word)
-    check("a path that is missing: status and lines", (2, b""), daemon.wait())
-    check("a path that is missing: it is said, and nothing is opened", "gpsrelay: --stop /nonexistent/stop: no such file; make it first: mkfifo /nonexistent/stop\n", daemon.said())
+    check("a path whose folder is missing: status and lines", (2, b""), daemon.wait())
+    check("a path whose folder is missing: it is said, and nothing is opened",
+          "gpsrelay: --stop /nonexistent/stop: there is no folder /nonexistent; make it first, and then the file: mkfifo /nonexistent/stop\n", daemon.said())
     device.close()
 
 

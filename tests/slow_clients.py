@@ -5,18 +5,22 @@ waits for them. Every wait is bounded.
 Use: slow_clients.py PROGRAM [NAME..]. Prints a line for each check, and ends with 1 if one fails. NAME picks some of the parts.
 """
 import os
+import re
 import shutil
 import sys
 import tempfile
 import threading
 import time
 
-from harness import VERSION, Daemon, TcpDevice, check, run_parts, second, slowness, until, within
+from harness import VERSION, Daemon, TcpDevice, check, run_parts, second, side_by_side, slowness, until, within
 
 PROGRAM = os.path.abspath(sys.argv[1])
 NOBODY = "61234"  # a user of whom nothing else runs, since a limit of threads counts all threads of a user
 WATCH = b'?WATCH={"json":true};'
 SMALL = 2048
+AWAY = re.compile(r"(a client was|(\d+) clients were) turned away: (.*)")
+FULL = ("at most 64 clients are served at a time, and 80 with those that have still to take what is left",
+        "all 80 places were held, also by clients that have gone or have still to take what is left, or there was no memory or no thread")
 
 
 def fixes(count):
@@ -195,6 +199,77 @@ def deaf():
     end_well("a client that takes nothing", daemon, device, client)
 
 
+class Flood:
+    """Clients that send requests as fast as they are taken and read nothing, until all go at once."""
+
+    def __init__(self, daemon, count):
+        self.told = threading.Event()
+        self.clients = [daemon.client(buffer=SMALL) for _ in range(count)]
+        for client in self.clients:
+            client.socket.setblocking(False)
+        self.thread = threading.Thread(target=self.send)
+        self.thread.start()
+
+    def send(self):
+        while not self.told.wait(0.01):
+            for client in self.clients:
+                try:
+                    client.socket.send(b"?POLL;" * 2000)
+                except OSError:
+                    pass
+
+    def go(self):
+        self.told.set()
+        self.thread.join()
+        for client in self.clients:
+            client.reset()
+
+
+def greetings(daemon, count):
+    """What each of the given number of clients is sent that come at once, and then go: the greeting, or nothing."""
+
+    def come():
+        client = daemon.client()
+        first = client.receive(len(VERSION))
+        client.close()
+        return first
+
+    return list(side_by_side(come, [(number,) for number in range(count)]).values())
+
+
+def flood():
+    """60 clients flood the daemon with requests, read nothing and go, while thirty come at once, again and again: each is greeted, or closed without a
+    byte, counted, and the reason said. Nothing more is read of a client that has gone, so soon all of thirty are greeted."""
+    daemon, device = started("--report", "86400")
+    until(daemon.at_rest)
+    before = daemon.threads()
+    crowd = Flood(daemon, 60)
+    time.sleep(1)
+    found = greetings(daemon, 4)
+    check("beside 60 clients that flood: four more are greeted", 4, found.count(VERSION))
+    going = threading.Thread(target=crowd.go)
+    going.start()
+    start, last = time.monotonic(), []
+    while last.count(VERSION) < 30 and time.monotonic() - start < 10 * slowness():
+        last = greetings(daemon, 30)
+        found += last
+    took = time.monotonic() - start
+    going.join()
+    away = found.count(b"")
+    print(f"        while 60 that flood go, {away} of {len(found)} are turned away, the last after {took:.1f} s", flush=True)
+    check("60 that flood and go: each that comes is greeted, or closed without a byte", len(found), found.count(VERSION) + away)
+    check("60 that flood and go: soon thirty that come at once are greeted", 30, last.count(VERSION))
+    within("60 that flood and go: their threads end", until(lambda: daemon.threads() <= before, 5 * slowness()), daemon.threads())
+    device.end()
+    check("60 that flood and go: status", 0, daemon.wait()[0])
+    device.close()
+    said = AWAY.findall(daemon.said())
+    counts = f"{60 + len(found) - away} sessions, {away} turned away"
+    check("60 that flood and go: those that are turned away are counted", counts, re.findall(r"\d+ sessions, \d+ turned away", daemon.said())[-1])
+    check("60 that flood and go: their number is said", away, sum(int(number or 1) for _, number, _ in said))
+    check("60 that flood and go: with a true reason", [], [reason for _, _, reason in said if reason not in FULL])
+
+
 class FewThreads(Daemon):
     """A daemon that may have this number of threads, started as another user."""
 
@@ -237,7 +312,7 @@ def few_threads():
 
 
 def main():
-    parts = [deaf, few_threads, draining, all_go_at_once, left_to_the_system, slow_end, slow_reader]
+    parts = [deaf, few_threads, flood, draining, all_go_at_once, left_to_the_system, slow_end, slow_reader]
     for name in sys.argv[2:]:
         if name not in [part.__name__ for part in parts]:
             sys.exit(f"slow_clients.py: no part {name}")

@@ -191,6 +191,8 @@ def find(terminal):
 
 
 def speed_of(text):
+    if "/" in text:
+        raise argparse.ArgumentTypeError(f"{text} is no speed, which comes behind the terminal: {command.PROGRAM} {text} 9600")
     if not text.isascii() or not text.isdigit() or int(text) not in KNOWN:
         raise argparse.ArgumentTypeError(f"{text} is no speed; there are {', '.join(str(it) for it in sorted(KNOWN) if it >= 1_200)}")
     return int(text)

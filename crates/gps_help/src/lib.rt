@@ -6,6 +6,7 @@
 mod cause;
 mod command_name;
 mod device;
+mod gpsd_option;
 mod help;
 mod near;
 mod option_name;

@@ -1,4 +1,7 @@
-use crate::{Cause, CommandName, DeviceCause, OptionName, Refusal};
+use crate::gpsd_option::in_place_of;
+use crate::near::is_within;
+use crate::word::{is_dashed, name_of};
+use crate::{Cause, CommandName, DeviceCause, OptionName, Question, Refusal};
 use gps_words::is_address;
 use std::fmt;
 
@@ -46,32 +49,32 @@ fn write_value<W: fmt::Write>(option: OptionName, f: &mut fmt::Formatter<W>) -> 
 
 fn write_number<W: fmt::Write>(option: OptionName, f: &mut fmt::Formatter<W>) -> fmt::Result {
     match option.range() {
-        Some((least, most)) => write!(f, "a whole number from {} to {}", least, most),
+        Some((least, most)) => {
+            write!(f, "a whole number from {} to {}", least, most)?;
+            f.write_str(unit_of(option))
+        }
         None => Ok(()),
     }
 }
 
-/// What to do in place of an option of gpsd.
-fn in_place_of(option: &str) -> Option<&'static str> {
-    if option.starts_with("-D") {
-        return Some("leave it out: serve has no levels of messages");
-    }
+/// The unit of an option's number, as the end of a message.
+fn unit_of(option: OptionName) -> &'static str {
     match option {
-        "-n" => Some("leave it out: serve reads its devices before a client connects"),
-        "-N" => Some("leave it out: serve stays in the foreground"),
-        "-G" => Some("say --listen 0.0.0.0:2947 for all addresses"),
-        "-b" => Some("leave it out: serve writes nothing to a device"),
-        "-S" => Some("say --listen 127.0.0.1:PORT"),
-        "-F" => Some(
-            "leave it and its value out: the devices of serve are words, and a stop is asked by --stop",
-        ),
-        "-P" => Some("leave it and its value out: what starts serve knows its process"),
-        "-p" => Some("leave it out: serve never writes to a device"),
-        "-r" => Some("leave it out: serve tells the time of the receiver also without a fix"),
-        "-s" => Some(
-            "leave it and its value out: gpsrelay-port DEVICE SPEED sets the speed of a line",
-        ),
-        _ => None,
+        OptionName::CycleGap => ", in milliseconds",
+        OptionName::Reopen | OptionName::Report => ", in seconds",
+        _ => "",
+    }
+}
+
+/// The question to the program itself that a word may mean, as `version` for `--versoin`.
+fn question_near(word: &str) -> Option<Question> {
+    let name = name_of(word);
+    if word == "-V" || word == "-v" || is_within(2, name.as_bytes(), b"version") {
+        Some(Question::Version)
+    } else if name.len() > 2 && is_within(2, name.as_bytes(), b"help") {
+        Some(Question::Help)
+    } else {
+        None
     }
 }
 
@@ -84,6 +87,10 @@ fn in_place_of_way(place: &str) -> Option<&'static str> {
     } else if place.starts_with("ntrip:") || place.starts_with("dgpsip:") {
         Some(
             "serve sends no corrections to a receiver: another program has to, such as str2str of RTKLIB",
+        )
+    } else if place.starts_with("/dev/pps") || place.starts_with("pps:") {
+        Some(
+            "serve reads the edges of pulses as lines: have a program write them into a FIFO, and give that as NAME=edges:PATH",
         )
     } else {
         None
@@ -106,6 +113,11 @@ fn has_bad_port(text: &str) -> bool {
     }
 }
 
+/// Whether a text is a host without a port: a name, or an IPv6 address in brackets.
+fn lacks_port(text: &str) -> bool {
+    text.ends_with(']') || !text.is_empty() && !text.contains(':') && !is_digits(text)
+}
+
 /// What is wrong with a text that is no `HOST:PORT`, if that can be said.
 fn address_hint(text: &str) -> Option<&'static str> {
     if text.contains('/') {
@@ -114,6 +126,8 @@ fn address_hint(text: &str) -> Option<&'static str> {
         Some("a port has at most 5 digits, and is at most 65535")
     } else if text.starts_with(':') {
         Some("the host is missing: 127.0.0.1 for this machine, 0.0.0.0 for all addresses")
+    } else if lacks_port(text) {
+        Some("the port is missing")
     } else {
         None
     }
@@ -190,8 +204,15 @@ impl Told<'_> {
             return write!(f, "{}: no such command; say serve {}", word, word);
         }
         write!(f, "{}: no such command", self.shown())?;
-        match near {
-            Some(command) => write!(f, "; did you mean {}?", command.text()),
+        if let Some(command) = near {
+            return write!(f, "; did you mean {}?", command.text());
+        }
+        match question_near(word) {
+            Some(Question::Version) => f.write_str("; did you mean gpsrelay --version?"),
+            Some(_) => f.write_str("; did you mean gpsrelay --help?"),
+            None if is_dashed(word) => {
+                f.write_str("; a command comes before its options: gpsrelay help lists all")
+            }
             None => f.write_str("; gpsrelay help lists all"),
         }
     }
@@ -207,8 +228,12 @@ impl Told<'_> {
                 return write!(f, "; {}", what);
             }
         }
-        match near {
-            Some(option) => write!(f, "; did you mean --{}?", option.text()),
+        if let Some(option) = near {
+            return write!(f, "; did you mean --{}?", option.text());
+        }
+        match question_near(self.word) {
+            Some(Question::Version) => f.write_str("; did you mean gpsrelay --version?"),
+            Some(_) => f.write_str("; did you mean --help?"),
             None => write!(f, "; gpsrelay help {} lists all", self.command()),
         }
     }

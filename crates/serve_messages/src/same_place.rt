@@ -142,12 +142,51 @@ fn same_place<'a, R: Files<File = File>>(
     None
 }
 
-/// Whether the path of `--stop` names nothing.
-fn lacks_stop<R: Files<File = File>>(rt: &R, path: &Bytes) -> bool {
-    match fs::metadata(rt, text_of(path)) {
-        Ok(_) => false,
-        Err(error) => error.kind() == ErrorKind::NotFound,
+/// What the path of `--stop` lacks.
+#[derive(Clone, Copy)]
+enum StopLack {
+    /// Its folder is there, and no such file in it.
+    File,
+    /// What comes before its last name is no folder.
+    Folder,
+}
+
+/// The folder of a path.
+fn folder_of(path: &str) -> &str {
+    match path.rsplit_once('/') {
+        Some(("", _)) => "/",
+        Some((folder, _)) => folder,
+        None => ".",
     }
+}
+
+/// What is lacking, if the path of `--stop` names nothing.
+fn stop_lack<R: Files<File = File>>(rt: &R, path: &str) -> Option<StopLack> {
+    match fs::metadata(rt, path) {
+        Ok(_) => return None,
+        Err(error)
+            if error.kind() == ErrorKind::NotFound || error.kind() == ErrorKind::NotADirectory => {}
+        Err(_) => return None,
+    }
+    match fs::metadata(rt, folder_of(path)) {
+        Ok(metadata) if metadata.file_type().is_dir() => Some(StopLack::File),
+        _ => Some(StopLack::Folder),
+    }
+}
+
+/// Says that the path of `--stop` names nothing.
+fn tell_stop_lack<R: Eprint>(rt: &R, path: &str, lack: StopLack, head: &str) {
+    let _ = match lack {
+        StopLack::File => eprintln!(rt;
+            "{head}--stop {path}: no such file; make it first: mkfifo {path}"
+        ),
+        StopLack::Folder => {
+            let folder = folder_of(path);
+            eprintln!(rt;
+                "{head}--stop {path}: there is no folder {folder}; make it first, and then the file: mkfifo {path}"
+            )
+        }
+    };
 }
 
 /// Says, behind `head`, that two words name one FIFO or terminal, or that the path of `--stop` names nothing, if so.
@@ -160,14 +199,15 @@ pub fn tell_bad_places<R: Eprint + Files<File = File>>(
         let _ = eprintln!(rt; "{head}{same}");
         return true;
     }
-    match &options.stop {
-        Some(path) if lacks_stop(rt, path) => {
-            let path = text_of(path);
-            let _ = eprintln!(rt;
-                "{head}--stop {path}: no such file; make it first: mkfifo {path}"
-            );
+    let Some(path) = &options.stop else {
+        return false;
+    };
+    let path = text_of(path);
+    match stop_lack(rt, path) {
+        Some(lack) => {
+            tell_stop_lack(rt, path, lack, head);
             true
         }
-        _ => false,
+        None => false,
     }
 }

@@ -30,6 +30,19 @@ const SYSTEM_FULL: i32 = 23;
 
 const PROCESS_FULL: i32 = 24;
 
+/// Why a client was turned away.
+#[derive(Clone, Copy)]
+enum TurnedAway {
+    /// All sessions of the run are used.
+    Sessions,
+    /// As many clients are served as can be.
+    Full,
+    /// There was no memory or no thread for it.
+    Lack,
+    /// All places were held, also by clients that have gone, or there was no memory or no thread for it.
+    HeldOrLack,
+}
+
 /// The door of a telling world: it says when it fails, when a client is turned away, and when the sessions of a run are nearly used up. What
 /// its links do is not said.
 ///
@@ -49,6 +62,8 @@ pub struct TellingDoor<R, N, V> {
     sessions: u64,
     /// Clients that were turned away.
     turned_away: ToldCount,
+    /// Why the last of them was.
+    why: TurnedAway,
     /// Clients that were admitted, and closed for want of a thread.
     unread: ToldCount,
     /// When it was last said that there was no file descriptor or memory for a client.
@@ -79,6 +94,7 @@ impl<R, N, V> TellingDoor<R, N, V> {
             gave: false,
             sessions: 0,
             turned_away: ToldCount::nothing(),
+            why: TurnedAway::Full,
             unread: ToldCount::nothing(),
             said_lack: None,
             pace: Pace::new(),
@@ -120,38 +136,45 @@ impl<R, N, V> TellingDoor<R, N, V> {
 }
 
 impl<R, N, V: Tell + time::Clock + Copy> TellingDoor<R, N, V> {
+    /// Why the last client was turned away.
+    fn why_now(&self) -> TurnedAway {
+        if self.sessions >= SESSIONS {
+            TurnedAway::Sessions
+        } else if self.others >= MOST {
+            TurnedAway::Full
+        } else if self.sessions < MOST {
+            TurnedAway::Lack
+        } else {
+            TurnedAway::HeldOrLack
+        }
+    }
+
     /// Says, at most once a minute, how many clients were turned away, and why the last was.
-    fn tell_turned_away(&mut self)
+    fn tell_turned_away(&mut self, now: Duration)
         ensures { self.new.door ≡ self.old.door }
     {
         let rt = self.rt;
-        let Ok(now) = rt.monotonic() else {
-            return;
-        };
         let Some(clients) = self.turned_away.due(now) else {
             return;
         };
-        if self.sessions >= SESSIONS {
-            rt.tell_fault(format_args!(
+        match self.why {
+            TurnedAway::Sessions => rt.tell_fault(format_args!(
                 "{clients} turned away: all {SESSIONS} sessions of this run are used: start the daemon anew"
-            ));
-        } else if self.others >= MOST {
-            rt.tell_fault(format_args!(
+            )),
+            TurnedAway::Full => rt.tell_fault(format_args!(
                 "{clients} turned away: at most 64 clients are served at a time, and 80 with those that have still to take what is left"
-            ));
-        } else if self.sessions < MOST {
-            rt.tell_fault(format_args!(
+            )),
+            TurnedAway::Lack => rt.tell_fault(format_args!(
                 "{clients} turned away: no memory or no thread: raise MemoryMax or TasksMax, or give a smaller --queue"
-            ));
-        } else {
-            rt.tell_fault(format_args!(
-                "{clients} turned away: 80 have still to take what is left, or there was no memory or no thread"
-            ));
+            )),
+            TurnedAway::HeldOrLack => rt.tell_fault(format_args!(
+                "{clients} turned away: all 80 places were held, also by clients that have gone or have still to take what is left, or there was no memory or no thread"
+            )),
         }
     }
 
     /// Says, at most once a minute, how many clients were greeted and closed because no thread could be started for them.
-    fn tell_unread(&mut self)
+    fn tell_unread(&mut self, now: Duration)
         ensures { self.new.door ≡ self.old.door }
     {
         let rt = self.rt;
@@ -160,14 +183,29 @@ impl<R, N, V: Tell + time::Clock + Copy> TellingDoor<R, N, V> {
         };
         let times = links.unread();
         self.unread.sees(times);
-        let Ok(now) = rt.monotonic() else {
-            return;
-        };
         if let Some(clients) = self.unread.due(now) {
             rt.tell_fault(format_args!(
                 "{clients} closed: the system started no thread: raise TasksMax, or ulimit -u"
             ));
         }
+    }
+
+    /// Says what is due of clients that were not served.
+    fn tell_unserved(&mut self)
+        ensures { self.new.door ≡ self.old.door }
+    {
+        if let Ok(now) = self.rt.monotonic() {
+            self.tell_turned_away(now);
+            self.tell_unread(now);
+        }
+    }
+
+    /// Says, at the end of the door, what was not said yet of clients that were not served.
+    fn tell_rest(&mut self)
+        ensures { self.new.door ≡ self.old.door }
+    {
+        self.tell_turned_away(Duration::MAX);
+        self.tell_unread(Duration::MAX);
     }
 
     /// Says that the sessions of this run are nearly used up, or all used.
@@ -277,7 +315,7 @@ where
         }
         self.gave = false;
         if self.was_dropped() {
-            self.tell_turned_away();
+            self.why = self.why_now();
         } else {
             self.sessions = self.sessions.saturating_add(1);
             self.tell_used();
@@ -325,8 +363,9 @@ where
 
     fn accept(&mut self) -> DoorStep<TellingSource<N, V>, LinkSink<N>> {
         self.look_back();
-        self.tell_unread();
+        self.tell_unserved();
         if self.is_stopped() {
+            self.tell_rest();
             return DoorStep::Closed;
         }
         self.keep_pace();
@@ -336,7 +375,10 @@ where
                 self.tell_lack();
                 DoorStep::Quiet
             }
-            DoorStep::Closed => DoorStep::Closed,
+            DoorStep::Closed => {
+                self.tell_rest();
+                DoorStep::Closed
+            }
             DoorStep::Failed => {
                 self.tell_failed();
                 DoorStep::Failed

@@ -200,13 +200,21 @@ impl ToldDevice {
         self.looked = Some(now);
         if is_long && is_steady && !self.is_silent {
             self.is_silent = true;
-            let hint = if self.terminal.is_some() && !self.has_come {
-                "; is it set raw, and to the right speed? stty -F PATH 9600 raw -echo"
-            } else {
-                ""
-            };
-            let place = PlaceText(&self.place);
-            voice.tell(format_args!("{place} has been silent for {SILENCE} s{hint}"));
+            self.tell_silent(voice);
+        }
+    }
+
+    /// Says that nothing came for a minute, and of a terminal that never gave a byte what finds its speed.
+    fn tell_silent<V: Tell>(&self, voice: &V) {
+        let place = PlaceText(&self.place);
+        match &self.place {
+            Place::File(path) if self.terminal.is_some() && !self.has_come => {
+                let path = text_of(path);
+                voice.tell(format_args!(
+                    "{place} has been silent for {SILENCE} s; gpsrelay-port {path} sets it raw, and finds its speed"
+                ));
+            }
+            _ => voice.tell(format_args!("{place} has been silent for {SILENCE} s")),
         }
     }
 

@@ -19,9 +19,9 @@ some_of (Err stop) old new places listen none asks =
     ((asks.0.0, sym (ap (λ (a : Asking). a.places ++ places) none) ∙ asks.0.1), elim asks.1 [ inl unheard ↦ inl unheard | inr heard ↦ inr heard.0 ])
 
 -- if the opening stopped after the daemon had listened, listening failed
-pub stopped_at_door : {X W : Type 0} (asked : W → Asking) (old : Asking) (w w' : W) (stop : Stop) (status : ℕ) (places : List Place) (listen : List ℕ)
+pub stopped_at_door : (X : Type 0) {W : Type 0} (asked : W → Asking) (old : Asking) (w w' : W) (stop : Stop) (status : ℕ) (places : List Place) (listen : List ℕ)
     → OpenAsks {X = X} (Err stop) old (asked w) places listen → w' ≡ w → status ≡ status_of stop → (asked w').address ≢ None → status ≡ 8
-stopped_at_door {X} {W} asked old w w' stop status places listen asks is status_is some = elim asks.1 [
+stopped_at_door X {W} asked old w w' stop status places listen asks is status_is some = elim asks.1 [
   | inl unheard ↦ absurd (some (ap (λ (x : W). (asked x).address) is ∙ unheard))
   | inr heard ↦ status_is ∙ ap status_of heard.1
 ]

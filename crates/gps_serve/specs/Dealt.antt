@@ -38,6 +38,7 @@ abbrev pub UsesShare : {S R D : Type 0} → DeviceWork S D R → DeviceRun S R �
 UsesShare {S} {R} work run share =
     (start : DeviceStart S R) → ReadersAre start work → StampsPieces 1 work.bytes.share.value share start.bytes.put run.bytes.pieces.put
 
+-- the same of a run that stands beside its share
 abbrev pub UsesItsShare : {S R D : Type 0} → DeviceWork S D R → DeviceRun S R × ShareView → Type 0
 UsesItsShare work pair = UsesShare work pair.0 pair.1
 
@@ -46,6 +47,7 @@ pub record Pairs {S R : Type 0} (runs : List (DeviceRun S R)) (shares : List Sha
   pub runs_are : map (λ (pair : DeviceRun S R × ShareView). pair.0) pairs ≡ runs
   pub shares_are : map (λ (pair : DeviceRun S R × ShareView). pair.1) pairs ≡ shares
 
+-- Each reader has a run and a share, in the order of the readers, and the pieces that the run put have the stamps of that share.
 pub record SharesUsed {S R D : Type 0} (works : List (DeviceWork S D R)) (runs : List (DeviceRun S R)) (shares : List ShareView) : Type 0 where
   pub pairs : List (DeviceRun S R × ShareView)
   pub are : Pairs runs shares pairs
@@ -58,6 +60,6 @@ pub record UsedSoFar {S R D : Type 0} (works left : List (DeviceWork S D R)) (ru
   pub used : RanSoFar UsesItsShare works left pairs
 
 -- the pieces of the devices have the stamps that this clock gave, if nothing was put before
-abbrev pub StampedIf : {S K G J R : Type 0} {s : SourceGhosts S} {k : SinkGhosts K} {g : DoorGhosts G S K} {j : HubGhosts J} {d : DoorNamingGhosts J}
-    → Option Dial → List (DeviceStart S R) → Ended S K G J R s k g j d → Type 0
-StampedIf clock starts ended = AreEmpty starts → StampsAreGiven clock (puts_of ended.runs.items)
+pub record StampedIf {S K G J R : Type 0} {s : SourceGhosts S} {k : SinkGhosts K} {g : DoorGhosts G S K} {j : HubGhosts J} {d : DoorNamingGhosts J}
+    (clock : Option Dial) (starts : List (DeviceStart S R)) (ended : Ended S K G J R s k g j d) : Type 0 where
+  pub given : AreEmpty starts → StampsAreGiven clock (puts_of ended.runs.items)

@@ -1,7 +1,6 @@
 -- What became of the threads.
-use Rattle.std.specs.Prelude.{◌≡◌, ℕ, List, Option}
+use Rattle.std.specs.Prelude.{ℕ, List, Option}
 use Rattle.std.specs.List.{AllZip}
-use Rattle.std.specs.Vec.{vec_len}
 use Rattle.gps_fixed.specs.Moment.{Moment}
 use Rattle.gps_outside.specs.declared.door.Door.{Ghosts as DoorGhosts}
 use Rattle.gps_outside.specs.declared.client_sink.ClientSink.{Ghosts as SinkGhosts}
@@ -46,8 +45,3 @@ ReadersRan may facts starts ended = AllZip (RanOn may facts) starts ended.runs.i
 abbrev pub MonitorsWatched : {S K G J R : Type 0} {s : SourceGhosts S} {k : SinkGhosts K} {g : DoorGhosts G S K} {j : HubGhosts J} {d : DoorNamingGhosts J}
     → ℕ → List MonitorStart → Ended S K G J R s k g j d → Type 0
 MonitorsWatched tries monitor_starts ended = AllZip (WatchedBy tries) monitor_starts ended.watched.items
-
--- there is one result for each device, and for each monitor
-abbrev pub OneOfEach : {S K G J R : Type 0} {s : SourceGhosts S} {k : SinkGhosts K} {g : DoorGhosts G S K} {j : HubGhosts J} {d : DoorNamingGhosts J}
-    → ℕ → ℕ → Ended S K G J R s k g j d → Type 0
-OneOfEach devices monitors ended = (vec_len ended.runs ≡ devices) × (vec_len ended.watched ≡ monitors)

@@ -42,7 +42,7 @@ pub record IsOneLane (tx : Putting Piece) (rx : Taking Piece) : Type 0 where
   pub begins : IsPrefix rx.got tx.put
 
 -- What a reader put into its lane is what it took from its source, which was unread before. `Hands` says which pieces are put of what is taken. The reader
--- says that the source failed only if its faults are above 0.
+-- says that the source failed only if its faults are above 0. `first` is the source as it was before the first read.
 pub record ReaderServed {S : Type 0} (Hands : Option Ending → List Piece → List Piece → Option Stream → Option Stream → Type 0) (facts : SourceFacts S)
     (tx : Putting Piece) (source : S) : Type 0 where
   pub first : S
@@ -63,7 +63,7 @@ pub record DeviceServed {S R : Type 0} (may : Option (List Moment)) (facts : Sou
   pub edges_lane : ZipOption IsOneLane done.edges_tx done.edges_rx
   pub settled : OneMoreOfEach x (lanes done.bytes_rx done.edges_rx)
 
--- What is left of a session's input. Its source was read.
+-- What is left of a session's input. Its source was read; `reader.first` is the source before that.
 pub record InputServed {S K R : Type 0} (facts : SourceFacts S) (done : SessionDone S K R) : Type 0 where
   pub reader : ReaderServed (HandsOn input_part IsInputPiece) facts done.input_tx done.source
   pub lane : IsOneLane done.input_tx done.input_rx

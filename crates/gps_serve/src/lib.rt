@@ -6,6 +6,7 @@
 #![tactic(auto)]
 
 mod daemon_end;
+mod gathering;
 mod ground;
 mod lanes;
 mod laws;

@@ -6,7 +6,7 @@ ghost use Rattle.gps_serve.specs.Dealt.{AreNumbered, SharesUsed, StampedIf};
 ghost use Rattle.gps_serve.specs.Facts.{gate_facts, sink_facts};
 ghost use Rattle.gps_serve.specs.Lost.{link_out_of_memory, run_out_of_memory};
 ghost use Rattle.gps_serve.specs.Runs.{RanOn};
-ghost use Rattle.gps_serve.specs.Scopes.{DoorFails, DoorTended, MonitorsWatched, OneOfEach, ReadersHaveCauses, ReadersRan};
+ghost use Rattle.gps_serve.specs.Scopes.{DoorFails, DoorTended, MonitorsWatched, ReadersHaveCauses, ReadersRan};
 ghost use Rattle.gps_serve.specs.Starts.{EachTold};
 ghost use Rattle.gps_serve.specs.Statuses.{EachWhole};
 ghost use Rattle.gps_serve.specs.Works.{JoinsDevice, JoinsMonitor, ReadersAre, WatchedBy, WatchesFor};
@@ -356,9 +356,8 @@ fn work<
     ensures ran { ReadersRan D.may (source_facts S.Source) setup.starts.items result }
     ensures stamped { StampedIf D.first setup.starts.items result }
 
-    // What the monitors did, and how many results there are.
+    // What the monitors did.
     ensures watched { MonitorsWatched tries setup.monitor_starts.items result }
-    ensures counts { OneOfEach (vec_len setup.starts) (vec_len setup.monitor_starts) result }
 {
     let (rt, alloc, scope) = (spawner.rt, spawner.alloc, spawner.scope);
     let Shared {
@@ -435,9 +434,8 @@ pub(crate) fn in_scope<
     ensures ran { ReadersRan D.may (source_facts S.Source) setup.starts.items result }
     ensures stamped { StampedIf D.first setup.starts.items result }
 
-    // What the monitors did, and how many results there are.
+    // What the monitors did.
     ensures watched { MonitorsWatched tries setup.monitor_starts.items result }
-    ensures counts { OneOfEach (vec_len setup.starts) (vec_len setup.monitor_starts) result }
 {
     thread::scope(
         thread::scope_env(),

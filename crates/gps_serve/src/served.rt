@@ -1,10 +1,10 @@
-ghost use Rattle.std.specs.Prelude.{◌≡◌, ◌≢◌, ◌≤◌, ◌<◌, ◌+◌, ◌*◌, ◌⊎◌, ◌++◌, ℕ, List, [], length, map, None, IsSome, IfSome, IfErr, IfOk, is_some, true, false};
+ghost use Rattle.std.specs.Prelude.{◌≡◌, ◌≢◌, ◌≤◌, ◌*◌, ◌⊎◌, ◌++◌, ℕ, List, [], length, map, None, IsSome, IfSome, IfErr, IfOk, is_some, false};
 ghost use Rattle.std.specs.List.{All, AllZip};
-ghost use Rattle.std.specs.Vec.{vec_len, vec_capacity};
+ghost use Rattle.std.specs.Vec.{vec_capacity};
 ghost use Rattle.gps_fixed.specs.Limits.{most_queue};
 ghost use Rattle.gps_outside.specs.Counts.{Rose};
 ghost use Rattle.book_units.specs.Units.{segment_of};
-ghost use Rattle.hub_promise.specs.Keeping.{IsClosed, IsUnused, NothingGot};
+ghost use Rattle.hub_promise.specs.Keeping.{IsUnused, NothingGot};
 ghost use Rattle.hub_promise.specs.Parts.{devices_held, terms_of};
 ghost use Rattle.session_runs.specs.Due.{MayWrite};
 ghost use Rattle.serve_workers.specs.Writing.{AllowsClients};
@@ -12,209 +12,37 @@ ghost use Rattle.gps_serve.specs.Told.{devices_in};
 ghost use Rattle.gps_world.specs.Asking.{asked_nothing};
 ghost use Rattle.gps_world.specs.OpenInOrder.{AsksAll, AsksPrefix, behind_once, dial_of, places_in};
 ghost use Rattle.serve_end.specs.Plans.{IsPlan};
-ghost use Rattle.serve_end.specs.Runs.{RunCause, EachRun, source_facts};
+ghost use Rattle.serve_end.specs.Runs.{source_facts};
 ghost use Rattle.serve_workers.specs.Segments.{segments_of};
-ghost use Rattle.serve_workers.specs.Sessions.{SessionRuns};
 ghost use Rattle.gps_serve.specs.AtEnd.{AtEnd, handed_back, settings_in, settings_of, start_in, start_with};
 ghost use Rattle.gps_serve.specs.Facts.{gate_facts, world_facts};
 ghost use Rattle.gps_serve.specs.HandingBack.{EndHasCause, back_of};
 ghost use Rattle.gps_serve.specs.Outcome.{OutcomeHasCause};
 ghost use Rattle.gps_serve.specs.Served.{BytesHeld, EdgesHeld, IsUnasked, monitored};
-ghost use Rattle.serve_door.specs.Doors.{IsNewLink, Tended, door_now};
-ghost use Rattle.serve_floor.specs.Bursts.{AreAtRest, HasStopped};
-ghost use Rattle.gps_serve.specs.Dealt.{puts_of};
-ghost use Rattle.gps_serve.specs.Runs.{DeviceReads, DevicesRan, IsLeftOf};
-ghost use Rattle.gps_serve.specs.Stamps.{StampsAreGiven};
+ghost use Rattle.gps_serve.specs.Runs.{DeviceReads};
 ghost use Rattle.gps_serve.specs.Starts.{IsFreshDevice};
 ghost use Rattle.gps_serve.specs.Units.{CountFromZero};
 ghost use Rattle.gps_serve.specs.Whole.{IsWhole};
-ghost use Rattle.gps_serve.specs.Works.{MonitorsRan};
 
 use crate::daemon_end::{DaemonEnd, Unserved, hand_back};
+use crate::gathering::{DoneRooms, Numbers, gather, make_done_rooms, shut};
 use crate::ground::{Ground, prepare};
 use crate::lanes::DeviceLanes;
-use crate::scope::{Ended, Rooms, Shared, in_scope, make_rooms, room, set_up};
-use crate::settling::{DevicesDone, devices_done, monitors_done, sessions_done};
+use crate::scope::{Rooms, Shared, in_scope, make_rooms, set_up};
 use crate::starts::DeviceStart;
-use crate::status::{DaemonOutcome, all_ended, was_out_of_memory};
 use gps_fixed::NoMemory;
-use gps_hub::{DoorSeat, Hub, HubNaming, Parted};
+use gps_hub::{DoorSeat, Hub, HubNaming};
 use gps_outside::{ClientSink, Door, Source};
 use gps_world::{Outside, Stop, World, open};
-use serve_door::{DoorBegin, DoorDone, DueSinks};
-use serve_end::{DeviceDone, MonitorDone, Plan, Served};
-use serve_floor::{Burst, Floor, Rings, floor_of};
+use serve_door::{DoorBegin, DueSinks};
+use serve_end::{Plan, Served};
+use serve_floor::floor_of;
 use serve_workers::{Dials, SharedClock};
 use std::alloc::Global;
 use std::marker::Brand;
 use std::snapshot::Snapshot;
 use std::sync::{Mutex, Wait};
 use std::thread::Threads;
-
-/// The numbers of a plan.
-#[derive(Clone, Copy)]
-struct Numbers {
-    queue: u32,
-    limit: u32,
-    wait: u32,
-    tries: u32,
-}
-
-/// Bursts until all devices have stopped, as they have once the pump has ended. No thread is left to wake.
-fn close<J: HubNaming, R: Wait + Copy>(rt: &R, alloc: Global, floor: Floor<J, R>) -> Floor<J, R>
-    ensures closed { All IsClosed result.hub.book.sessions }
-    ensures stopped { All HasStopped result.hub.ends }
-{
-    let mut floor = floor;
-    let mut rings = Rings::new(alloc);
-    for _ in rt.forever() {
-        match floor.burst(false, &mut rings) {
-            Burst::Over => return floor,
-            Burst::Fed | Burst::Held | Burst::Idle => {}
-        }
-    }
-    unreachable!()
-}
-
-/// Publishes the samples that wait.
-fn publish_all<J: HubNaming, R: Wait + Copy>(rt: &R, floor: Floor<J, R>) -> Floor<J, R>
-    ensures sessions { result.hub.book.sessions ≡ floor.hub.book.sessions }
-    ensures ends { result.hub.ends ≡ floor.hub.ends }
-    ensures rest { AreAtRest (length J.terms.segments) result.hub.book.units }
-{
-    let mut floor = floor;
-    'rounds: for _ in rt.forever() {
-        if !floor.publish() {
-            return floor;
-        }
-    }
-    unreachable!()
-}
-
-/// Takes what is left in the lanes, publishes what waits then, and hands back the hub.
-fn shut<J: HubNaming, R: Wait + Copy>(rt: &R, alloc: Global, floor: Floor<J, R>) -> Hub<J, R>
-    ensures closed { All IsClosed result.book.sessions }
-    ensures stopped { All HasStopped result.ends }
-    ensures rest { AreAtRest (length J.terms.segments) result.book.units }
-{
-    let floor = close(rt, alloc, floor);
-    publish_all(rt, floor).into_hub()
-}
-
-/// Room for what is put together at the end.
-#[derive(Drop)]
-struct DoneRooms<W: World, R: Wait + Copy> {
-    devices: Vec<DeviceDone<W::In, R>>,
-    monitors: Vec<MonitorDone>,
-    ghost devices_none: { devices.items ≡ [] },
-    ghost devices_len: { vec_len devices ≡ 0 },
-    ghost monitors_none: { monitors.items ≡ [] },
-    ghost monitors_len: { vec_len monitors ≡ 0 },
-}
-
-fn make_done_rooms<W: World, R: Wait + Copy>(
-    alloc: Global,
-    devices: usize,
-    monitors: usize,
-) -> Result<DoneRooms<W, R>, NoMemory>
-    ensures devices { IfOk result (λ rooms. devices ≤ vec_capacity rooms.devices) }
-    ensures monitors { IfOk result (λ rooms. monitors ≤ vec_capacity rooms.monitors) }
-{
-    let devices = room(alloc, devices)?;
-    let monitors = room(alloc, monitors)?;
-    Ok(DoneRooms { devices, monitors })
-}
-
-/// Puts together what is left, and how the work ended.
-fn gather<W: World, J: HubNaming, D: Dials, R: Wait + Copy>(
-    rt: &R,
-    hub: Hub<J, R>,
-    ended: Ended<W::In, W::Out, W::Gate, J, R>,
-    rooms: DoneRooms<W, R>,
-    numbers: Numbers,
-    first: Snapshot<W::Gate>,
-) -> DaemonEnd<W::In, W::Out, W::Gate, R>
-    // What the readers of the devices did.
-    requires ran { DevicesRan D.may (source_facts W.In.Source) J.terms.lanes ended.runs.items }
-    requires causes { EachRun (RunCause W.In.faults) ended.runs.items }
-    requires stamped { StampsAreGiven D.first (puts_of ended.runs.items) }
-
-    // What the door worker did.
-    requires cause { ended.door.failed ≡ true → 0 < W.Gate.faults ended.door.gate }
-    requires sound { ended.door.failed ≡ false → W.Gate.faults ended.door.gate ≡ 0 }
-    requires tended { Tended (IsNewLink W.In.content W.In.faults W.In.quiets W.Out.written W.Out.faults)
-        (SessionRuns W.In.content W.In.faults W.In.quiets W.Out.written W.Out.faults) numbers.queue (W.Gate.links first.value)
-        (door_now (W.Gate.links ended.door.gate) (W.Gate.faults ended.door.gate) (W.Gate.quiets ended.door.gate)
-        ended.door.seat.drops ended.door.full ended.door.no_memory)
-        ended.door.seat ended.door.runs.items }
-
-    // What the monitors did.
-    requires watched { MonitorsRan numbers.tries J.terms.segments ended.watched.items }
-
-    // The hub, once all is closed, stopped and published.
-    requires wait { J.terms.wait ≡ numbers.wait }
-    requires closed { All IsClosed hub.book.sessions }
-    requires stopped { All HasStopped hub.ends }
-    requires rest { AreAtRest (length J.terms.segments) hub.book.units }
-    requires from { CountFromZero J.terms.segments }
-
-    // The rooms are large enough.
-    requires devices { vec_len ended.runs ≤ vec_capacity rooms.devices }
-    requires monitors { vec_len ended.watched ≤ vec_capacity rooms.monitors }
-
-    // What is left is what the threads left, and fits together. The outcome has its cause.
-    ensures left { AllZip IsLeftOf ended.runs.items result.devices.items }
-    ensures at_end { AtEnd (start_with (settings_of J.terms numbers.queue numbers.tries) D.may D.first (W.Gate.links first.value))
-        (world_facts W.In.Source W.Out.ClientSink W.Gate.Door) (back_of result) result.book }
-    ensures cause { EndHasCause W.In.faults W.Gate.faults result }
-{
-    let by_threads = ended.threads_out_of_memory();
-    let Ended {
-        runs,
-        watched,
-        door,
-    } = ended;
-    let DoorDone {
-        gate,
-        seat,
-        runs: session_runs,
-        room,
-        full,
-        no_memory: _,
-        failed,
-    } = door;
-    let Parted {
-        mut book,
-        inlets,
-        ends,
-        sessions,
-    } = hub.part(seat);
-    book.show();
-    let DoneRooms { devices, monitors } = rooms;
-    let no_memory = was_out_of_memory(by_threads, &book, ends.as_slice());
-    let ended = all_ended(ends.as_slice());
-    let DevicesDone {
-        devices,
-        failed: read_fault,
-    } = devices_done::<W::In, D, R>(runs, inlets, ends, devices);
-    let sessions = sessions_done(rt, &mut book, session_runs, sessions, room);
-    let monitors = monitors_done(&mut book, watched, numbers.tries, no_memory, monitors);
-    let outcome = DaemonOutcome {
-        read_fault,
-        door_fault: failed,
-        ended,
-        no_memory,
-    };
-    DaemonEnd {
-        outcome,
-        book,
-        gate,
-        devices,
-        sessions,
-        monitors,
-        full,
-    }
-}
 
 /// What the door worker begins with.
 fn begin_of<S: Source, K: ClientSink, G: Door<In = S, Out = K>, J: HubNaming, R: Wait + Copy>(

@@ -150,7 +150,7 @@ returns-in-Err-prepare-clause-unasked g c none =
 
 pub returns-in-Err-clause-listened : goal.returns-in-Err-clause-listened
 returns-in-Err-clause-listened g c none some =
-    inl (stopped_at_door {X = Unit {0}} g.W.World.asked (g.W.World.asked c.args.world) c.open.new.world c.hand_back.result.world c.in-Err.stop c.hand_back.result.status
+    inl (stopped_at_door (Unit {0}) g.W.World.asked (g.W.World.asked c.args.world) c.open.new.world c.hand_back.result.world c.in-Err.stop c.hand_back.result.status
     (c.args.plan.inputs.items ++ places_in c.args.plan.edges.items) c.args.plan.listen c.in-Err.ensures.asked c.hand_back.ensures.world c.hand_back.ensures.status some)
 
 pub returns-in-Ok-run-clause-listened : goal.returns-in-Ok-run-clause-listened

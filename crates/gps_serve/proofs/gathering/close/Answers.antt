@@ -1,5 +1,5 @@
 use Rattle.std.proofs.Common.{refl}
-use Rattle.gps_serve.proofs.served.close.Goals as goal
+use Rattle.gps_serve.proofs.gathering.close.Goals as goal
 
 pub returns-in-Over-clause-closed : goal.returns-in-Over-clause-closed
 returns-in-Over-clause-closed g c = c.in-Over.ensures.closed refl

@@ -3,7 +3,7 @@ use Rattle.std.specs.List.{All}
 use Rattle.hub_promise.specs.Keeping.{IsClosed}
 use Rattle.hub_promise.specs.Parts.{HubView}
 use Rattle.serve_floor.specs.Bursts.{AreAtRest, HasStopped}
-use Rattle.gps_serve.proofs.served.shut.Goals as goal
+use Rattle.gps_serve.proofs.gathering.shut.Goals as goal
 
 pub returns-clause-closed : goal.returns-clause-closed
 returns-clause-closed g c =

@@ -19,7 +19,7 @@ use Rattle.gps_serve.proofs.Monitors.{some_misses}
 use Rattle.gps_serve.proofs.Sessions.{sessions_ready}
 use Rattle.gps_serve.proofs.Stamps.{stamps_left}
 use Rattle.gps_serve.proofs.Whole.{whole_by}
-use Rattle.gps_serve.proofs.served.gather.Goals as goal
+use Rattle.gps_serve.proofs.gathering.gather.Goals as goal
 
 pub devices_done-devices-requires-clause-ready : goal.devices_done-devices-requires-clause-ready
 devices_done-devices-requires-clause-ready g c = devices_by _ _ g.J.HubNaming.terms c.part-book.result.book _ _ c.part-book.ensures.terms c.requires.ran

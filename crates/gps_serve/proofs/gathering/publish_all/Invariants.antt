@@ -1,5 +1,5 @@
 use Rattle.std.proofs.Common.{◌≡◌}
-use Rattle.gps_serve.proofs.served.publish_all.Given as goal
+use Rattle.gps_serve.proofs.gathering.publish_all.Given as goal
 
 abbrev pub invariant-rounds : goal.invariant-rounds
 invariant-rounds g l = record {

@@ -1,9 +1,11 @@
 #!/usr/bin/env python3
 """From a burst's last byte to its fix, with `--cycle-gap` and without, and by gpsd in the same run if it is installed.
 
-Use: cycle_gap.py PROGRAM [RATE [BAUD [SECONDS]]]. Terminals that send a burst of nine sentences (RMC, VTG, GGA, GSA, four GSV, GLL) RATE times a second
-(1), at once or in the pieces of a serial line of BAUD (0: at once), for SECONDS (12). Printed for each daemon: the middle and the greatest number of
-milliseconds, how many moments had a fix, how many had more than one, and how often its threads woke in a second.
+Use: cycle_gap.py PROGRAM [SECONDS [RATE BAUD GAP...]]. Terminals that send a burst RATE times a second, in the pieces of a serial line of
+BAUD (0: at once), for SECONDS (12); a daemon for each GAP in milliseconds. Without them the rows of ROWS are measured one after another: 1, 5
+and 10 Hz at 9,600 and 115,200 baud, with the gaps that the manual names. A burst has the nine sentences RMC, VTG, GGA, GSA, four GSV and GLL,
+or, if they take more than three quarters of the time between two bursts, RMC alone. Printed for each daemon: the middle and the greatest
+number of milliseconds, how many moments had a fix, how many had more than one, and how often its threads woke in a second.
 """
 import os
 import statistics
@@ -16,20 +18,24 @@ sys.path.insert(0, os.path.join(os.path.dirname(os.path.dirname(os.path.abspath(
 from harness import BEGIN, PLACE, Daemon, Gpsd, sentence
 
 PROGRAM = os.path.abspath(sys.argv[1])
-RATE, BAUD, SECONDS = (int(sys.argv[i]) if len(sys.argv) > i else default for i, default in [(2, 1), (3, 0), (4, 12)])
-GAPS = [None, 20, 50, 100, 200]
+SECONDS = int(sys.argv[2]) if len(sys.argv) > 2 else 12
+# Rate, baud, gaps. RMC alone at 10 Hz and 9,600 baud leaves a silence of 27 ms; half of that is given too.
+ROWS = [(1, 9_600, [100]), (1, 115_200, [100]), (5, 9_600, [50]), (5, 115_200, [50]), (10, 9_600, [25, 13]), (10, 115_200, [25])]
 PIECE = 8  # bytes after which a serial chip hands on what it has
 GPSD = "/usr/sbin/gpsd"
 
 
-def burst(number):
+def burst(number, rate, baud):
     """The burst of a moment, and the time that its fix must have."""
-    at, hundredths = BEGIN + number // RATE, 100 * (number % RATE) // RATE
+    at, hundredths = BEGIN + number // rate, 100 * (number % rate) // rate
     clock, day = time.strftime("%H%M%S", time.gmtime(at)) + f".{hundredths:02}", time.strftime("%d%m%y", time.gmtime(at))
     bodies = [f"GPRMC,{clock},A,{PLACE},0.504,84.40,{day},,,A", "GPVTG,84.40,T,,M,0.504,N,0.933,K,A",
               f"GPGGA,{clock},{PLACE},1,08,0.90,545.4,M,46.9,M,,", "GPGSA,A,3,01,02,03,04,05,06,07,08,,,,,2.50,1.30,2.10",
               *(f"GPGSV,4,{i + 1},16," + ",".join(f"{4 * i + j:02},40,083,46" for j in range(1, 5)) for i in range(4)), f"GPGLL,{PLACE},{clock},A,A"]
-    return b"".join(map(sentence, bodies)), time.strftime("%Y-%m-%dT%H:%M:%S", time.gmtime(at)) + f".{hundredths:02}0Z"
+    data = b"".join(map(sentence, bodies))
+    if baud and 10 * len(data) / baud > 0.75 / rate:
+        data = sentence(bodies[0])
+    return data, time.strftime("%Y-%m-%dT%H:%M:%S", time.gmtime(at)) + f".{hundredths:02}0Z"
 
 
 class Side:
@@ -60,22 +66,25 @@ class Side:
         late = sorted(1000 * (self.fixes[moment][0] - sent) for moment, sent in self.sent.items() if moment in self.fixes)
         twice = sum(len(self.fixes.get(moment, [])) > 1 for moment in self.sent)
         middle, most = (statistics.median(late), late[-1]) if late else (float("nan"), float("nan"))
-        print(f"{self.name:8} {middle:8.1f} ms, at most {most:8.1f}; {len(late)} of {len(self.sent)} moments, {twice} twice; {woke:.1f} wake-ups a second")
+        print(f"  {self.name:8} {middle:8.1f} ms, at most {most:8.1f}; {len(late)} of {len(self.sent)} moments, {twice} twice; {woke:.1f} wake-ups a second")
 
 
-def main():
+def measured(rate, baud, gaps):
+    """A row: daemons side by side, each of which gets each burst."""
+    size = len(burst(0, rate, baud)[0])
+    print(f"{rate} Hz, {baud or 'no'} baud, {size} bytes a burst" + (f", a silence of {1000 / rate - 10_000 * size / baud:.0f} ms" if baud else ""), flush=True)
     sides = [Side("without" if gap is None else f"gap {gap}", lambda path, words=[] if gap is None else ["--cycle-gap", str(gap)]:
-                  Daemon(PROGRAM, *words, f"gps0=file:{path}")) for gap in GAPS]
+                  Daemon(PROGRAM, *words, f"gps0=file:{path}")) for gap in [None, *gaps]]
     if os.path.exists(GPSD):
         sides.append(Side("gpsd", lambda path: Gpsd(GPSD, path)))
     time.sleep(1)
     before, begun = [side.daemon.wakeups() for side in sides], time.monotonic()
-    for number in range(RATE * SECONDS):
-        data, moment = burst(number)
-        due = begun + number / RATE
-        for at in range(0, len(data), PIECE if BAUD else len(data)):
-            piece = data[at:at + PIECE] if BAUD else data
-            time.sleep(max(0, due + (10 * (at + len(piece)) / BAUD if BAUD else 0) - time.monotonic()))
+    for number in range(rate * SECONDS):
+        data, moment = burst(number, rate, baud)
+        due = begun + number / rate
+        for at in range(0, len(data), PIECE if baud else len(data)):
+            piece = data[at:at + PIECE] if baud else data
+            time.sleep(max(0, due + (10 * (at + len(piece)) / baud if baud else 0) - time.monotonic()))
             for side in sides:
                 side.send(piece, moment)
     time.sleep(max(0, begun + SECONDS - time.monotonic()))
@@ -86,4 +95,5 @@ def main():
         side.daemon.stop()
 
 
-main()
+for row in [(int(sys.argv[3]), int(sys.argv[4]), list(map(int, sys.argv[5:])))] if len(sys.argv) > 5 else ROWS:
+    measured(*row)

@@ -1,7 +1,8 @@
 /* The work of `gpsrelay decode` as a careful C program does it: a yardstick for bench.py, which builds it with `cc -O2`.
  *
  * It cuts sentences of NMEA 0183 and u-blox frames with right checksums out of standard input, reads GGA, RMC, GLL, GSA, GSV, VTG, ZDA,
- * NAV-PVT, NAV-SAT, NAV-DOP and NAV-EOE, groups them into epochs, and writes the same lines for the fixes and skies. Left out: the limit
+ * NAV-PVT, NAV-SAT, NAV-DOP and NAV-EOE, groups them into epochs, and writes the same lines for the fixes and skies. With `-DWIDE` its inner
+ * loops take sixteen bytes at a time, which makes a second program to compare with (decode_wide.h, for x86-64). Left out: the limit
  * of the history, and any care for hostile input (an epoch with many satellites takes quadratic time). At a failed read it writes the
  * epoch that is open, too. tests/rows_c.py runs the rows of `decode` over it.
  */
@@ -20,6 +21,7 @@ static Num day_of(int64_t y, int64_t m, int64_t d) {
 
 /* ---- sentences */
 
+#ifndef WIDE
 static Field next(Text *rest, Text end) {
     Field field = {*rest, *rest};
     if (*rest == end) return field;
@@ -28,11 +30,17 @@ static Field next(Text *rest, Text end) {
     *rest = field.end;
     return field;
 }
+#endif
 
 static int is_text(Field f, const char *text) { return f.end - f.at == (long)strlen(text) && !memcmp(f.at, text, strlen(text)); }
 
 /* at most nine digits, and behind a point any number: the value times 10^decimals; counts of digits before and behind, -1 without a point */
-static int numeral(Text at, Text end, int decimals, int64_t *value, int *before, int *behind) {
+#ifdef WIDE
+static int numeral_by_bytes
+#else
+static int numeral
+#endif
+    (Text at, Text end, int decimals, int64_t *value, int *before, int *behind) {
     int64_t n = 0;
     Text start = at;
     while (at < end && (unsigned)(*at - '0') < 10) n = 10 * n + *at++ - '0';
@@ -116,8 +124,12 @@ static int kind_of(Text a) {
 }
 
 static void read_sentence(Text body, Text end) {
+#ifdef WIDE
+    Text rest = begin_fields(body);
+#else
     Text rest = body;
     while (rest < end && *rest != ',') rest++;
+#endif
     Said note;
     memset(&note, 0, sizeof note);
     note.kind = rest - body == 5 ? kind_of(body) : OTHER;
@@ -185,7 +197,11 @@ static void read_sentence(Text body, Text end) {
         FIELDS(3);
         int system = !memcmp(body, "GP", 2) ? 0 : !memcmp(body, "GL", 2) ? 6 : !memcmp(body, "GA", 2) ? 2 : !memcmp(body, "GB", 2) ? 3 : -1, signal = -1;
         size_t count = 0;
+#ifdef WIDE
+        count = fields_left(&f[8].at);
+#else
         for (Text at = rest; at < end; at++) if (*at == ',') count++, f[8].at = at + 1;
+#endif
         if (count % 4 == 1 && end - f[8].at == 1) signal = hex_value(*f[8].at);
         for (size_t k = 0; k < count / 4; k++) {
             Num id = up_to(next(&rest, end), 999, 0), el = scaled(next(&rest, end), 0), az = up_to(next(&rest, end), 360, 0), ss = up_to(next(&rest, end), 99, 0);
@@ -256,14 +272,23 @@ static void read_frame(Text frame, size_t len) {
 
 /* ---- packets: the bytes that are taken from `at` on, 0 if more must come first */
 
+#ifdef WIDE
+static unsigned char in[INPUT_SIZE + INPUT_BEHIND];
+#endif
+
 static size_t take_sentence(Text at, size_t left) {
     size_t len = 0;
     unsigned sum = 0;
     Text body = at + 1;
+#ifdef WIDE
+    len = body_length(body, left - 1, &sum);
+    if (len > LONGEST_BODY) return 1;
+#else
     while (len + 1 < left && body[len] >= ' ' && body[len] <= '~' && body[len] != '$' && body[len] != '*') {
         if (len == 123) return 1;
         sum ^= body[len++];
     }
+#endif
     if (len + 1 == left) return 0;
     if (body[len] != '*' || !len) return 1;
     Text p = body + len + 1;
@@ -288,20 +313,33 @@ static size_t take_frame(Text at, size_t left) {
     if (len > 2048) return 1;
     if (left < len + 8) return 0;
     unsigned char a = 0, b = 0;
+#ifdef WIDE
+    sums_of(in, (size_t)(at - in) + 2, len + 4, &a, &b);
+#else
     for (size_t k = 2; k < len + 6; k++) b += a += at[k];
+#endif
     if (a != at[len + 6] || b != at[len + 7]) return 1;
     read_frame(at, len + 8);
     return len + 8;
 }
 
 int main(void) {
+#ifdef WIDE
+    const size_t room = INPUT_SIZE;
+    begin_loops();
+#else
     static unsigned char in[1 << 15];
+    const size_t room = sizeof in;
+#endif
     size_t len = 0;
     ssize_t n;
     begin_epoch();
-    while ((n = read(0, in + len, sizeof in - len)) > 0) {
+    while ((n = read(0, in + len, room - len)) > 0) {
         len += (size_t)n;
         size_t at = 0;
+#ifdef WIDE
+        begin_input();
+#endif
         while (at < len) {
             size_t took = in[at] == '$' ? take_sentence(in + at, len - at) : in[at] == 0xB5 ? take_frame(in + at, len - at) : 1;
             if (!took) break;

@@ -44,6 +44,9 @@ static void flush(void) {
 
 #define PUT(text) (memcpy(p, text, sizeof(text) - 1), p += sizeof(text) - 1)
 
+#ifdef WIDE
+#include "decode_wide.h"
+#else
 static unsigned char *put_number(unsigned char *p, uint64_t n) {
     unsigned char digits[20];
     int at = 20;
@@ -56,6 +59,7 @@ static unsigned char *put_digits(unsigned char *p, uint64_t n, int count) {
     for (int k = count; k--; n /= 10) p[k] = '0' + n % 10;
     return p + count;
 }
+#endif
 
 static unsigned char *put_scaled(unsigned char *p, int64_t value, int decimals, uint64_t unit) {
     uint64_t n = value < 0 ? -(uint64_t)value : (uint64_t)value;

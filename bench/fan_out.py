@@ -1,12 +1,12 @@
 #!/usr/bin/env python3
 """Measures the daemon as its clients see it, and gpsd beside it if it is installed.
 
-Use: fan_out.py PROGRAM [SENTENCES [CLIENTS]]. A receiver behind TCP sends sentences as fast as they are taken; the clients watch in JSON.
+Use: fan_out.py PROGRAM [SENTENCES [CLIENTS [PART...]]]. A receiver behind TCP sends sentences as fast as they are taken; the clients watch in JSON.
 Printed: the time until all have all lines, the daemon's processor time a line, whether all streams are the same, peak memory (with
 queues so long that no client overruns); the same with the default queues, from a FIFO that keeps at most AHEAD fixes ahead of the
-slowest client; the time from a sentence's last byte to a
-client's first byte at ten sentences a second; the processor time of idle clients; and the longest silence of a quick client beside
-three that never read, from its first fix on.
+slowest client; the processor time of idle clients; the longest silence of a quick client beside three that never read, from its first fix
+on; and the time from a sentence's last byte to a client's first byte at ten sentences a second, both daemons by turns. With PARTs only
+those of fan_out, from_fifo, idle, stuck and latency.
 """
 import os
 import selectors
@@ -24,6 +24,7 @@ PROGRAM = os.path.abspath(sys.argv[1])
 SENTENCES = int(sys.argv[2]) if len(sys.argv) > 2 else 100_000
 CLIENTS = int(sys.argv[3]) if len(sys.argv) > 3 else 64
 AHEAD = 2_000
+SAMPLES = 200  # sentences of which the time to a client is taken
 GPSD = shutil.which("gpsd") or shutil.which("gpsd", path="/usr/sbin")
 MIDNIGHT = 1717200000  # of 2024-06-01
 
@@ -127,28 +128,43 @@ def from_fifo(kind):
         fan_out(kind, fifo=True)
 
 
-def latency(kind):
-    run = Run(kind)
-    client = run.client(b'?WATCH={"enable":true,"nmea":true};\n')
-    send = run.sender()
-    time.sleep(0.5)
-    client.receive(seconds=2)
-    while client.receive(seconds=0.3):
-        pass
-    waits = []
-    for line in stream(120):
-        send(line)
+class Answers:
+    """A daemon with one client that watches sentences, and how long each took to it."""
+
+    def __init__(self, kind):
+        self.kind, self.run, self.waits = kind, Run(kind), []
+        self.client = self.run.client(b'?WATCH={"enable":true,"nmea":true};\n')
+        self.send = self.run.sender()
+        time.sleep(0.5)
+        self.client.receive(seconds=2)
+        while self.client.receive(seconds=0.3):
+            pass
+
+    def ask(self, line):
+        self.send(line)
         begun = time.monotonic()
-        if client.receive(seconds=3) is None:
-            continue
-        waits.append((time.monotonic() - begun) * 1000)
-        time.sleep(0.1)
-    waits = sorted(waits[20:])
-    if waits:
-        print(f"{kind:9} from a sentence's last byte to the client's first: {waits[len(waits) // 2]:.2f} ms at the middle, "
-              f"{waits[int(len(waits) * 0.99) - 1]:.2f} ms at the 99th of a hundred", flush=True)
-    client.close()
-    run.end()
+        if self.client.receive(seconds=3) is not None:
+            self.waits.append((time.monotonic() - begun) * 1000)
+
+    def middle(self):
+        waits = sorted(self.waits[20:])
+        print(f"{self.kind:9} from a sentence's last byte to the client's first: {waits[len(waits) // 2]:.2f} ms at the middle, "
+              f"{waits[len(waits) // 10]:.2f} ms at the tenth of a hundred, {waits[int(len(waits) * 0.99) - 1]:.2f} ms at the 99th", flush=True)
+        self.client.close()
+        self.run.end()
+        return waits[len(waits) // 2]
+
+
+def latency(kinds):
+    """The daemons by turns, sentence by sentence, so that a busy machine delays both alike."""
+    sides = [Answers(kind) for kind in kinds]
+    for line in stream(SAMPLES + 20):
+        for side in sides:
+            side.ask(line)
+            time.sleep(0.1 / len(sides))
+    middles = [side.middle() for side in sides]
+    if len(middles) == 2:
+        print(f"          that is {middles[0] / middles[1]:.2f} of gpsd's", flush=True)
 
 
 def idle(kind):
@@ -199,6 +215,10 @@ def stuck(kind):
     run.end()
 
 
-for part in fan_out, from_fifo, latency, idle, stuck:
-    for kind in ("gpsrelay",) + (("gpsd",) if GPSD else ()):
-        part(kind)
+KINDS = ["gpsrelay", "gpsd"] if GPSD else ["gpsrelay"]
+PARTS = sys.argv[4:] or ["fan_out", "from_fifo", "idle", "stuck", "latency"]
+for part in fan_out, from_fifo, idle, stuck:
+    for each in KINDS if part.__name__ in PARTS else []:
+        part(each)
+if "latency" in PARTS:
+    latency(KINDS)

@@ -8,6 +8,7 @@ A stream is some KB: sentences and frames of all kinds, with fields that are rig
 packets, packets in packets, junk, and long runs of one byte. `decode` and `pseudo` read it, some with a short history. `replay` plays a
 script that brings the same bytes in random pieces, between edges, requests, takes, stores and loads; some scripts have a line that is
 refused. Output, status and standard error are compared. A stream that differs is kept in a folder, which is named; the status is then 1.
+As many run at a time as there are processors (`taskset` makes it fewer).
 """
 import os
 import random
@@ -364,9 +365,9 @@ def outcome(program, words):
 
 def compared(call):
     """The runs of one stream that differ, the statuses, and how many bytes were read and written."""
-    number, old, new = call
+    number, old, new, make = call
     differing, statuses, read, written = [], Counter(), 0, 0
-    for words, given in cases(number):
+    for words, given in make(number):
         FILES.fill(given)
         one, other = outcome(old, words), outcome(new, words)
         statuses[f"{words[0]} {one[1]}"] += 1
@@ -386,15 +387,16 @@ def keep(folder, number, words, given, one, other):
     print(f"FAILED  stream {number}, {' '.join(words)}: other {', '.join(parts)} (statuses {one[1]} and {other[1]}), see {name}.*", flush=True)
 
 
-def main():
+def main(make, use):
+    """Compares the runs that `make` gives for each number; `use` says how the script is called."""
     if len(sys.argv) not in (4, 5):
-        sys.exit(__doc__)
+        sys.exit(use)
     old, new = (os.path.abspath(path) for path in sys.argv[1:3])
     first = int(sys.argv[4]) if len(sys.argv) == 5 else 1
     numbers = range(first, first + int(sys.argv[3]))
     statuses, read, written, failed, folder, begin = Counter(), 0, 0, 0, None, time.monotonic()
-    with Pool(os.cpu_count(), begin_worker) as pool:
-        for number, differing, here, came, went in pool.imap_unordered(compared, ((number, old, new) for number in numbers), chunksize=8):
+    with Pool(len(os.sched_getaffinity(0)), begin_worker) as pool:
+        for number, differing, here, came, went in pool.imap_unordered(compared, ((number, old, new, make) for number in numbers), chunksize=8):
             statuses, read, written = statuses + here, read + came, written + went
             failed += bool(differing)
             for run in differing:
@@ -408,4 +410,4 @@ def main():
 
 
 if __name__ == "__main__":
-    main()
+    main(cases, __doc__)

@@ -2,17 +2,19 @@
 """The program for arm64: its proof, its build, and the program under qemu beside the one for x86-64.
 
 Use: arm.py PROGRAM [ARM]. PROGRAM is the program for x86-64. ARM is a program for arm64 to try; without it one is proved and built, over the
-libraries as `rt ci` has left them. Prints a line for each check, and ends with 1 if one fails. The proof needs only the toolchain: one or
+libraries that `rt ci` has proved. Prints a line for each check, and ends with 1 if one fails. The proof needs only the toolchain: one or
 two minutes over what a check kept, some five from nothing. The rest needs gcc-aarch64-linux-gnu, libc6-dev-arm64-cross and qemu-user, and
 takes some five minutes. What is missing is skipped. qemu shows neither the order of memory of an ARM processor nor its speed.
 """
 import hashlib
 import os
+import random
 import re
 import shutil
 import subprocess
 import sys
 import tempfile
+from collections import Counter
 from concurrent.futures import ThreadPoolExecutor
 
 from checks import check, exit_status, slowness
@@ -20,9 +22,14 @@ from harness import sample_path
 
 HERE = os.path.dirname(os.path.abspath(__file__))
 TOP = os.path.dirname(HERE)
-TOOL = os.path.join(TOP, "tools", "build_arm64.py")
+sys.dont_write_bytecode = True
+sys.path.insert(0, os.path.join(TOP, "tools"))
+import build_arm64  # noqa: E402
+import build_kit  # noqa: E402
+
+TOOL, KEPT = (os.path.join(TOP, "tools", name) for name in ("build_arm64.py", "kept_libraries.py"))
 LIBRARIES = "/usr/aarch64-linux-gnu/lib"  # of libc6-dev-arm64-cross
-QEMU, COMPILER = "qemu-aarch64", "aarch64-linux-gnu-gcc"
+QEMU, COMPILER, DISASSEMBLER = "qemu-aarch64", "aarch64-linux-gnu-gcc", "aarch64-linux-gnu-objdump"
 # Scripts that hold for the program under qemu as they do on x86-64. The longest is begun first.
 SCRIPTS = "rows.py", "replay.sh", "words.py", "upstream.py", "last_bytes.py"
 # In these a limit of memory or threads ends qemu itself, which needs more of both than the program, or its own memory is counted.
@@ -31,6 +38,10 @@ STREAMS = 500
 SIDE_BY_SIDE = 2
 LONGEST = 400  # seconds for one script on an idle machine; most take 15 there, rows.py 140
 TARGET = "target=aarch64-unknown-linux-gnu"
+# Of instructions for atomic steps: those that a sequentially consistent load, store or exchange becomes, and all that order less or that the code for
+# the first ARMv8 does not have.
+ORDERED = re.compile(r"(ldar|stlr|ldaxr|stlxr)[bh]?")
+OTHERS = re.compile(r"ldxr[bh]?|ldxp|stxr[bh]?|stxp|ldaxp|stlxp|ldapu?r\w*|ldlar[bh]?|stllr[bh]?|casp?[al]?\w*|swp\w*|(ld|st)(add|clr|eor|set|[su]max|[su]min)\w*")
 
 
 def skip(text):
@@ -57,6 +68,11 @@ def build(room):
     """The path of the program for arm64, proved and built, or None. Without a C compiler for arm64 it is only proved."""
     if not shutil.which("rt"):
         return skip("the proof for arm64, which needs the toolchain's rt")
+    if lacks := build_kit.lacking(build_kit.toolchain("arm.py"), build_arm64.NEEDS):
+        return skip(f"the proof for arm64, as this kit's rt has no {', '.join(lacks)}")
+    # When `rt ci` has ended, libraries that this checkout had before are in their places again. They fit only each other, and may be of another text.
+    # If this kit keeps what `rt ci` proved, that takes their places.
+    subprocess.run([sys.executable, KEPT, "gpsrelay"], capture_output=True)
     can_link = subprocess.run([sys.executable, TOOL, "--look"], capture_output=True, text=True)
     arm = os.path.join(room, "gpsrelay")
     ran = subprocess.run([sys.executable, TOOL, "--after-gate", "--check" if can_link.returncode else arm], capture_output=True, text=True)
@@ -66,6 +82,21 @@ def build(room):
     if can_link.returncode:
         return skip(f"the build for arm64: {can_link.stderr.strip()}")
     return None if ran.returncode else arm
+
+
+def atomic_steps(arm):
+    """Each atomic step of the program is a sequentially consistent one."""
+    if not shutil.which(DISASSEMBLER):
+        return skip(f"the atomic steps of the program for arm64, which need {DISASSEMBLER}")
+    ran = subprocess.run([DISASSEMBLER, "-d", "--no-show-raw-insn", arm], capture_output=True, text=True, check=True)
+    found = Counter(re.findall(r"^\s+[0-9a-f]+:\t(\w+)", ran.stdout, re.M))
+    steps = Counter()
+    for name, count in found.items():
+        if ordered := ORDERED.fullmatch(name):
+            steps[ordered[1]] += count
+    check(f"atomic steps, each in one order: {dict(steps)}", True, all(steps[it] for it in ("ldar", "stlr", "ldaxr")) and steps["ldaxr"] == steps["stlxr"])
+    check("and none with less order", [], [name for name in found if OTHERS.fullmatch(name)])
+    return None
 
 
 def commands(noise):
@@ -90,8 +121,8 @@ def gives(program, words, path):
 def same_bytes(x86, arm, room):
     """Bytes, messages and statuses, beside those of the program for x86-64."""
     noise, lines = os.path.join(room, "noise"), os.path.join(room, "lines")
-    with open(sys.executable, "rb") as it, open(noise, "wb") as out:
-        out.write(it.read(300_000))
+    with open(noise, "wb") as out:
+        out.write(random.Random(1).randbytes(300_000))
     with open(lines, "wb") as out:
         out.write(output(x86, "decode", sample_path("drive.nmea")).stdout)
     for words, path in [*commands(noise), ("lines", lines)]:
@@ -99,7 +130,7 @@ def same_bytes(x86, arm, room):
         check(f"{words}, from {os.path.basename(path)}: as on x86-64, {found[1]} bytes, status {found[0]}", gives(x86, words, path), found)
 
 
-def script(name, arm):
+def script(name, _, arm):
     """One of the other scripts over the program for arm64: its failures, and how many checks it made."""
     call = ["bash" if name.endswith(".sh") else sys.executable, os.path.join(HERE, name), arm]
     longest = LONGEST * slowness()
@@ -111,22 +142,23 @@ def script(name, arm):
     return (failed or [ran.returncode, ran.stderr[-1000:]])[:3] if ran.returncode else [], ran.stdout.count("\nok") + ran.stdout.startswith("ok")
 
 
-def tried(name, arm):
-    """As .ci/run does, a script that fails is tried once more: some of its checks are of times, which a busy machine may miss."""
-    failed, count = script(name, arm)
-    return script(name, arm) if failed else (failed, count)
-
-
-def random_streams(x86, arm):
+def random_streams(_, x86, arm):
     call = [sys.executable, os.path.join(TOP, "bench", "random_streams.py"), x86, arm, str(STREAMS)]
     ran = subprocess.run(call, capture_output=True, text=True, timeout=2 * LONGEST * slowness())
     return [] if ran.returncode == 0 else [ran.returncode, ran.stdout[-1000:], ran.stderr[-1000:]], STREAMS
 
 
+def tried(run, *given):
+    """As .ci/run does, what fails is tried once more: some of its checks are of times, which a busy machine may miss."""
+    failed, count = run(*given)
+    return run(*given) if failed else (failed, count)
+
+
 def scripts(x86, arm):
     """The other scripts and the random streams, side by side."""
     with ThreadPoolExecutor(SIDE_BY_SIDE) as pool:
-        runs = [(name, pool.submit(tried, name, arm)) for name in SCRIPTS] + [(f"{STREAMS} random streams", pool.submit(random_streams, x86, arm))]
+        calls = [(name, script) for name in SCRIPTS] + [(f"{STREAMS} random streams", random_streams)]
+        runs = [(name, pool.submit(tried, call, name, x86, arm)) for name, call in calls]
         for name, run in runs:
             failed, count = run.result()
             check(f"{name} under qemu", [], failed)
@@ -182,6 +214,8 @@ def main():
     with tempfile.TemporaryDirectory() as room:
         answers_without(room)
         arm = os.path.realpath(sys.argv[2]) if len(sys.argv) == 3 else build(room)
+        if arm:
+            atomic_steps(arm)
         if arm and not (shutil.which(QEMU) and os.path.isdir(LIBRARIES)):
             skip("the program for arm64 is not run: that needs qemu-user and libc6-dev-arm64-cross")
         elif arm:

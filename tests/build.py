@@ -110,7 +110,7 @@ STARTS = "import subprocess, sys\nsubprocess.run(sys.argv[2:], executable=sys.ex
 
 
 def gate_table():
-    """A prover below this checkout, one in another folder, and one in another folder that an rt of this checkout started."""
+    """Provers below this checkout, one of them for arm64, one in another folder, and one in another folder that an rt of this checkout started."""
     with tempfile.TemporaryDirectory() as elsewhere:
         edited, table, rt = os.path.join(elsewhere, "rt-edit-1"), os.path.join(elsewhere, "table"), os.path.join(elsewhere, "rt")
         os.mkdir(edited)
@@ -118,6 +118,7 @@ def gate_table():
             it.write(STARTS)
         prover = lambda name: ["/kit/rattle", "-c", BUSY, "--crate-name", name]
         ran = [subprocess.Popen(prover("mine"), executable=sys.executable, cwd=TOP),
+               subprocess.Popen([*prover("for_arm"), "--target", "aarch64-unknown-linux-gnu"], executable=sys.executable, cwd=TOP),
                subprocess.Popen(prover("others"), executable=sys.executable, cwd=elsewhere),
                subprocess.Popen([sys.executable, rt, edited, *prover("edited")], cwd=TOP)]
         watcher = subprocess.Popen([sys.executable, os.path.join(TOP, "tests", "gate_times.py"), table])
@@ -127,9 +128,10 @@ def gate_table():
         watcher.wait()
         with open(table, encoding="utf-8") as it:
             rows = {row.split()[0]: [float(it) > 0 for it in row.split()[1:]] for row in it.read().splitlines()[1:] if not row.startswith("rt itself")}
-        check("the gate's table has what works below this checkout: in proofs", [True, False, False, True], rows.get("mine"))
-        check("and an edit in a temporary folder, in edits", [False, False, True, True], rows.get("edited"))
-        check("and nothing else", ["edited", "mine", "together"], sorted(rows))
+        check("the gate's table has what works below this checkout: in proofs", [True, False, False, False, True], rows.get("mine"))
+        check("and an edit in a temporary folder, in edits", [False, False, True, False, True], rows.get("edited"))
+        check("and a proof for arm64, in a column of its own", [False, False, False, True, True], rows.get("for_arm"))
+        check("and nothing else", ["edited", "for_arm", "mine", "together"], sorted(rows))
 
 
 if shutil.which("rt"):

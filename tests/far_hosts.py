@@ -182,6 +182,8 @@ def places():
         return found
 
     check("places: one client more is closed without a byte", b"", newcomer())
+    # What a host has not acknowledged is sent again for minutes, and is no silence: so all is to be acknowledged before the cut.
+    check("places: all clients have what they were sent", True, until(lambda: unacknowledged(pair.near) == 0))
     pair.cut()
     for client in clients:
         client.close()
@@ -193,11 +195,21 @@ def places():
     daemon.stop()
 
 
-def open_links(namespace):
-    """How many connections to the daemon's port are established."""
+def links(namespace):
+    """The rows of the established connections to the daemon's port in the system's table."""
     with inside(namespace), open(f"/proc/self/task/{threading.get_native_id()}/net/tcp") as it:
         rows = [row.split() for row in it.read().splitlines()[1:]]
-    return sum(row[1].endswith(f":{PORT:04X}") and row[3] == "01" for row in rows)
+    return [row for row in rows if row[1].endswith(f":{PORT:04X}") and row[3] == "01"]
+
+
+def open_links(namespace):
+    """How many connections to the daemon's port are established."""
+    return len(links(namespace))
+
+
+def unacknowledged(namespace):
+    """On how many of them something was sent that is not acknowledged yet."""
+    return sum(not row[4].startswith("00000000:") for row in links(namespace))
 
 
 def asks(pair, name, *daemons):

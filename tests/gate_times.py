@@ -1,5 +1,5 @@
 #!/usr/bin/env python3
-"""Processor time that the prover takes for each crate: its proofs, its tests and its must-fail edits, and what rt takes itself.
+"""Processor time that the prover takes for each crate: its proofs, its tests, its must-fail edits and its proof for arm64, and what rt takes itself.
 
 Use: gate_times.py FILE, beside a run of the gate. It looks twice a second at the processes of the prover and of rt that belong to this
 checkout. What else the machine proves is not counted. When it is ended by SIGTERM it writes one line a crate to FILE, the dearest first,
@@ -13,7 +13,8 @@ import time
 
 TICKS = os.sysconf("SC_CLK_TCK")
 TOP = os.path.dirname(os.path.dirname(os.path.realpath(__file__)))
-KINDS = ("proofs", "tests", "edits")
+KINDS = ("proofs", "tests", "edits", "arm64")
+ARM64 = "aarch64-unknown-linux-gnu"  # what a check for arm64 is told as its target
 
 
 class Process:
@@ -34,6 +35,14 @@ class Process:
     def is_rt(self):
         return any(os.path.basename(it) == "rt" for it in self.words[:3])
 
+    def kind(self):
+        """The kind of work of a prover."""
+        if "/rt-edit-" in self.folder:
+            return "edits"
+        if "--test" in self.words:
+            return "tests"
+        return "arm64" if ARM64 in self.words else "proofs"
+
     def is_ours(self):
         """Whether it works below this checkout, or for an rt that does: an edit is checked in a temporary folder."""
         it = self
@@ -53,8 +62,7 @@ def look():
                 if it.is_here():
                     yield it.key, None, None, it.seconds
             elif it.words[0].endswith("/rattle") and "--crate-name" in it.words and it.is_ours():
-                kind = "edits" if "/rt-edit-" in it.folder else "tests" if "--test" in it.words else "proofs"
-                yield it.key, it.words[it.words.index("--crate-name") + 1], kind, it.seconds
+                yield it.key, it.words[it.words.index("--crate-name") + 1], it.kind(), it.seconds
         except (OSError, IndexError):
             continue
 
@@ -78,7 +86,7 @@ def main():
         total = {kind: sum(row[kind] for row in table.values()) for kind in KINDS}
         for crate, row in rows:
             print(f"{crate:<16}" + "".join(f"{row[kind]:>9.0f}" for kind in KINDS) + f"{sum(row.values()):>9.0f}", file=out)
-        print(f"{'rt itself':<43}{own:>9.0f}", file=out)
+        print(f"{'rt itself':<{16 + 9 * len(KINDS)}}{own:>9.0f}", file=out)
         print(f"{'together':<16}" + "".join(f"{total[kind]:>9.0f}" for kind in KINDS) + f"{sum(total.values()) + own:>9.0f}", file=out)
 
 

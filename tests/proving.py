@@ -52,11 +52,13 @@ def write(path, text):
 
 
 def repository(room, body_of_b):
+    """Its files name the folder, so that rt has kept nothing of them: not from an earlier run on this machine, nor from the other folder."""
+    own = f"// in {os.path.basename(room)}\n"
     write(os.path.join(room, "HANDLES"), "Handles allowed: none.\n")
     write(os.path.join(room, "crates.txt"), "low_a:\nlow_b:\ntop: low_a low_b\n")
-    write(os.path.join(room, "crates", "low_a", "src", "lib.rt"), LIBRARY.format(body=GOOD) + "// longer than the other, so it is begun first\n")
-    write(os.path.join(room, "crates", "low_b", "src", "lib.rt"), LIBRARY.format(body=body_of_b))
-    write(os.path.join(room, "crates", "top", "src", "main.rt"), PROGRAM)
+    write(os.path.join(room, "crates", "low_a", "src", "lib.rt"), LIBRARY.format(body=GOOD) + own + "// longer than the other, so it is begun first\n")
+    write(os.path.join(room, "crates", "low_b", "src", "lib.rt"), LIBRARY.format(body=body_of_b) + own)
+    write(os.path.join(room, "crates", "top", "src", "main.rt"), PROGRAM + own)
 
 
 def started(words, cwd, env=None, processors=None):
@@ -73,6 +75,14 @@ def stamp_of(room, crate):
     """When a library was last proved, or None if it is not. rt takes a library without this file for none."""
     path = os.path.join(room, "crates", crate, "out", "rlib", "stamp")
     return os.stat(path).st_mtime_ns if os.path.exists(path) else None
+
+
+def is_prover(pid):
+    try:
+        with open(f"/proc/{pid}/cmdline", "rb") as it:
+            return it.read().partition(b"\0")[0].endswith(b"/rattle")
+    except OSError:
+        return False
 
 
 def workers(room, crate=""):
@@ -110,7 +120,9 @@ def interrupted(room):
     was = stamp_of(room, "low_a")
     for number in signal.SIGINT, signal.SIGTERM, signal.SIGKILL:
         ran = build(room)
-        check(f"{number.name}: the library is being proved", True, bool(waited(lambda: workers(room, "low_b"))))
+        # rt's guard ends a check that has begun. Only a build that can still act ends one that is just being started too.
+        has_begun = is_prover if number == signal.SIGKILL else bool
+        check(f"{number.name}: the library is being proved", True, bool(waited(lambda: any(map(has_begun, workers(room, "low_b"))))))
         time.sleep(random.uniform(0, 1))
         ran.send_signal(number)
         _, said = ran.communicate()

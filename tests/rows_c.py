@@ -1,7 +1,7 @@
 #!/usr/bin/env python3
-"""The rows of `decode` over the C program of bench/decode.c, built with `gcc -O2`. rows.py has the same rows over gpsrelay.
+"""The rows of `decode` over the C program of bench/decode.c, in both its forms. rows.py has the same rows over gpsrelay.
 
-Use: rows_c.py, from anywhere; it needs only gcc. Prints a line for each table and for each row of faults, and ends with 1 if a row fails.
+Use: rows_c.py, from anywhere; it needs only gcc. Builds the program with `-O2`, and on x86-64 also with `-O3 -DWIDE`. Prints a line for each table and for each row of faults, and ends with 1 if a row fails.
 What the C program leaves out by design is named and counted apart:
 
  - it has no options, so rows of `--history` are not run;
@@ -9,6 +9,7 @@ What the C program leaves out by design is named and counted apart:
    after the expected one.
 """
 import os
+import platform
 import subprocess
 import sys
 import tempfile
@@ -27,11 +28,12 @@ def goes_on(wanted, found):
     return found[0] == wanted[0] and found[1] != wanted[1] and found[1].startswith(wanted[1])
 
 
-def main():
+def failed(words):
+    """Runs the rows over the program that gcc builds by these words: how many failed."""
     alike, bad, apart = 0, 0, []
     with tempfile.TemporaryDirectory() as folder:
         program = os.path.join(folder, "decode")
-        subprocess.run(["gcc", "-O2", "-o", program, SOURCE], check=True)
+        subprocess.run(["gcc", *words, "-o", program, SOURCE], check=True)
         for name, rows in (table for module in MODULES for table in module.TABLES):
             if plain := [row for row in rows if row[0] == ["decode"]]:
                 alike += len(plain)
@@ -48,8 +50,9 @@ def main():
                 print(f"FAILED  {name}:\n  wanted {wanted!r} and the open epoch\n  found  {found!r}")
     for name in apart:
         print(f"apart   {name}")
-    print(f"{alike} rows as gpsrelay must answer them, {len(apart)} apart, {bad} failed")
-    sys.exit(1 if bad else 0)
+    print(f"{alike} rows as gpsrelay must answer them, {len(apart)} apart, {bad} failed: gcc {' '.join(words)}")
+    return bad
 
 
-main()
+FORMS = [["-O2"], ["-O3", "-DWIDE"]] if platform.machine() == "x86_64" else [["-O2"]]
+sys.exit(1 if sum(map(failed, FORMS)) else 0)

@@ -14,6 +14,7 @@ What is proved is kept, so the next call goes on where this one was ended. If on
 their end, and no other is begun. What the prover says is added to TOP/out/proved.log. The status is 0, or that of `rt run`, or 1 if a
 crate is not proved. If the kit's rt lacks what this needs, it says so and calls `rt run`.
 """
+import contextlib
 import copy
 import dataclasses
 import os
@@ -266,9 +267,24 @@ def prove(crate, jobs):
         return status, crate.out.read()
 
 
+def just_started():
+    """The processes that this one has started and that are not yet in the process group of rt's guard."""
+    for pid in map(int, filter(str.isdigit, os.listdir("/proc"))):
+        try:
+            with open(f"/proc/{pid}/stat", encoding="utf-8", errors="replace") as it:
+                _, parent, group = it.read().rpartition(")")[2].split()[:3]
+        except OSError:
+            continue
+        if (int(parent), int(group)) == (os.getpid(), os.getpgrp()):
+            yield pid
+
+
 def end_early(number, _frame):
-    """At a signal: the guard of rt ends all checks as soon as this process is gone."""
+    """At a signal: the guard of rt ends all checks as soon as this process is gone. One that is just being started would join its group too late."""
     os.write(2, b"\nbuild_proved.py: ended early; the next call goes on from here\n")
+    for pid in just_started():
+        with contextlib.suppress(ProcessLookupError):
+            os.kill(pid, signal.SIGKILL)
     signal.signal(number, signal.SIG_DFL)
     os.kill(os.getpid(), number)
 

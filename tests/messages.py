@@ -70,7 +70,7 @@ def faults():
     ends("a speed behind a terminal", started(f"{terminal.word}:9600"), 3, f"file:{terminal.path}:9600 cannot be opened: no such file",
          f"gpsrelay-port {terminal.path} 9600")
     terminal.close()
-    # The system knows the address, so the reason is the connection's, and not that there is no such host.
+    # The system knows the address, so the reason is the connection's, and not an unknown host.
     scoped = started("g=tcp:[fe80::1%lo]:1")
     check("an address with a scope: status", 3, scoped.wait()[0])
     check("an address with a scope: the reason is of the connection", True, "before a byte came: " in scoped.said() and "no such" not in scoped.said() or scoped.said())

@@ -89,6 +89,7 @@ def datagrams_are_exact():
     made = time.time_ns()
     daemon.time("PPS", made, made)
     check("it connects again", datagram(made, made), pulses.next())
+    clock.says("first pulse of gps0", 2)  # it says so after it has sent the datagram
     check("it says how it ended", (0, "clock.py: ended"), clock.stop())
     place = f"127.0.0.1:{daemon.port}"
     said = [f"connected to {place}", "device gps0; the daemon has gps1 too, see --device", "gps0 has a fix",

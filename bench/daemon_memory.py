@@ -4,9 +4,8 @@
 Use: daemon_memory.py PROGRAM [CLIENTS [MEGABYTES]]. A daemon with one device behind TCP. Printed, in MB of memory in use: without a client;
 with CLIENTS (64) that watch in JSON, before anything was sent; and after MEGABYTES (1) of a receiver's sentences were read and all clients
 took their lines. Each is split: what is mapped from files, the heap, the stacks of threads (with the KB of one), the arenas that the C
-library makes for threads, and what else is anonymous. The same is done with `--queue 1`, which shows what the clients' lanes take; with
-`--history 1`, which shows what the log takes; and with `MALLOC_ARENA_MAX=2` in the environment. Last come the wake-ups a second, without a
-client. Root is needed to tell the stacks apart.
+library makes for threads, and what else is anonymous. The same is done with `--queue 1`, which shows what the clients' lanes take, and with
+`MALLOC_ARENA_MAX=2` in the environment. Last come the wake-ups a second, without a client. Root is needed to tell the stacks apart.
 """
 import os
 import selectors
@@ -24,7 +23,7 @@ SIZE = int(1e6 * float(sys.argv[3])) if len(sys.argv) > 3 else 1_000_000
 ARENA = 64 << 20  # the C library's arenas of threads begin at a multiple of this
 SECONDS = 4
 KINDS = ["files", "heap", "stacks", "arenas", "other"]
-FORMS = {"default": ([], {}), "--queue 1": (["--queue", "1"], {}), "--history 1": (["--history", "1"], {}), "MALLOC_ARENA_MAX=2": ([], {"MALLOC_ARENA_MAX": "2"})}
+FORMS = {"default": ([], {}), "--queue 1": (["--queue", "1"], {}), "MALLOC_ARENA_MAX=2": ([], {"MALLOC_ARENA_MAX": "2"})}
 
 
 def stack_places(daemon):

@@ -33,7 +33,7 @@ QEMU, COMPILER, DISASSEMBLER = "qemu-aarch64", "aarch64-linux-gnu-gcc", "aarch64
 # Scripts that hold for the program under qemu as they do on x86-64. The longest is begun first.
 SCRIPTS = "rows.py", "replay.sh", "words.py", "upstream.py", "last_bytes.py"
 # In these a limit of memory or threads ends qemu itself, which needs more of both than the program, or its own memory is counted.
-LEFT_OUT = "program.sh", "messages.py", "slow_clients.py", "faults.py", "serve.py", "soak.py", "memory.py"
+LEFT_OUT = "program.sh", "messages.py", "slow_clients.py", "faults.py", "serve.py", "soak.py", "memory.py", "flat_memory.py"
 STREAMS = 500
 SIDE_BY_SIDE = 2
 LONGEST = 400  # seconds for one script on an idle machine; most take 15 there, rows.py 140

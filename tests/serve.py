@@ -152,6 +152,24 @@ def crowd():
     check("the crowd: status", 0, daemon.wait()[0])
 
 
+def few_requests():
+    """`--requests 3`: three requests of each client are answered, and the next one closes its session alone."""
+    daemon, device = started("--requests", "3")
+    client = daemon.client()
+    client.line()
+    other = daemon.client()
+    other.line()
+    client.send(b"?DEVICES;?POLL;?VERSION;?VERSION;")
+    check("three requests are answered, and the fourth ends the session", ["DEVICES", "POLL", "VERSION"], classes_of(client.lines()))
+    other.send(b"?VERSION;")
+    check("another client has three of its own", VERSION, other.line())
+    device.end()
+    other.lines()
+    status, out = daemon.wait()
+    check("few requests: status", 0, status)
+    check("few requests: the closing lines", b"s0 drained toomany 4\ns1 drained daemonend 2\n", out)
+
+
 def stuck_client():
     """A client that never reads: it is ended, and nobody waits for it."""
     daemon, device = started("--queue", "4000")
@@ -291,4 +309,4 @@ def idle():
 
 
 many_files()
-sys.exit(run_parts(a_day, forms, bad_clients, crowd, stuck_client, devices, bursts, listening, idle))
+sys.exit(run_parts(a_day, forms, bad_clients, crowd, few_requests, stuck_client, devices, bursts, listening, idle))

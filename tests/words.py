@@ -145,6 +145,13 @@ REFUSED = [
     ("help decod", "decod: no such command; did you mean decode?"),
     ("help decode lines", "lines: help takes one command"),
     ("serve --queue 0 g=file:a", "--queue takes a whole number from 1 to 65536"),
+    ("serve --requests 0 g=file:a", "0: --requests takes a whole number from 1 to 4294967294"),
+    ("serve --requests 4294967295 g=file:a", "4294967295: --requests takes a whole number from 1 to 4294967294"),
+    ("serve --requests=-1 g=file:a", "--requests=-1: --requests takes a whole number from 1 to 4294967294"),
+    ("serve --requests", "--requests: the value is missing: a whole number from 1 to 4294967294"),
+    ("serve --requests 5 --requests 5 g=file:a", "--requests: the option is given twice"),
+    ("serve --request 5 g=file:a", "--request: no such option of serve; did you mean --requests?"),
+    ("replay --requests 5", "--requests: no such option of replay"),
     ("serve --wait 65 g=file:a", "--wait takes a whole number from 0 to 64"),
     ("serve --monitor 1000001 g=file:a", "--monitor takes a whole number from 0 to 1000000"),
     ("serve /dev/ttyUSB0", "/dev/ttyUSB0: say NAME=file:/dev/ttyUSB0"),
@@ -177,7 +184,8 @@ REFUSED = [
 # Words that ask for the whole help, and what it must say.
 HELP = ["help", "-h", "--help"]
 HELP_SAYS = ["serve", "decode", "pseudo", "lines", "replay", "generate", "--listen HOST:PORT", "127.0.0.1:2947", "--queue N", "1 to 65536",
-             "--history N", "1 to 33554432", "16777216", "--wait N", "0 to 64", "--monitor N", "0 to 1000000", "--seed N", "0 to 4294967295",
+             "--requests N", "1 to 4294967294", "--history N", "1 to 33554432", "16777216", "--wait N", "0 to 64", "--monitor N", "0 to 1000000",
+             "--seed N", "0 to 4294967295",
              "--size N", "1 to 10000", "NAME=file:PATH", "NAME=tcp:HOST:PORT", "NAME=gpsd:HOST:PORT",
              "NAME=edges:PATH", "--reopen SECONDS", "1 to 3600", "--cycle-gap MS", "1 to 10000", "--report SECONDS", "10 to 86400",
              "--stop PATH", "1 to 33554432, or all"]
@@ -187,7 +195,7 @@ HELP_OF = [
     ("help serve", "serve", ["--listen HOST:PORT", "--stop PATH", "--reopen SECONDS", "NAME=gpsd:HOST:PORT"], "--seed"),
     ("serve --help", "serve", ["--listen HOST:PORT"], "--seed"),
     ("serve -h", "serve", ["--listen HOST:PORT"], "--seed"),
-    ("serve --help g=file:a", "serve", ["--queue N"], "--seed"),
+    ("serve --help g=file:a", "serve", ["--queue N", "--requests N"], "--seed"),
     ("--help serve", "serve", ["--wait N"], "--seed"),
     ("serve --help -- g=file:a", "serve", ["--wait N"], "--seed"),
     ("help decode", "decode", ["--history N", "33554432, or all"], "--listen"),
@@ -195,6 +203,7 @@ HELP_OF = [
     ("help pseudo", "pseudo", ["RMC and GGA"], "--listen"),
     ("help lines", "lines", ["has no options"], "--history N"),
     ("help replay", "replay", ["--queue N"], "--listen"),
+    ("replay --help", "replay", ["--queue N"], "--requests"),
     ("generate --seed 1 --help", "generate", ["--size N"], "--listen"),
 ]
 

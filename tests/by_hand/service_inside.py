@@ -56,7 +56,7 @@ class Journal:
         return until(lambda: any(text in it for it in self.texts()), seconds, 0.3)
 
 
-def environment(devices, listen="127.0.0.1:2947", options="--history 1000000"):
+def environment(devices, listen="127.0.0.1:2947", options=""):
     with open(ENV, "w", encoding="utf-8") as it:
         it.write(f'DEVICES="{devices}"\nTERMINALS=\nSPEED=\nLISTEN={listen}\nOPTIONS="{options}"\n')
 

@@ -1,5 +1,5 @@
 -- What each call owes, over plain fields.
-use Rattle.std.proofs.Common.{◌≡◌, ◌≤◌, ◌<◌, ◌+◌, ◌*◌, ◌&&◌, ℕ, zero, suc, Bool, true, false, refl, sym, ap, ◌∙◌, subst, List, [], ◌∷◌, length, get_or, Option, Some, None, is_some, cond, map, max, nat_lt, arith}
+use Rattle.std.proofs.Common.{◌≡◌, ◌≤◌, ◌<◌, ◌+◌, ◌++◌, ◌*◌, ◌&&◌, ℕ, zero, suc, Bool, true, false, refl, sym, ap, ◌∙◌, subst, List, [], ◌∷◌, length, get_or, Option, Some, None, is_some, cond, map, max, nat_lt, arith}
 use Rattle.std.specs.List.{filter}
 use Rattle.std.proofs.Math.ListN.{set}
 use Rattle.std.proofs.Math.Seq.{map-set_same}
@@ -18,10 +18,9 @@ use Rattle.book_log.specs.Entries.{Entry, edged, ended, fed, lost, symbols_in}
 use Rattle.book_log.specs.Standing.{DeviceStateView, DeviceStatesView, has_stopped}
 use Rattle.book_log.specs.DeviceLogView.{LogHolds, DeviceLogView, running, runs, stopped_of, next_generation, turned_if, turns_at}
 use Rattle.book_log.specs.Steps.{ChangesAt, EndsAt, GoesAll, LosesAt, TakesSymbols, TakesAt}
-use Rattle.book_log.specs.Pieces.{LogView, Keeps}
-use Rattle.book_log.specs.Turning.{Called, IsNext, IsReady, generation_after, log_of, shown}
+use Rattle.book_log.specs.Turning.{Called, IsNext, generation_after, shown}
 use Rattle.book_log.proofs.Histories.{symbols_got}
-use Rattle.book_log.proofs.LoggedSteps.{added, began, few_run, ready_log, turned_if_holds}
+use Rattle.book_log.proofs.LoggedSteps.{added, began, turned_if_holds}
 use Rattle.book_log.proofs.SummarySteps.{edged_all, ended_all, fed_all, lost_all}
 
 is_running : (stage : DeviceStage) → has_stopped stage ≡ false → stage ≡ Running
@@ -105,50 +104,45 @@ piece_long at [] = refl
 piece_long at (byte ∷ bytes) = ap (λ n. suc n) (piece_long at bytes)
 
 -- a call that adds symbols, if a new generation begins before them if one is due
-pub called : (old : DeviceLogView) (devices present : DeviceStatesView) (limit number later : ℕ) (was current : Generation) (next : Option DeviceStatesView) (reserved log : LogView) (turns : Bool)
-    (entries : List Entry) (reports : List Report) (more bytes count : ℕ)
+pub called : (old : DeviceLogView) (devices present : DeviceStatesView) (limit number later : ℕ) (was current : Generation) (next : Option DeviceStatesView) (log : List Entry) (turns : Bool)
+    (entries : List Entry) (reports : List Report) (more count : ℕ)
     → LogHolds (shown devices limit number was) → shown devices limit number was ≡ old
     → 0 < more → more ≤ 512 → symbols_in entries ≡ more → turns ≡ turns_at (shown devices limit number was) more → IsNext turns devices next
-    → IsReady (length devices.lines) bytes (log_of next reserved) → reserved.entries ≡ was.log.entries
     → GoesAll devices present entries reports → running present ≡ running devices → length reports ≤ 2056 + more
-    → current ≡ generation_after next (record was { log = reserved }) → later ≡ cond (is_some next) (next_generation number) number
-    → Keeps current.log log entries → count ≡ length reports
+    → current ≡ generation_after next was → later ≡ cond (is_some next) (next_generation number) number
+    → log ≡ current.log ++ entries → count ≡ length reports
     → Called (turned_if (turns_at old more) old)
-    (shown present limit later (record { opening = current.opening; log = log; length = current.length + count; symbols = current.symbols + more })) entries reports log.room
-called old devices present limit number later was current next reserved log turns entries reports more bytes count h seen some few in_all due is_next ready same goes still short is_current is_number keeps long =
+    (shown present limit later (record { opening = current.opening; log = log; length = current.length + count; symbols = current.symbols + more })) entries reports
+called old devices present limit number later was current next log turns entries reports more count h seen some few in_all due is_next goes still short is_current is_number keeps long =
     let b = shown devices limit number was in
-    let P : List Entry → DeviceLogView = λ e. record { opening = was.opening; present = devices; log = e; length = was.length; symbols = was.symbols; limit = limit; generation = number } in
-    let mid_is : shown devices limit later current ≡ turned_if turns b =
-    began turns devices limit number later (record was { log = reserved }) current next is_next is_current is_number ∙ ap (λ e. turned_if turns (P e)) same in
+    let mid_is : shown devices limit later current ≡ turned_if turns b = began turns devices limit number later was current next is_next is_current is_number in
     let mid = shown devices limit later current in
     let h_mid : LogHolds mid = subst LogHolds (sym mid_is) (turned_if_holds turns b h) in
     let Q : DeviceLogView → Type 0 = λ m. m.symbols + more ≤ max m.limit 512 in
     let fits : mid.symbols + more ≤ max mid.limit 512 = subst Q (sym mid_is) (few_after turns b more h due few) in
-    let room = ready_log (length devices.lines) bytes (record was { log = reserved }) current next ready is_current in
-    let few_runs : running devices ≤ length devices.lines = few_run devices.lines in
     let bound : (current.length + count) + 3 * running present ≤ 2057 * (current.symbols + more) + 3 * length present.lines =
     omega (arith, h_mid.bound, still, goes.count, short, some, long) in
-    let both = added mid present log.entries entries reports (current.length + count) (current.symbols + more) h_mid goes keeps.entries_are
+    let both = added mid present log entries reports (current.length + count) (current.symbols + more) h_mid goes keeps
     (ap (λ n. current.length + n) long) (ap (λ n. current.symbols + n) (sym in_all)) fits bound in
     let R : DeviceLogView → Type 0 = λ m. Called m
-    (shown present limit later (record { opening = current.opening; log = log; length = current.length + count; symbols = current.symbols + more })) entries reports log.room in
+    (shown present limit later (record { opening = current.opening; log = log; length = current.length + count; symbols = current.symbols + more })) entries reports in
     subst R (mid_is ∙ ap (λ t. turned_if t b) due ∙ ap (λ m. turned_if (turns_at m more) m) seen)
-    (record { adds = both.1; holds = both.0; rooms = omega (arith, still, few_runs, room.events, keeps.room) })
+    (record { adds = both.1; holds = both.0 })
 
 -- a call that adds the end or the loss of a device
-pub called_once : (old : DeviceLogView) (devices present : DeviceStatesView) (limit number : ℕ) (was : Generation) (log : LogView) (entries : List Entry) (reports : List Report) (count : ℕ)
-    → LogHolds (shown devices limit number was) → running devices ≤ was.log.room → shown devices limit number was ≡ old
+pub called_once : (old : DeviceLogView) (devices present : DeviceStatesView) (limit number : ℕ) (was : Generation) (log : List Entry) (entries : List Entry) (reports : List Report) (count : ℕ)
+    → LogHolds (shown devices limit number was) → shown devices limit number was ≡ old
     → symbols_in entries ≡ 0 → GoesAll devices present entries reports → running present + 1 ≡ running devices → length reports ≤ 3
-    → Keeps was.log log entries → count ≡ length reports
-    → Called old (shown present limit number (record { opening = was.opening; log = log; length = was.length + count; symbols = was.symbols })) entries reports log.room
-called_once old devices present limit number was log entries reports count h room seen none goes fewer short keeps long =
+    → log ≡ was.log ++ entries → count ≡ length reports
+    → Called old (shown present limit number (record { opening = was.opening; log = log; length = was.length + count; symbols = was.symbols })) entries reports
+called_once old devices present limit number was log entries reports count h seen none goes fewer short keeps long =
     let b = shown devices limit number was in
     let bound : (was.length + count) + 3 * running present ≤ 2057 * was.symbols + 3 * length present.lines = omega (arith, h.bound, fewer, goes.count, short, long) in
     let kept : was.symbols ≡ was.symbols + symbols_in entries = omega (arith, none) in
-    let both = added b present log.entries entries reports (was.length + count) was.symbols h goes keeps.entries_are (ap (λ n. was.length + n) long) kept h.few bound in
+    let both = added b present log entries reports (was.length + count) was.symbols h goes keeps (ap (λ n. was.length + n) long) kept h.few bound in
     let R : DeviceLogView → Type 0 = λ m. Called m
-    (shown present limit number (record { opening = was.opening; log = log; length = was.length + count; symbols = was.symbols })) entries reports log.room in
-    subst R seen (record { adds = both.1; holds = both.0; rooms = omega (arith, room, fewer, keeps.room) })
+    (shown present limit number (record { opening = was.opening; log = log; length = was.length + count; symbols = was.symbols })) entries reports in
+    subst R seen (record { adds = both.1; holds = both.0 })
 
 took_symbols : (olds news : List DeviceStateView) (d : ℕ) (symbols : List Symbol) (stamp : Option Moment) (reports : List Report) → d < length olds
     → ((free : DeviceStateView) → (get_or olds d free).stage ≡ Running) → ChangesAt olds news d (λ line next. TakesSymbols line next d symbols stamp reports)
@@ -157,23 +151,22 @@ took_symbols olds news d symbols stamp reports within was changes =
     let next = changes.next in still_runs olds news d next within was changes.news_are ((changes.changes next).1.stage ∙ was next)
 
 -- `feed`
-pub fed_called : (old : DeviceLogView) (devices present : DeviceStatesView) (limit number later : ℕ) (was current : Generation) (next : Option DeviceStatesView) (reserved log : LogView) (turns : Bool)
+pub fed_called : (old : DeviceLogView) (devices present : DeviceStatesView) (limit number later : ℕ) (was current : Generation) (next : Option DeviceStatesView) (log : List Entry) (turns : Bool)
     (d : ℕ) (at : Moment) (bytes : List ℕ) (reports : List Report) (count : ℕ)
     → LogHolds (shown devices limit number was) → shown devices limit number was ≡ old → get_or (stopped_of old.present) d true ≡ false
     → 0 < length bytes → length bytes ≤ 512 → turns ≡ turns_at (shown devices limit number was) (length bytes) → IsNext turns devices next
-    → IsReady (length devices.lines) (length bytes) (log_of next reserved) → reserved.entries ≡ was.log.entries
     → TakesAt devices present d (piece at bytes) (Some at) reports
-    → current ≡ generation_after next (record was { log = reserved }) → later ≡ cond (is_some next) (next_generation number) number
-    → Keeps current.log log (fed d at bytes) → count ≡ length reports
+    → current ≡ generation_after next was → later ≡ cond (is_some next) (next_generation number) number
+    → log ≡ current.log ++ fed d at bytes → count ≡ length reports
     → Called (turned_if (turns_at old (length bytes)) old)
-    (shown present limit later (record { opening = current.opening; log = log; length = current.length + count; symbols = current.symbols + length bytes })) (fed d at bytes) reports log.room
-fed_called old devices present limit number later was current next reserved log turns d at bytes reports count h seen runs_d some few due is_next ready same takes is_current is_number keeps long =
+    (shown present limit later (record { opening = current.opening; log = log; length = current.length + count; symbols = current.symbols + length bytes })) (fed d at bytes) reports
+fed_called old devices present limit number later was current next log turns d at bytes reports count h seen runs_d some few due is_next takes is_current is_number keeps long =
     let P : DeviceLogView → Type 0 = λ b. get_or (stopped_of b.present) d true ≡ false in
     let there = runs_there devices.lines d (subst P (sym seen) runs_d) in
     let next_line = takes.lines_are.next in
     let short = (takes.lines_are.changes next_line).1.few in
-    called old devices present limit number later was current next reserved log turns (fed d at bytes) reports (length bytes) (length bytes) count h seen some few
-    (symbols_got d (piece at bytes) ∙ piece_long at bytes) due is_next ready same (fed_all devices present d at bytes reports there.0 some there.1 takes)
+    called old devices present limit number later was current next log turns (fed d at bytes) reports (length bytes) count h seen some few
+    (symbols_got d (piece at bytes) ∙ piece_long at bytes) due is_next (fed_all devices present d at bytes reports there.0 some there.1 takes)
     (took_symbols devices.lines present.lines d (piece at bytes) (Some at) reports there.0 there.1 takes.lines_are).1
     (subst (λ n. length reports ≤ 2056 + n) (piece_long at bytes) short) is_current is_number keeps long
 
@@ -191,22 +184,21 @@ took_stopped old devices present limit number was d symbols stamp reports seen r
     (took_symbols devices.lines present.lines d symbols stamp reports there.0 there.1 takes.lines_are).0 ∙ ap (λ b. stopped_of b.present) seen
 
 -- `edge`
-pub edged_called : (old : DeviceLogView) (devices present : DeviceStatesView) (limit number later : ℕ) (was current : Generation) (next : Option DeviceStatesView) (reserved log : LogView) (turns : Bool)
+pub edged_called : (old : DeviceLogView) (devices present : DeviceStatesView) (limit number later : ℕ) (was current : Generation) (next : Option DeviceStatesView) (log : List Entry) (turns : Bool)
     (d : ℕ) (edge : Edge) (reports : List Report) (count : ℕ)
     → LogHolds (shown devices limit number was) → shown devices limit number was ≡ old → get_or (stopped_of old.present) d true ≡ false
     → turns ≡ turns_at (shown devices limit number was) 1 → IsNext turns devices next
-    → IsReady (length devices.lines) 0 (log_of next reserved) → reserved.entries ≡ was.log.entries
     → TakesAt devices present d (EdgeSymbol edge ∷ []) None reports
-    → current ≡ generation_after next (record was { log = reserved }) → later ≡ cond (is_some next) (next_generation number) number
-    → Keeps current.log log (edged d edge) → count ≡ length reports
+    → current ≡ generation_after next was → later ≡ cond (is_some next) (next_generation number) number
+    → log ≡ current.log ++ edged d edge → count ≡ length reports
     → Called (turned_if (turns_at old 1) old)
-    (shown present limit later (record { opening = current.opening; log = log; length = current.length + count; symbols = current.symbols + 1 })) (edged d edge) reports log.room
-edged_called old devices present limit number later was current next reserved log turns d edge reports count h seen runs_d due is_next ready same takes is_current is_number keeps long =
+    (shown present limit later (record { opening = current.opening; log = log; length = current.length + count; symbols = current.symbols + 1 })) (edged d edge) reports
+edged_called old devices present limit number later was current next log turns d edge reports count h seen runs_d due is_next takes is_current is_number keeps long =
     let P : DeviceLogView → Type 0 = λ b. get_or (stopped_of b.present) d true ≡ false in
     let there = runs_there devices.lines d (subst P (sym seen) runs_d) in
     let next_line = takes.lines_are.next in
-    called old devices present limit number later was current next reserved log turns (edged d edge) reports 1 0 count h seen (omega arith) (omega arith)
-    refl due is_next ready same (edged_all devices present d edge reports there.0 there.1 takes)
+    called old devices present limit number later was current next log turns (edged d edge) reports 1 count h seen (omega arith) (omega arith)
+    refl due is_next (edged_all devices present d edge reports there.0 there.1 takes)
     (took_symbols devices.lines present.lines d (EdgeSymbol edge ∷ []) None reports there.0 there.1 takes.lines_are).1
     (omega (arith, (takes.lines_are.changes next_line).1.few)) is_current is_number keeps long
 
@@ -215,16 +207,16 @@ pub edged_few : (devices present : DeviceStatesView) (d : ℕ) (edge : Edge) (re
 edged_few devices present d edge reports takes = let next_line = takes.lines_are.next in (takes.lines_are.changes next_line).1.few
 
 -- `end_device`
-pub ended_called : (old : DeviceLogView) (devices present : DeviceStatesView) (limit number : ℕ) (was : Generation) (log : LogView) (d : ℕ) (reports : List Report) (count : ℕ)
-    → LogHolds (shown devices limit number was) × (running devices ≤ was.log.room) → shown devices limit number was ≡ old → get_or (stopped_of old.present) d true ≡ false
-    → EndsAt devices present d reports → Keeps was.log log (ended d) → count ≡ length reports
-    → Called old (shown present limit number (record { opening = was.opening; log = log; length = was.length + count; symbols = was.symbols })) (ended d) reports log.room
+pub ended_called : (old : DeviceLogView) (devices present : DeviceStatesView) (limit number : ℕ) (was : Generation) (log : List Entry) (d : ℕ) (reports : List Report) (count : ℕ)
+    → LogHolds (shown devices limit number was) → shown devices limit number was ≡ old → get_or (stopped_of old.present) d true ≡ false
+    → EndsAt devices present d reports → log ≡ was.log ++ ended d → count ≡ length reports
+    → Called old (shown present limit number (record { opening = was.opening; log = log; length = was.length + count; symbols = was.symbols })) (ended d) reports
 ended_called old devices present limit number was log d reports count h seen runs_d ends keeps long =
     let P : DeviceLogView → Type 0 = λ b. get_or (stopped_of b.present) d true ≡ false in
     let there = runs_there devices.lines d (subst P (sym seen) runs_d) in
     let next_line = ends.lines_are.next in
     let closed = (ends.lines_are.changes next_line).1 in
-    called_once old devices present limit number was log (ended d) reports count h.0 h.1 seen refl (ended_all devices present d reports there.0 there.1 ends)
+    called_once old devices present limit number was log (ended d) reports count h seen refl (ended_all devices present d reports there.0 there.1 ends)
     (runs_no_more devices.lines present.lines d next_line there.0 there.1 ends.lines_are.news_are (ap has_stopped closed.stage)).1 closed.few keeps long
 
 pub ended_few : (devices present : DeviceStatesView) (d : ℕ) (reports : List Report) → EndsAt devices present d reports → length reports ≤ 3
@@ -241,17 +233,17 @@ ended_stopped old devices present limit number was d reports seen runs_d ends =
     ∙ ap (λ b. set (stopped_of b.present) d true) seen
 
 -- `lose_device`
-pub lost_called : (old : DeviceLogView) (devices present : DeviceStatesView) (limit number : ℕ) (was : Generation) (log : LogView) (d : ℕ)
-    → LogHolds (shown devices limit number was) × (running devices ≤ was.log.room) → shown devices limit number was ≡ old → get_or (stopped_of old.present) d true ≡ false
-    → LosesAt devices present d → Keeps was.log log (lost d)
-    → Called old (shown present limit number (record { opening = was.opening; log = log; length = was.length; symbols = was.symbols })) (lost d) [] log.room
+pub lost_called : (old : DeviceLogView) (devices present : DeviceStatesView) (limit number : ℕ) (was : Generation) (log : List Entry) (d : ℕ)
+    → LogHolds (shown devices limit number was) → shown devices limit number was ≡ old → get_or (stopped_of old.present) d true ≡ false
+    → LosesAt devices present d → log ≡ was.log ++ lost d
+    → Called old (shown present limit number (record { opening = was.opening; log = log; length = was.length; symbols = was.symbols })) (lost d) []
 lost_called old devices present limit number was log d h seen runs_d loses keeps =
     let P : DeviceLogView → Type 0 = λ b. get_or (stopped_of b.present) d true ≡ false in
     let there = runs_there devices.lines d (subst P (sym seen) runs_d) in
     let next_line = loses.lines_are.next in
-    let R : ℕ → Type 0 = λ n. Called old (shown present limit number (record { opening = was.opening; log = log; length = n; symbols = was.symbols })) (lost d) [] log.room in
+    let R : ℕ → Type 0 = λ n. Called old (shown present limit number (record { opening = was.opening; log = log; length = n; symbols = was.symbols })) (lost d) [] in
     let plain : was.length + 0 ≡ was.length = omega arith in
-    subst R plain (called_once old devices present limit number was log (lost d) [] 0 h.0 h.1 seen refl (lost_all devices present d there.0 there.1 loses)
+    subst R plain (called_once old devices present limit number was log (lost d) [] 0 h seen refl (lost_all devices present d there.0 there.1 loses)
     (runs_no_more devices.lines present.lines d next_line there.0 there.1 loses.lines_are.news_are (ap (λ l. has_stopped l.stage) (loses.lines_are.changes next_line))).1
     (omega arith) keeps refl)
 
@@ -264,24 +256,3 @@ lost_stopped old devices present limit number was d seen runs_d loses =
     let next_line = loses.lines_are.next in
     (runs_no_more devices.lines present.lines d next_line there.0 there.1 loses.lines_are.news_are (ap (λ l. has_stopped l.stage) (loses.lines_are.changes next_line))).0
     ∙ ap (λ b. set (stopped_of b.present) d true) seen
-
--- there is room for the end or the loss of a device that runs
-pub ended_room : (old : DeviceLogView) (devices present : DeviceStatesView) (limit number : ℕ) (was : Generation) (d : ℕ) (reports : List Report)
-    → LogHolds (shown devices limit number was) × (running devices ≤ was.log.room) → shown devices limit number was ≡ old → get_or (stopped_of old.present) d true ≡ false
-    → EndsAt devices present d reports → 0 < was.log.room
-ended_room old devices present limit number was d reports h seen runs_d ends =
-    let P : DeviceLogView → Type 0 = λ b. get_or (stopped_of b.present) d true ≡ false in
-    let there = runs_there devices.lines d (subst P (sym seen) runs_d) in
-    let next_line = ends.lines_are.next in
-    let fewer = (runs_no_more devices.lines present.lines d next_line there.0 there.1 ends.lines_are.news_are (ap has_stopped (ends.lines_are.changes next_line).1.stage)).1 in
-    omega (arith, fewer, h.1)
-
-pub lost_room : (old : DeviceLogView) (devices present : DeviceStatesView) (limit number : ℕ) (was : Generation) (d : ℕ)
-    → LogHolds (shown devices limit number was) × (running devices ≤ was.log.room) → shown devices limit number was ≡ old → get_or (stopped_of old.present) d true ≡ false
-    → LosesAt devices present d → 0 < was.log.room
-lost_room old devices present limit number was d h seen runs_d loses =
-    let P : DeviceLogView → Type 0 = λ b. get_or (stopped_of b.present) d true ≡ false in
-    let there = runs_there devices.lines d (subst P (sym seen) runs_d) in
-    let next_line = loses.lines_are.next in
-    let fewer = (runs_no_more devices.lines present.lines d next_line there.0 there.1 loses.lines_are.news_are (ap (λ l. has_stopped l.stage) (loses.lines_are.changes next_line))).1 in
-    omega (arith, fewer, h.1)

@@ -9,7 +9,7 @@ use Rattle.device_core.specs.Standing.{StandsFor as DeviceStands}
 use Rattle.book_log.specs.Standing.{DeviceStateView, StandsFor, DeviceStatesView, DevicesGoOn}
 use Rattle.book_log.specs.DeviceLogView.{LogAdds, LogHolds, DeviceLogView, FollowsLog, next_generation, running, runs, turned, turned_if}
 use Rattle.book_log.specs.Steps.{GoesAll}
-use Rattle.book_log.specs.Turning.{IsNext, IsReady, generation_after, log_of, shown}
+use Rattle.book_log.specs.Turning.{IsNext, generation_after, shown}
 use Rattle.book_log.proofs.Histories.{history-append, stream-append, symbols_in-append}
 use Rattle.book_log.proofs.SummarySteps.{all_stand_still}
 
@@ -111,8 +111,3 @@ began true now limit number later old current (Some opening) is_next is_current 
   where
     opens : opening ≡ now
     opens = cc is_next
-
-pub ready_log : (count bytes : ℕ) (old current : Generation) (next : Option DeviceStatesView) → IsReady count bytes (log_of next old.log) → current ≡ generation_after next old
-    → IsReady count bytes current.log
-ready_log count bytes old current None ready is = subst (λ g. IsReady count bytes g.log) (sym is) ready
-ready_log count bytes old current (Some opening) ready is = subst (λ g. IsReady count bytes g.log) (sym is) ready

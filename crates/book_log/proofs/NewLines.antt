@@ -6,7 +6,6 @@ use Rattle.book_log.specs.Entries.{Entry, GoesOn, symbols_in}
 use Rattle.book_log.specs.History.{history_after}
 use Rattle.book_log.specs.Standing.{DeviceStateView, DeviceStatesView, StandsAt, StandsFor, has_stopped, is_ended, is_lost}
 use Rattle.book_log.specs.DeviceLogView.{LogHolds, IsFresh, FollowsLog, runs, running, stopped_of}
-use Rattle.book_log.specs.Pieces.{LogView}
 use Rattle.book_log.specs.Turning.{shown}
 use Rattle.book_log.specs.Steps.{IsNew}
 use Rattle.book_log.proofs.SummarySteps.{all_stand_still}
@@ -45,18 +44,17 @@ new_stopped (line ∷ lines) new =
     ap (λ b. b ∷ map (λ l. has_stopped l.stage) lines) (ap has_stopped (All-head IsNew line lines new).stage)
     ∙ ap (λ s. false ∷ s) (new_stopped lines (All-tail IsNew line lines new))
 
-pub new_log : (opening present : DeviceStatesView) (devices limit : ℕ) (log : LogView) → opening ≡ present → StandsFor present [] → length present.lines ≡ devices
-    → running present ≡ devices → stopped_of present ≡ replicate devices false → devices < 256 → limit ≤ 33_554_432 → log.entries ≡ [] → devices ≤ log.room
+pub new_log : (opening present : DeviceStatesView) (devices limit : ℕ) (log : List Entry) → opening ≡ present → StandsFor present [] → length present.lines ≡ devices
+    → running present ≡ devices → stopped_of present ≡ replicate devices false → devices < 256 → limit ≤ 33_554_432 → log ≡ []
     → LogHolds (shown present limit 0 (record { opening = opening; log = log; length = 0; symbols = 0 }))
-    × (running present ≤ log.room)
     × IsFresh devices limit (shown present limit 0 (record { opening = opening; log = log; length = 0; symbols = 0 }))
 unfolding history_after
-new_log opening present devices limit log same stands count runs stopped small limited none room =
+new_log opening present devices limit log same stands count runs stopped small limited none =
     let P : DeviceStatesView → Type 0 = λ o. StandsFor o [] in (
       record {
         some = ([], subst P (sym same) stands);
         over = λ before was. new_over opening present limit log before same none was;
-        devices_go_on = all_stand_still opening present log.entries same none;
+        devices_go_on = all_stand_still opening present log same none;
         symbols = ap symbols_in (sym none);
         few = omega arith;
         limit = limited;
@@ -65,7 +63,6 @@ new_log opening present devices limit log same stands count runs stopped small l
         devices = omega arith;
         generation = omega arith;
       },
-      omega arith,
       record {
         opening = subst P (sym same) stands;
         present = stands;
@@ -79,7 +76,7 @@ new_log opening present devices limit log same stands count runs stopped small l
       },
     )
   where
-    new_over : (opening present : DeviceStatesView) (limit : ℕ) (log : LogView) (before : List Entry) → opening ≡ present → log.entries ≡ [] → StandsFor opening before
+    new_over : (opening present : DeviceStatesView) (limit : ℕ) (log : List Entry) (before : List Entry) → opening ≡ present → log ≡ [] → StandsFor opening before
         → FollowsLog (shown present limit 0 (record { opening = opening; log = log; length = 0; symbols = 0 })) before
     new_over opening present limit log before same none was =
         let P : DeviceStatesView → Type 0 = λ o. StandsFor o before in

@@ -11,7 +11,7 @@ ghost use Rattle.book_log.specs.DeviceLogView.{LogAdds, AreOf, LogHolds, IsFresh
 
 use crate::addition::Addition;
 use crate::device_states::DeviceStates;
-use crate::generation::{Generation, begin, prepared, turns_due};
+use crate::generation::{Generation, begin, next_opening, turns_due};
 use crate::log::Log;
 use book_batch::Batch;
 use gps_fixed::{NoMemory, Stamp};
@@ -32,20 +32,19 @@ pub struct DeviceLog {
 }
 
 impl Model for DeviceLog {
-    ghost use Rattle.std.specs.Prelude.{◌≤◌};
-    ghost use Rattle.book_log.specs.DeviceLogView.{LogHolds, DeviceLogView, running};
+    ghost use Rattle.book_log.specs.DeviceLogView.{LogHolds, DeviceLogView};
     ghost use Rattle.book_log.specs.Turning.{shown};
 
     ghost Value = { DeviceLogView };
 
     ghost view = { λ b. shown b.present b.limit b.generation b.current };
 
-    ghost invariant = { λ b. LogHolds (shown b.present b.limit b.generation b.current) × (running b.present ≤ b.current.log.room) };
+    ghost invariant = { λ b. LogHolds (shown b.present b.limit b.generation b.current) };
 }
 
 impl DeviceLog {
-    /// The given number of devices that were given nothing yet, an empty log, and room for an end or a loss of each device. A generation holds at
-    /// most `limit` symbols, or those of one call if that is more.
+    /// The given number of devices that were given nothing yet, and an empty log. A generation holds at most `limit` symbols, or those of one call
+    /// if that is more.
     pub fn new(alloc: Global, devices: u8, limit: u32) -> Result<DeviceLog, NoMemory>
         requires { limit ≤ most_history }
         ensures fresh { IfOk result (λ log. IsFresh devices limit log) }
@@ -53,10 +52,9 @@ impl DeviceLog {
     {
         let present = DeviceStates::new(alloc, devices)?;
         let opening = present.copy(alloc)?;
-        let log = Log::with_room(alloc, usize::from(devices), 0)?;
         let current = Generation {
             opening,
-            log,
+            log: Log::new(),
             length: 0,
             symbols: 0,
         };
@@ -104,13 +102,7 @@ impl DeviceLog {
         ensures err { OnErr result (self.new ≡ self.old) }
     {
         let turned = turns_due(self.current.symbols, self.limit, bytes.len() as u32);
-        let next = prepared(
-            self.alloc,
-            turned,
-            &self.present,
-            &mut self.current.log,
-            bytes.len(),
-        )?;
+        let next = next_opening(self.alloc, turned, &self.present)?;
         let batch = self
             .present
             .feed(self.alloc, device, at, bytes, names, shares)?;
@@ -157,7 +149,7 @@ impl DeviceLog {
         ensures err { OnErr result (self.new ≡ self.old) }
     {
         let turned = turns_due(self.current.symbols, self.limit, 1);
-        let next = prepared(self.alloc, turned, &self.present, &mut self.current.log, 0)?;
+        let next = next_opening(self.alloc, turned, &self.present)?;
         let batch = self.present.edge(self.alloc, device, edge, names, shares)?;
         begin(next, &mut self.current, &mut self.generation);
         let first = self.current.length;

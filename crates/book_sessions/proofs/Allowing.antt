@@ -1,5 +1,5 @@
 -- What is allowed still after some of it was put, and along a walk.
-use Rattle.std.proofs.Common.{◌≡◌, ◌<◌, ℕ, suc, ◌+◌, ◌-◌, Bool, true, false, List, [], ◌∷◌, ◌++◌, length, map, take, drop, get_or, set, Option, Some, None, option_to_list, IfSome, MatchOption, refl, sym, ap, ◌∙◌, subst, append_assoc, length-append, cond, add-one, drop-cons, arith}
+use Rattle.std.proofs.Common.{◌≡◌, ◌<◌, ℕ, suc, ◌+◌, ◌-◌, ◌^◌, Bool, true, false, List, [], ◌∷◌, ◌++◌, length, map, take, drop, get_or, set, Option, Some, None, option_to_list, IfSome, MatchOption, refl, sym, ap, ◌∙◌, subst, append_assoc, length-append, cond, add-one, drop-cons, arith}
 use Rattle.std.specs.List.{All}
 use Rattle.std.proofs.lemmas.List.{set_at}
 use Rattle.std.proofs.lemmas.List.Elements.{All-head, All-tail}
@@ -19,7 +19,7 @@ use Rattle.session_core.specs.Pushing.{MatchPush}
 use Rattle.session_core.specs.SessionView.{SessionView, closed_at, given}
 use Rattle.session_core.specs.Stretches.{selected}
 use Rattle.book_sessions.specs.Allowing.{MayReply, replies_left}
-use Rattle.book_sessions.specs.Answering.{MayAnswer, most_requests, put}
+use Rattle.book_sessions.specs.Answering.{MayAnswer, put}
 use Rattle.book_sessions.specs.MemberView.{MemberView}
 use Rattle.book_sessions.specs.Spreading.{TakesDue, due, due_at}
 use Rattle.book_sessions.specs.Walks.{MayWalk, numbers}
@@ -99,21 +99,21 @@ module _ (may : OutletName → List (List ℕ) → Type 0) where
       subst P (sym gets) (allows_rest old (given line old) (line ∷ []) (selected lines old.policy reports) refl refl (subst Q (sym is) allows))
 
   -- the reply to the first request
-  pub allowed_reply : (cur : MemberView) (answer : Answer) (rest : List Answer) → cur.session.requests < most_requests
+  pub allowed_reply : (cur : MemberView) (answer : Answer) (rest : List Answer) → cur.session.requests < cur.session.most_requests
       → AllowsAll may cur.session (replies_left cur.session (answer ∷ rest)) → may cur.session.name (cur.session.kept ++ answer.reply ∷ [])
   allowed_reply cur answer rest few allows =
-      let left = most_requests - (cur.session.requests + 1) in
-      let one : most_requests - cur.session.requests ≡ suc left = omega (arith, few) in
+      let left = cur.session.most_requests - (cur.session.requests + 1) in
+      let one : cur.session.most_requests - cur.session.requests ≡ suc left = omega (arith, few) in
       allows (answer.reply ∷ []) (map (λ (a : Answer). a.reply) (take left rest)) (ap (λ n. map (λ (a : Answer). a.reply) (take n (answer ∷ rest))) one)
 
   -- it was put
-  pub replies_later : (place : ℕ) (cur next : MemberView) (answer : Answer) (rest : List Answer) → cur.session.closing ≡ None → 0 < length cur.session.marks
-      → cur.session.requests < most_requests → next ≡ put place answer cur
+  pub replies_later : (place : ℕ) (cur next : MemberView) (answer : Answer) (rest : List Answer) → cur.session.most_requests < 2 ^ 32 → cur.session.closing ≡ None
+      → 0 < length cur.session.marks → cur.session.requests < cur.session.most_requests → next ≡ put place answer cur
       → AllowsAll may cur.session (replies_left cur.session (answer ∷ rest)) → AllowsAll may next.session (replies_left next.session rest)
-  replies_later place cur next answer rest is_open marked few is allows =
+  replies_later place cur next answer rest low is_open marked few is allows =
       let mid = put place answer cur in
-      let counted : mid.session.requests ≡ cur.session.requests + 1 = (one_put false place answer cur is_open marked few).requests in
-      let one : most_requests - cur.session.requests ≡ suc (most_requests - mid.session.requests) = omega (arith, few, counted) in
+      let counted : mid.session.requests ≡ cur.session.requests + 1 = (one_put false place answer cur low is_open marked few).requests in
+      let one : cur.session.most_requests - cur.session.requests ≡ suc (cur.session.most_requests - mid.session.requests) = omega (arith, few, counted) in
       let P : MemberView → Type 0 = λ a. AllowsAll may a.session (replies_left a.session rest) in
       let Q : ℕ → Type 0 = λ n. AllowsAll may cur.session (map (λ (a : Answer). a.reply) (take n (answer ∷ rest))) in
       subst P (sym is) (allows_rest cur.session mid.session (answer.reply ∷ []) (replies_left mid.session rest) refl refl (subst Q one allows))

@@ -4,7 +4,7 @@ use Rattle.std.specs.List.{AllZip}
 use Rattle.std.proofs.lemmas.List.Elements.{All-cons, All-head, All-map, All-push, All-set, All-tail}
 use Rattle.session_core.specs.declared.mark.Close.{Close}
 use Rattle.session_core.specs.declared.mark.Mark.{Mark}
-use Rattle.session_core.specs.SessionView.{SessionView, fresh, last_place, opening_policy, turned_marks}
+use Rattle.session_core.specs.SessionView.{SessionView, allowing, fresh, last_place, opening_policy, turned_marks}
 use Rattle.session_core.specs.Stretches.{answer_stretch}
 use Rattle.session_core.specs.Holding.{Selection, Holding}
 use Rattle.session_core.proofs.Gaining as gaining
@@ -67,12 +67,12 @@ after_close place s why old new changed later after =
     subst P (sym changed.1) (after_zip later old (set old s changed.0)
     (zip_set (λ a b. b.session.marks ≡ a.session.marks) (λ a. refl) old s changed.0 (λ free. ap (λ (a : MemberView). a.session.marks) (changed.2 free).becomes)) after)
 
-pub after_admit : (place : ℕ) (name : OutletName) (cap : ℕ) (old new : List MemberView) → new ≡ old ++ opened name cap place ∷ []
+pub after_admit : (place : ℕ) (name : OutletName) (cap most : ℕ) (old new : List MemberView) → new ≡ old ++ opened name cap most place ∷ []
     → (later : ℕ) → place ≤ later → IsAfterAll later old → IsAfterAll later new
-after_admit place name cap old new pushed later low after =
+after_admit place name cap most old new pushed later low after =
     let Fits : MemberView → Type 0 = λ a. last_place 0 a.session.marks ≤ later in
     let P : List MemberView → Type 0 = λ l. IsAfterAll later l in
-    subst P (sym pushed) (All-push Fits old (opened name cap place) after low)
+    subst P (sym pushed) (All-push Fits old (opened name cap most place) after low)
 
 shuts_marks : (place : ℕ) (why : Close) (a b : MemberView) → Shuts place why a b → b.session.marks ≡ a.session.marks
 shuts_marks place why a b shuts = by a.session.closing shuts
@@ -108,10 +108,11 @@ after_turn old new turned_is =
     subst P (sym turned_is) (All-map Fits renewed old (λ k free within. let a = get_or old k free in renewed_first a.session.policy a.session.closing))
 
 -- the first item of a session
-pub opening_holds : (name : OutletName) (cap place : ℕ) (lines : Selection) (history : List Report) → length history ≡ place
-    → Holding lines history (opened name cap place).session (answer_stretch place opening_policy opening_reply ∷ [])
-opening_holds name cap place lines history at =
-    (gaining.answered lines place opening_policy opening_reply history (fresh name cap []) [] refl at (gaining.fresh_agrees lines history name cap [])).holding
+pub opening_holds : (name : OutletName) (cap most place : ℕ) (lines : Selection) (history : List Report) → length history ≡ place
+    → Holding lines history (opened name cap most place).session (answer_stretch place opening_policy opening_reply ∷ [])
+opening_holds name cap most place lines history at =
+    (gaining.answered lines place opening_policy opening_reply history (allowing most (fresh name cap [])) [] refl at
+    (gaining.allowed lines most history (fresh name cap []) [] (gaining.fresh_agrees lines history name cap []))).holding
 
 -- a session that has its marks
 pub after_set : (place n : ℕ) (xs : List MemberView) (x next : MemberView) → IsAfterAll place xs → n < length xs → x ≡ get_or xs n x → next.session.marks ≡ x.session.marks

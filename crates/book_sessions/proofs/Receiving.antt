@@ -40,6 +40,7 @@ stays_on : (old mid new : SessionView) → Stays old mid → Stays mid new → S
 stays_on old mid new first then = record {
   name = then.name ∙ first.name;
   cap = then.cap ∙ first.cap;
+  most_requests = then.most_requests ∙ first.most_requests;
   marks = then.marks ∙ first.marks;
   policy = then.policy ∙ first.policy;
   requests = then.requests ∙ first.requests;
@@ -49,6 +50,7 @@ pub takes_stay : (exact : Bool) (ds : List Due) (old new : SessionView) → Take
 takes_stay exact [] old new same = record {
   name = ap (λ s. s.name) same;
   cap = ap (λ s. s.cap) same;
+  most_requests = ap (λ s. s.most_requests) same;
   marks = ap (λ s. s.marks) same;
   policy = ap (λ s. s.policy) same;
   requests = ap (λ s. s.requests) same;
@@ -58,10 +60,11 @@ takes_stay exact (d ∷ ds) old new takes = by_push takes.0 takes.2 (λ mid more
     by_push : (push : Push) → MatchPush push (TakesDue exact ds (given d.line old) new) (new ≡ closed_at d.place Overrun old)
         → ((mid : SessionView) → TakesDue exact ds mid new → Stays mid new) → Stays old new
     by_push Done more rest =
-        stays_on old (given d.line old) new (record { name = refl; cap = refl; marks = refl; policy = refl; requests = refl }) (rest (given d.line old) more)
+        stays_on old (given d.line old) new (record { name = refl; cap = refl; most_requests = refl; marks = refl; policy = refl; requests = refl }) (rest (given d.line old) more)
     by_push Full now rest = record {
       name = ap (λ s. s.name) now;
       cap = ap (λ s. s.cap) now;
+      most_requests = ap (λ s. s.most_requests) now;
       marks = ap (λ s. s.marks) now;
       policy = ap (λ s. s.policy) now;
       requests = ap (λ s. s.requests) now;

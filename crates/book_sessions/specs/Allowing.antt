@@ -11,12 +11,11 @@ use Rattle.session_core.specs.Allowing.{AllowsAll, MayReport}
 use Rattle.session_core.specs.Holding.{Selection}
 use Rattle.session_core.specs.Naming.{OutletName}
 use Rattle.session_core.specs.SessionView.{SessionView}
-use Rattle.book_sessions.specs.Answering.{most_requests}
 use Rattle.book_sessions.specs.MemberView.{MemberView}
 
--- the replies of these answers, but none after 65,536 answered requests
+-- the replies of these answers, but none after as many requests as are answered
 abbrev pub replies_left : SessionView → List Answer → List (List ℕ)
-replies_left s answers = map (λ answer. answer.reply) (take (most_requests - s.requests) answers)
+replies_left s answers = map (λ answer. answer.reply) (take (s.most_requests - s.requests) answers)
 
 -- by what is known, each reply to these requests may be put
 abbrev pub MayReply : (OutletName → List (List ℕ) → Type 0) → ReplyDataView → List (List ℕ) → List RawCommand → SessionView → Type 0

@@ -24,9 +24,6 @@ pub record MayAnswer (exact : Bool) (s : SessionView) (push : Push) : Type 0 whe
   pub full : push ≡ Full → s.cap ≤ length s.kept
   pub exactly : exact ≡ true → (push ≡ Full) ↔ (s.cap ≤ length s.kept)
 
-abbrev pub most_requests : ℕ
-most_requests = 65_536
-
 abbrev pub Either : Bool → Type 0 → Type 0 → Type 0
 Either true one other = one
 Either false one other = other
@@ -40,11 +37,11 @@ put place answer a = record a {
   watched = a.watched || answer.policy.enable;
 }
 
--- These answers are pushed in order. After 65,536 answered requests the next one closes the session; so does an outlet that is full.
+-- These answers are pushed in order. Once as many requests are answered as may be, the next one closes the session; so does an outlet that is full.
 abbrev pub PutsAnswers : Bool → ℕ → MemberView → List Answer → MemberView → Type 0
 PutsAnswers exact place old [] new = new ≡ old
 PutsAnswers exact place old (answer ∷ more) new =
-    Either (nat_le most_requests old.session.requests)
+    Either (nat_le old.session.most_requests old.session.requests)
     (new ≡ ended place TooManyRequests old)
     ((push : Push) × MayAnswer exact old.session push
     × MatchPush push (PutsAnswers exact place (put place answer old) more new) (new ≡ ended place Overrun old))
@@ -65,8 +62,8 @@ enables answer = answer.policy.enable
 
 -- why not all was pushed
 abbrev pub Causes : SessionView → Close → Type 0
-Causes s TooManyRequests = most_requests ≤ s.requests
-Causes s Overrun = (s.requests < most_requests) × (s.cap ≤ length s.kept)
+Causes s TooManyRequests = s.most_requests ≤ s.requests
+Causes s Overrun = (s.requests < s.most_requests) × (s.cap ≤ length s.kept)
 Causes s _ = ⊥
 
 -- if the session is closed now, some answers were not pushed, else all were
@@ -84,6 +81,7 @@ pub record Puts (place : ℕ) (old new : MemberView) (answers : List Answer) : T
   pub items : new.session.items ≡ raised old.session.items (length answers)
   pub name : new.session.name ≡ old.session.name
   pub cap : new.session.cap ≡ old.session.cap
+  pub most_requests : new.session.most_requests ≡ old.session.most_requests
   pub gains : (lines : Selection) (history : List Report) (stretches : List Stretch) → length history ≡ place → Holding lines history old.session stretches
       → SessionGains lines history history old.session new.session stretches (stretches ++ map (stretch_at place) answers)
       (map (λ answer. answer.reply) answers)
@@ -101,7 +99,7 @@ pub record AnswersCut (exact : Bool) (known : ReplyDataView) (names : List (List
   pub few : count ≤ length requests
   pub puts : Puts place old new (take count (answered known names old.session.policy requests))
   pub stops : Stops place (length requests - count) new.session new.session.closing
-  pub room : 0 < count → (new.session.requests ≤ most_requests) × (exact ≡ true → length new.session.kept ≤ new.session.cap)
+  pub room : 0 < count → (new.session.requests ≤ new.session.most_requests) × (exact ≡ true → length new.session.kept ≤ new.session.cap)
 
 -- a piece of input at one place: its requests are answered by what is known, until the session is closed
 pub record Inputs (exact : Bool) (known : ReplyDataView) (names : List (List ℕ)) (place : ℕ) (piece : List ℕ) (old new : MemberView) : Type 0 where
@@ -114,4 +112,4 @@ pub record Inputs (exact : Bool) (known : ReplyDataView) (names : List (List ℕ
   pub few : count ≤ length requests
   pub puts : Puts place old new (take count (answered known names old.session.policy requests))
   pub stops : Stops place (length requests - count) new.session new.session.closing
-  pub room : 0 < count → (new.session.requests ≤ most_requests) × (exact ≡ true → length new.session.kept ≤ new.session.cap)
+  pub room : 0 < count → (new.session.requests ≤ new.session.most_requests) × (exact ≡ true → length new.session.kept ≤ new.session.cap)

@@ -4,7 +4,7 @@ use Rattle.gps_command.specs.Kept.{CommandCutterView, kept_open}
 use Rattle.book_replies.specs.Replies.{opening_reply}
 use Rattle.session_core.specs.declared.mark.Close.{Close}
 use Rattle.session_core.specs.Naming.{OutletName}
-use Rattle.session_core.specs.SessionView.{SessionView, closed_at, fresh, opening_policy, replied, turned}
+use Rattle.session_core.specs.SessionView.{SessionView, allowing, closed_at, fresh, opening_policy, replied, turned}
 
 pub record MemberView : Type 0 where
   pub session : SessionView
@@ -18,10 +18,10 @@ is_open a = not (is_some a.session.closing)
 abbrev pub listens : MemberView → Bool
 listens a = is_open a && a.session.policy.enable
 
--- a new session over an empty outlet: it was sent its opening reply
-abbrev pub opened : OutletName → ℕ → ℕ → MemberView
-opened name cap place = record {
-  session = replied place opening_policy opening_reply (fresh name cap []);
+-- a new session over an empty outlet, of whose requests this number is answered: it was sent its opening reply
+abbrev pub opened : OutletName → ℕ → ℕ → ℕ → MemberView
+opened name cap most place = record {
+  session = replied place opening_policy opening_reply (allowing most (fresh name cap []));
   cutter = kept_open [];
   watched = false;
 }

@@ -55,6 +55,7 @@ pub record TakesByRoom (dues : List Due) (old new : SessionView) : Type 0 where
 pub record Stays (old new : SessionView) : Type 0 where
   pub name : new.name ≡ old.name
   pub cap : new.cap ≡ old.cap
+  pub most_requests : new.most_requests ≡ old.most_requests
   pub marks : new.marks ≡ old.marks
   pub policy : new.policy ≡ old.policy
   pub requests : new.requests ≡ old.requests

@@ -27,9 +27,6 @@ use std::alloc::Global;
 use std::marker::Model;
 use watch_policy::opening;
 
-/// How many requests of a session are answered.
-const MOST_REQUESTS: u32 = 65_536;
-
 /// A session of a roster, with the cutter of its input.
 #[derive(Drop)]
 pub(crate) struct Member<O: Outlet> {
@@ -116,13 +113,18 @@ fn count_of(replies: &Vec<Reply>) -> Result<u32, NoMemory>
 }
 
 impl<O: Outlet> Member<O> {
-    /// A new session, whose first item is the opening reply. Out of memory, the outlet comes back.
-    pub(crate) fn new(alloc: Global, outlet: O, place: u64) -> Result<Member<O>, O>
+    /// A new session, of whose requests the given number is answered. Its first item is the opening reply. Out of memory, the outlet comes back.
+    pub(crate) fn new(
+        alloc: Global,
+        outlet: O,
+        most_requests: u32,
+        place: u64,
+    ) -> Result<Member<O>, O>
         requires empty { O.kept outlet ≡ [] }
         requires cap { 1 ≤ O.cap outlet }
         requires takes { O.takes outlet }
         requires may { O.may (O.name outlet) (opening_reply ∷ []) }
-        ensures opened { IfOk result (λ m. m ≡ opened (O.name outlet) (O.cap outlet) place) }
+        ensures opened { IfOk result (λ m. m ≡ opened (O.name outlet) (O.cap outlet) most_requests place) }
         ensures outlet { IfErr result (λ back. back ≡ outlet) }
     {
         let item = match opening_item(alloc) {
@@ -130,6 +132,7 @@ impl<O: Outlet> Member<O> {
             Err(_) => return Err(outlet),
         };
         let mut session = Session::new(alloc, outlet)?;
+        session.allow_requests(most_requests);
         match session.reply(place, opening(), item) {
             Push::Done => Ok(Member {
                 session,
@@ -219,10 +222,12 @@ impl<O: Outlet> Member<O> {
         requires room { length replies.items ≤ self.old.session.spare }
         requires after { last_place 0 self.old.session.marks ≤ place }
         requires may { AllowsAll O.may self.old.session (replies_left self.old.session replies.items) }
-        ensures { PutsAnswers O.exact place self.old replies.items self.new }
+        ensures puts { PutsAnswers O.exact place self.old replies.items self.new }
+        ensures few { self.old.session.most_requests < 2 ^ 32 }
     {
+        let most_requests = self.session.most_requests();
         'replies: for reply in replies {
-            if self.session.requests() >= MOST_REQUESTS {
+            if self.session.requests() >= most_requests {
                 self.end(place, Close::TooManyRequests);
                 return;
             }

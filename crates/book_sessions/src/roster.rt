@@ -154,10 +154,15 @@ impl<O: Outlet> Roster<O> {
         }
     }
 
-    /// Opens the next session, numbered from 0; its first item is the opening reply. Refused if 64 are live or 100,000
-    /// were opened, and then if memory runs out. A refusal changes nothing, and the outlet comes back.
+    /// Opens the next session, numbered from 0; its first item is the opening reply, and the given number of its requests is answered. Refused if 64
+    /// are live or 100,000 were opened, and then if memory runs out. A refusal changes nothing, and the outlet comes back.
     #[tactic(auto, using(crate::proofs::Places::opening_holds))]
-    pub fn admit(&mut self, outlet: O, place: u64) -> Result<u32, (O, AdmitFault)>
+    pub fn admit(
+        &mut self,
+        outlet: O,
+        most_requests: u32,
+        place: u64,
+    ) -> Result<u32, (O, AdmitFault)>
         // The outlet is empty, has room, and is open.
         requires empty { O.kept outlet ≡ [] }
         requires cap { 1 ≤ O.cap outlet }
@@ -166,10 +171,11 @@ impl<O: Outlet> Roster<O> {
 
         // What an opening does.
         ensures number { IfOk result (λ s. s ≡ length self.old) }
-        ensures admitted { OnOk result (self.new ≡ self.old ++ opened (O.name outlet) (O.cap outlet) place ∷ []) }
+        ensures admitted { OnOk result (self.new ≡ self.old ++ opened (O.name outlet) (O.cap outlet) most_requests place ∷ []) }
         ensures few { OnOk result ((live_in self.old < 64) × (length self.old < 100000)) }
         ensures opens { (lines : Selection) (history : List Report) → length history ≡ place
-            → Holding lines history (opened (O.name outlet) (O.cap outlet) place).session (answer_stretch place opening_policy opening_reply ∷ []) }
+            → Holding lines history (opened (O.name outlet) (O.cap outlet) most_requests place).session
+            (answer_stretch place opening_policy opening_reply ∷ []) }
         ensures after { (later : ℕ) → place ≤ later → IsAfterAll later self.old → IsAfterAll later self.new }
 
         // When it is refused, and what a refusal leaves.
@@ -185,7 +191,7 @@ impl<O: Outlet> Roster<O> {
         if make_room(&mut self.members, &mut self.live, &mut self.recent).is_err() {
             return Err((outlet, AdmitFault::NoMemory));
         }
-        match Member::new(self.alloc, outlet, place) {
+        match Member::new(self.alloc, outlet, most_requests, place) {
             Ok(member) => {
                 self.members.push_reserved(member);
                 self.live.push_reserved(opened);
@@ -213,8 +219,8 @@ impl<O: Outlet> Roster<O> {
         go_on_at(&mut self.members, s as usize, cut);
     }
 
-    /// Answers, at one place, each request that was cut of a session's input, in order, until the session is closed: by the
-    /// 65,537th request, or if its outlet is full. A refusal changes nothing.
+    /// Answers, at one place, each request that was cut of a session's input, in order, until the session is closed: by the first
+    /// request beyond the number that is answered, or if its outlet is full. A refusal changes nothing.
     pub fn input(
         &mut self,
         s: u32,

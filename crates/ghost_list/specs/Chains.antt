@@ -5,5 +5,5 @@ use Rattle.ghost_list.specs.declared.chain.Chain.TheVariants.{Nothing, More', Bo
 
 abbrev pub items_of : {T : Type 0} → Chain T → List T
 items_of Nothing = []
-items_of (More' p before item) = items_of before ++ (item ∷ [])
+items_of (More' p before item) = items_of before ++ (item.value ∷ [])
 items_of (Both' p front q back) = items_of front ++ items_of back

@@ -7,11 +7,11 @@ use std::snapshot::Snapshot;
 
 /// A list without bytes, seen as its items. It only grows.
 #[derive(Drop)]
-pub struct GhostList<T: Copy> {
+pub struct GhostList<T> {
     items: Snapshot<Chain<T>>,
 }
 
-impl<T: Copy> Model for GhostList<T> {
+impl<T> Model for GhostList<T> {
     ghost use Rattle.std.specs.Prelude.{List};
     ghost use Rattle.ghost_list.specs.Chains.{items_of};
 
@@ -20,7 +20,7 @@ impl<T: Copy> Model for GhostList<T> {
     ghost view = { λ s. items_of s.items.value };
 }
 
-impl<T: Copy> GhostList<T> {
+impl<T> GhostList<T> {
     pub fn new() -> GhostList<T>
         ensures { result ≡ [] }
     {
@@ -30,11 +30,11 @@ impl<T: Copy> GhostList<T> {
     }
 
     /// Adds one item at its end.
-    pub fn add(&mut self, item: T)
-        ensures { self.new ≡ self.old ++ item ∷ [] }
+    pub fn add(&mut self, item: &T)
+        ensures { self.new ≡ self.old ++ item.now ∷ [] }
     {
         let before = mem::replace(&mut self.items, Snapshot::of(&Chain::Nothing));
-        self.items = Snapshot::of(&Chain::More(before, item));
+        self.items = Snapshot::of(&Chain::More(before, Snapshot::of(item)));
     }
 
     /// Adds these items at its end, in order.
@@ -42,7 +42,7 @@ impl<T: Copy> GhostList<T> {
         ensures { self.new ≡ self.old ++ items.now }
     {
         for i in 0..items.len() {
-            self.add(items[i]);
+            self.add(&items[i]);
         }
     }
 

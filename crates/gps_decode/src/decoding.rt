@@ -102,19 +102,17 @@ fn close<K: Sink>(
 /// Lines wait for further ones while more input is ready, and never while the source may wait.
 fn write_reports<S: Source, K: Sink, C: Clock>(
     alloc: Global,
-    device: &mut Device,
     output: &Output,
     history: u64,
     source: &mut S,
     sink: &mut K,
     clock: &mut C,
 ) -> CommandOutcome
-    // The device is new, and the sink is open.
-    requires fresh { StandsFor device.old.now [] }
+    // The sink is open, and stays open.
     requires takes { K.takes sink.old }
+    ensures takes { K.takes sink.new }
 
     // What is read, and what is written.
-    ensures takes { K.takes sink.new }
     ensures decoded { Decoded (texts_by output.now) result history (S.content source.old) (S.content source.new)
         (C.stamps clock.old) (C.stamps clock.new) (K.written sink.old) (K.written sink.new) }
 
@@ -124,6 +122,7 @@ fn write_reports<S: Source, K: Sink, C: Clock>(
     ensures quiets_stay { S.quiets source.old ≤ S.quiets source.new }
     ensures sink_faults_stay { K.faults sink.old ≤ K.faults sink.new }
 {
+    let mut device = Device::new(alloc);
     let mut draft = Draft::new(alloc);
     let mut intake = Intake::new(history);
     let mut buf = [0u8; 512];
@@ -133,19 +132,33 @@ fn write_reports<S: Source, K: Sink, C: Clock>(
         }
         match intake.step(source, &mut buf) {
             IntakeStep::Piece(n) => {
-                match hand_on(device, output, &mut draft, clock.now(), &buf[..n], sink) {
+                match hand_on(
+                    &mut device,
+                    output,
+                    &mut draft,
+                    clock.now(),
+                    &buf[..n],
+                    sink,
+                ) {
                     Ok(()) => {}
                     Err(fault) => return fault.outcome(),
                 }
             }
             IntakeStep::Quiet => {}
             IntakeStep::Last(n) => {
-                match hand_on_last(device, output, &mut draft, clock.now(), &buf[..n], sink) {
+                match hand_on_last(
+                    &mut device,
+                    output,
+                    &mut draft,
+                    clock.now(),
+                    &buf[..n],
+                    sink,
+                ) {
                     Ok(()) => return CommandOutcome::Full,
                     Err(fault) => return fault.outcome(),
                 }
             }
-            IntakeStep::End => match close(device, output, &mut draft, sink) {
+            IntakeStep::End => match close(&mut device, output, &mut draft, sink) {
                 Ok(()) => return CommandOutcome::Done,
                 Err(fault) => return fault.outcome(),
             },
@@ -201,16 +214,7 @@ pub fn decode<S: Source, K: Sink, C: Clock>(
     ensures quiets_stay { S.quiets source.old ≤ S.quiets source.new }
     ensures sink_faults_stay { K.faults sink.old ≤ K.faults sink.new }
 {
-    let mut device = Device::new(alloc);
-    write_reports(
-        alloc,
-        &mut device,
-        &Output::Lines,
-        history,
-        source,
-        sink,
-        clock,
-    )
+    write_reports(alloc, &Output::Lines, history, source, sink, clock)
 }
 
 /// Reads what one device sends as [`decode`] does, and writes two sentences of NMEA 0183 for each fix, an RMC and a GGA, in place
@@ -236,14 +240,5 @@ pub fn pseudo<S: Source, K: Sink, C: Clock>(
     ensures quiets_stay { S.quiets source.old ≤ S.quiets source.new }
     ensures sink_faults_stay { K.faults sink.old ≤ K.faults sink.new }
 {
-    let mut device = Device::new(alloc);
-    write_reports(
-        alloc,
-        &mut device,
-        &Output::Sentences,
-        history,
-        source,
-        sink,
-        clock,
-    )
+    write_reports(alloc, &Output::Sentences, history, source, sink, clock)
 }

@@ -15,7 +15,7 @@ use Rattle.gps_words.specs.Options.{are_taken, read_by}
 use Rattle.gps_words.specs.Pseudo.{pseudo_in}
 use Rattle.gps_words.specs.Numbers.{number_if, number_in, number_or}
 use Rattle.gps_words.specs.Replay.{history_in, queue_in, replay_in}
-use Rattle.gps_words.specs.Serve.{Serve, cycle_gap_in, devices_among, if_address, listen_in, monitor_in, numbers_in, reopen_in, report_in, serve_in, serve_of_numbers, serve_with, stop_in, stop_or, wait_in}
+use Rattle.gps_words.specs.Serve.{Serve, cycle_gap_in, devices_among, if_address, listen_in, monitor_in, numbers_in, reopen_in, report_in, requests_in, serve_in, serve_of_numbers, serve_with, stop_in, stop_or, wait_in}
 use Rattle.gps_words.specs.declared.serve.ServeNumbers.{ServeNumbers}
 use Rattle.gps_help.specs.Agreement.{IsWrittenByName, TakesWhatIsAccepted, app_by_table, are_right, is_right, name_of, with_name}
 use Rattle.gps_help.specs.Options.{flag_of, takes}
@@ -27,6 +27,7 @@ pub is_written_by_name : IsWrittenByName
 unfolding flag_of
 is_written_by_name option.Listen = refl
 is_written_by_name option.Queue = refl
+is_written_by_name option.Requests = refl
 is_written_by_name option.History = refl
 is_written_by_name option.Wait = refl
 is_written_by_name option.Monitor = refl
@@ -96,35 +97,38 @@ address right none some None = refl ∙ sym none
 address right none some (Some text) = sym (some text)
 
 -- the order in which the values are read makes no difference to whether they are
-shuffled : (q h w m r c p s d : Bool)
-    → (q && (h && (w && (m && (r && (c && p)))))) && (s && (d && true)) ≡ (q && (h && (w && (m && (r && (c && (p && (s && true)))))))) && d
-shuffled false h w m r c p s d = refl
-shuffled true false w m r c p s d = refl
-shuffled true true false m r c p s d = refl
-shuffled true true true false r c p s d = refl
-shuffled true true true true false c p s d = refl
-shuffled true true true true true false p s d = refl
-shuffled true true true true true true false s d = refl
-shuffled true true true true true true true false d = refl
-shuffled true true true true true true true true d = and_true d
+shuffled : (q a h w m r c p s d : Bool)
+    → (q && (a && (h && (w && (m && (r && (c && p))))))) && (s && (d && true)) ≡ (q && (a && (h && (w && (m && (r && (c && (p && (s && true))))))))) && d
+shuffled false a h w m r c p s d = refl
+shuffled true false h w m r c p s d = refl
+shuffled true true false w m r c p s d = refl
+shuffled true true true false m r c p s d = refl
+shuffled true true true true false r c p s d = refl
+shuffled true true true true true false c p s d = refl
+shuffled true true true true true true false p s d = refl
+shuffled true true true true true true true false s d = refl
+shuffled true true true true true true true true false d = refl
+shuffled true true true true true true true true true d = and_true d
 
 nothing : (n s d : Bool) → n && (s && (d && false)) ≡ false
 nothing false s d = refl
 nothing true false d = refl
 nothing true true d = and_false d
 
-ordered : (l q h w m r c p s d : Bool)
-    → (q && (h && (w && (m && (r && (c && p)))))) && (s && (d && l)) ≡ (l && (q && (h && (w && (m && (r && (c && (p && (s && true))))))))) && d
-ordered true q h w m r c p s d = shuffled q h w m r c p s d
-ordered false q h w m r c p s d = nothing (q && (h && (w && (m && (r && (c && p)))))) s d
+ordered : (l q a h w m r c p s d : Bool)
+    → (q && (a && (h && (w && (m && (r && (c && p))))))) && (s && (d && l))
+    ≡ (l && (q && (a && (h && (w && (m && (r && (c && (p && (s && true)))))))))) && d
+ordered true q a h w m r c p s d = shuffled q a h w m r c p s d
+ordered false q a h w m r c p s d = nothing (q && (a && (h && (w && (m && (r && (c && p))))))) s d
 
 numbers : (rows : List Row) → is_some (numbers_in rows)
-    ≡ is_some (queue_in rows) && (is_some (history_in rows) && (is_some (wait_in rows) && (is_some (monitor_in rows)
-    && (is_some (reopen_in rows) && (is_some (cycle_gap_in rows) && is_some (report_in rows))))))
+    ≡ is_some (queue_in rows) && (is_some (requests_in rows) && (is_some (history_in rows) && (is_some (wait_in rows) && (is_some (monitor_in rows)
+    && (is_some (reopen_in rows) && (is_some (cycle_gap_in rows) && is_some (report_in rows)))))))
 unfolding numbers_in
 numbers rows =
-    bound _ (queue_in rows) _ (λ queue. bound _ (history_in rows) _ (λ history. bound _ (wait_in rows) _ (λ wait. bound _ (monitor_in rows) _
-    (λ monitor. bound _ (reopen_in rows) _ (λ reopen. bound _ (cycle_gap_in rows) _ (λ cycle_gap. mapped _ (report_in rows)))))))
+    bound _ (queue_in rows) _ (λ queue. bound _ (requests_in rows) _ (λ requests. bound _ (history_in rows) _ (λ history.
+    bound _ (wait_in rows) _ (λ wait. bound _ (monitor_in rows) _ (λ monitor. bound _ (reopen_in rows) _ (λ reopen.
+    bound _ (cycle_gap_in rows) _ (λ cycle_gap. mapped _ (report_in rows))))))))
 
 if_it_is : (rows : List Row) (n : ServeNumbers) (stop : Option Text) (devices : Lists)
     → is_some (if_address (listen_in rows) n stop devices) ≡ is_address (listen_in rows)
@@ -178,16 +182,18 @@ serve_right rows =
     served rows
     ∙ both _ _ _ _ (numbers rows
     ∙ both _ _ _ _ (optional 4_096 1 65_536 (is_right command.Serve option.Queue) refl (λ text. refl) (first_of (codes "queue") rows))
+    (both _ _ _ _ (optional 65_536 1 4_294_967_294 (is_right command.Serve option.Requests) refl (λ text. refl) (first_of (codes "requests") rows))
     (both _ _ _ _ (optional 16_777_216 1 33_554_432 (is_right command.Serve option.History) refl (λ text. refl) (first_of (codes "history") rows))
     (both _ _ _ _ (optional 0 0 64 (is_right command.Serve option.Wait) refl (λ text. refl) (first_of (codes "wait") rows))
     (both _ _ _ _ (optional 0 0 1_000_000 (is_right command.Serve option.Monitor) refl (λ text. refl) (first_of (codes "monitor") rows))
     (both _ _ _ _ (absent 1 3_600 (is_right command.Serve option.Reopen) refl (λ text. refl) (first_of (codes "reopen") rows))
     (both _ _ _ _ (absent 1 10_000 (is_right command.Serve option.CycleGap) refl (λ text. refl) (first_of (codes "cycle-gap") rows))
-    (absent 10 86_400 (is_right command.Serve option.Report) refl (λ text. refl) (first_of (codes "report") rows))))))))
+    (absent 10 86_400 (is_right command.Serve option.Report) refl (λ text. refl) (first_of (codes "report") rows)))))))))
     (both _ _ _ _ (path (is_right command.Serve option.Stop) refl (λ text. if_some (nat_lt 0 (length text)) text) (first_of (codes "stop") rows))
     (both _ _ _ _ refl (address (is_right command.Serve option.Listen) refl (λ text. refl) (first_of (codes "listen") rows))))
-    ∙ ordered (given option.Listen rows) (given option.Queue rows) (given option.History rows) (given option.Wait rows) (given option.Monitor rows)
-    (given option.Reopen rows) (given option.CycleGap rows) (given option.Report rows) (given option.Stop rows) (is_some (devices_among rows))
+    ∙ ordered (given option.Listen rows) (given option.Queue rows) (given option.Requests rows) (given option.History rows) (given option.Wait rows)
+    (given option.Monitor rows) (given option.Reopen rows) (given option.CycleGap rows) (given option.Report rows) (given option.Stop rows)
+    (is_some (devices_among rows))
 
 taken : {X : Type 0} (b : Bool) (x : Option X) → is_some (if b then x else None) ≡ b && is_some x
 taken true x = refl

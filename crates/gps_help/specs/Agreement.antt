@@ -11,12 +11,13 @@ use Rattle.gps_help.specs.Options.{flag_of, is_needed, options_of, takes}
 use Rattle.gps_help.specs.declared.command_name.CommandName.{CommandName}
 use Rattle.gps_help.specs.declared.command_name.CommandName.TheVariants.{Decode, Replay, Generate, Pseudo, Lines, Serve}
 use Rattle.gps_help.specs.declared.option_name.OptionName.{OptionName}
-use Rattle.gps_help.specs.declared.option_name.OptionName.TheVariants.{Listen, Queue, History, Wait, Monitor, Reopen, CycleGap, Report, Stop, Bytes, Seed, Size}
+use Rattle.gps_help.specs.declared.option_name.OptionName.TheVariants.{Listen, Queue, Requests, History, Wait, Monitor, Reopen, CycleGap, Report, Stop, Bytes, Seed, Size}
 
 -- the name under which clap gives an option's values
 abbrev pub name_of : OptionName → Text
 name_of Listen = codes "listen"
 name_of Queue = codes "queue"
+name_of Requests = codes "requests"
 name_of History = codes "history"
 name_of Wait = codes "wait"
 name_of Monitor = codes "monitor"

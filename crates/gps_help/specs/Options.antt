@@ -8,7 +8,7 @@ use Rattle.gps_words.specs.Numbers.{number_in}
 use Rattle.gps_help.specs.declared.command_name.CommandName.{CommandName}
 use Rattle.gps_help.specs.declared.command_name.CommandName.TheVariants.{Decode, Replay, Generate, Pseudo, Lines, Serve}
 use Rattle.gps_help.specs.declared.option_name.OptionName.{OptionName}
-use Rattle.gps_help.specs.declared.option_name.OptionName.TheVariants.{Listen, Queue, History, Wait, Monitor, Reopen, CycleGap, Report, Stop, Bytes, Seed, Size}
+use Rattle.gps_help.specs.declared.option_name.OptionName.TheVariants.{Listen, Queue, Requests, History, Wait, Monitor, Reopen, CycleGap, Report, Stop, Bytes, Seed, Size}
 
 abbrev pub options_of : CommandName → List OptionName
 options_of Decode = Bytes ∷ []
@@ -16,7 +16,7 @@ options_of Pseudo = Bytes ∷ []
 options_of Replay = History ∷ Queue ∷ []
 options_of Generate = Seed ∷ Size ∷ []
 options_of Lines = []
-options_of Serve = Listen ∷ Queue ∷ History ∷ Wait ∷ Monitor ∷ Reopen ∷ CycleGap ∷ Report ∷ Stop ∷ []
+options_of Serve = Listen ∷ Queue ∷ Requests ∷ History ∷ Wait ∷ Monitor ∷ Reopen ∷ CycleGap ∷ Report ∷ Stop ∷ []
 
 -- the command takes device words; the others take options alone
 abbrev pub is_served : CommandName → Bool
@@ -33,6 +33,7 @@ is_needed _ _ = false
 unfoldable pub flag_of : OptionName → Text
 flag_of Listen = codes "--listen"
 flag_of Queue = codes "--queue"
+flag_of Requests = codes "--requests"
 flag_of History = codes "--history"
 flag_of Wait = codes "--wait"
 flag_of Monitor = codes "--monitor"
@@ -52,6 +53,7 @@ option_named command flag = find (λ option. bytes_eq flag (flag_of option)) (op
 abbrev pub range_of : OptionName → Option (ℕ × ℕ)
 range_of Listen = None
 range_of Queue = Some (1, 65_536)
+range_of Requests = Some (1, 4_294_967_294)
 range_of History = Some (1, 33_554_432)
 range_of Wait = Some (0, 64)
 range_of Monitor = Some (0, 1_000_000)

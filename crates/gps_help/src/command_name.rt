@@ -103,6 +103,7 @@ impl CommandName {
             CommandName::Serve => &[
                 OptionName::Listen,
                 OptionName::Queue,
+                OptionName::Requests,
                 OptionName::History,
                 OptionName::Wait,
                 OptionName::Monitor,

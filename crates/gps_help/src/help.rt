@@ -24,6 +24,7 @@ pub const SERVE: &str = "
 options of serve:
   --listen HOST:PORT   where clients connect; port 0 takes a free one (127.0.0.1:2947)
   --queue N            items that may wait for a client, 1 to 65536 (4096)
+  --requests N         requests of a client that are answered, 1 to 4294967294 (65536)
   --history N          bytes and edges of one generation of the history, 1 to 33554432 (16777216)
   --wait N             clients that must have watched before what devices send is handed on, 0 to 64 (0)
   --monitor N          readings of each monitor of a segment, 0 to 1000000 (0)

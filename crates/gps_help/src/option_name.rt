@@ -8,6 +8,7 @@ use gps_words::{bytes_within, is_address, number_within};
 pub enum OptionName {
     Listen,
     Queue,
+    Requests,
     /// `--history` of `serve` and `replay`.
     History,
     Wait,
@@ -28,6 +29,7 @@ impl OptionName {
         match self {
             OptionName::Listen => "listen",
             OptionName::Queue => "queue",
+            OptionName::Requests => "requests",
             OptionName::History | OptionName::Bytes => "history",
             OptionName::Wait => "wait",
             OptionName::Monitor => "monitor",
@@ -48,6 +50,7 @@ impl OptionName {
         match self {
             OptionName::Listen => "--listen",
             OptionName::Queue => "--queue",
+            OptionName::Requests => "--requests",
             OptionName::History | OptionName::Bytes => "--history",
             OptionName::Wait => "--wait",
             OptionName::Monitor => "--monitor",
@@ -67,6 +70,7 @@ impl OptionName {
         match self {
             OptionName::Listen | OptionName::Stop => None,
             OptionName::Queue => Some((1, 65_536)),
+            OptionName::Requests => Some((1, 4_294_967_294)),
             OptionName::History | OptionName::Bytes => Some((1, 33_554_432)),
             OptionName::Wait => Some((0, 64)),
             OptionName::Monitor => Some((0, 1_000_000)),

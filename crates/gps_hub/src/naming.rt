@@ -11,5 +11,5 @@ pub trait HubNaming: DoorNaming {
 impl HubNaming for Brand {
     ghost use Rattle.std.specs.Prelude.{[]};
 
-    ghost terms = { record { names = []; limit = 0; lanes = []; segments = []; wait = 0 } };
+    ghost terms = { record { names = []; limit = 0; requests = 0; lanes = []; segments = []; wait = 0 } };
 }

@@ -72,6 +72,7 @@ module _ {G S K R : Type 0} (told : DaemonSettings) (facts : WorldFacts G S K) (
     names = at.names;
     limit = at.limit;
     queue = at.queue;
+    requests = at.requests;
     inlets = at.inlets;
     done = at.done;
     hub = at.hub;
@@ -141,6 +142,7 @@ module _ {G S K R : Type 0} (told : DaemonSettings) (facts : WorldFacts G S K) (
     names = at.names;
     limit = at.limit;
     queue = at.queue;
+    requests = at.requests;
     inlets = at.inlets;
     done = at.done;
     hub = at.hub;
@@ -182,22 +184,26 @@ gives (Some dial) = refl
 pub may_give : (may : Option (List Moment)) (stamps : Option Dial) → may ≡ dial_of stamps → MayGive may stamps
 may_give may stamps is = subst (λ m. MayGive m stamps) (sym is) (gives stamps)
 
-told : List (List ℕ) → ℕ → ℕ → ℕ → ℕ → DaemonSettings
-told names limit wait queue tries = record { names = names; limit = limit; wait = wait; queue = queue; tries = tries }
+told : List (List ℕ) → ℕ → ℕ → ℕ → ℕ → ℕ → DaemonSettings
+told names limit requests wait queue tries =
+    record { names = names; limit = limit; wait = wait; queue = queue; requests = requests; tries = tries }
 
-same_told : (b : BookView) (first : List InletsView) (plan : Plan) → b.names ≡ plan.names → b.log.limit ≡ plan.limit
+same_told : (b : BookView) (first : List InletsView) (plan : Plan) → b.names ≡ plan.names → b.log.limit ≡ plan.limit → b.most_requests ≡ plan.requests
     → settings_of (terms_of b first plan.wait) plan.queue plan.tries ≡ settings_in plan
 unfolding told
-same_told b first plan names limit =
-    ap (λ n. told n b.log.limit plan.wait plan.queue plan.tries) names ∙ ap (λ l. told plan.names l plan.wait plan.queue plan.tries) limit
+same_told b first plan names limit requests =
+    ap (λ n. told n b.log.limit b.most_requests plan.wait plan.queue plan.tries) names
+    ∙ ap (λ l. told plan.names l b.most_requests plan.wait plan.queue plan.tries) limit
+    ∙ ap (λ r. told plan.names plan.limit r plan.wait plan.queue plan.tries) requests
 
 -- of a book that was made for the plan
 pub told_again : {G S K R : Type 0} (facts : WorldFacts G S K) (back : HandedBack G S K R) (book : Option BookView) (b : BookView) (first : List InletsView) (plan : Plan)
-    (stamps shown : Option Dial) (links linked : Option (List (Way S K))) → b.names ≡ plan.names → b.log.limit ≡ plan.limit → Tells stamps shown → Tells links linked
+    (stamps shown : Option Dial) (links linked : Option (List (Way S K)))
+    → b.names ≡ plan.names → b.log.limit ≡ plan.limit → b.most_requests ≡ plan.requests → Tells stamps shown → Tells links linked
     → IfSome book (AtEnd (start_with (settings_of (terms_of b first plan.wait) plan.queue plan.tries) (dial_of shown) shown linked) facts back)
     → IfSome book (AtEnd (start_with (settings_in plan) (dial_of stamps) stamps links) facts back)
-told_again facts back None b first plan stamps shown links linked names limit tells tells' so = tt
-told_again facts back (Some x) b first plan stamps shown links linked names limit tells tells' so =
+told_again facts back None b first plan stamps shown links linked names limit requests tells tells' so = tt
+told_again facts back (Some x) b first plan stamps shown links linked names limit requests tells tells' so =
     as_linked (settings_in plan) facts back x (dial_of stamps) stamps links linked tells'
     (as_told (settings_in plan) facts back x linked stamps shown tells
-    (subst (λ (t : DaemonSettings). AtEnd (start_with t (dial_of shown) shown linked) facts back x) (same_told b first plan names limit) so))
+    (subst (λ (t : DaemonSettings). AtEnd (start_with t (dial_of shown) shown linked) facts back x) (same_told b first plan names limit requests) so))

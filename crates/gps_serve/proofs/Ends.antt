@@ -25,7 +25,7 @@ use Rattle.serve_workers.specs.declared.monitors.MonitorStart.{MonitorStart}
 use Rattle.serve_workers.specs.Segments.{segments_of}
 use Rattle.gps_serve.specs.declared.starts.DeviceStart.{DeviceStart}
 use Rattle.serve_workers.specs.declared.session.SessionLink.{SessionLink}
-use Rattle.gps_serve.specs.AtEnd.{AtEnd, HandedBack, ShowsOutOfMemory, settings_of, start_with}
+use Rattle.gps_serve.specs.AtEnd.{AtEnd, HandedBack, HaveRequests, ShowsOutOfMemory, settings_of, start_with}
 use Rattle.gps_serve.specs.Facts.{WorldFacts}
 use Rattle.gps_serve.specs.Served.{DeviceServed, GateServed, MonitorServed, monitored}
 use Rattle.serve_door.specs.Doors.{Way, lanes_of}
@@ -96,7 +96,7 @@ segments_of_units (u ∷ units) = ap suc (segments_of_units units)
 pub at_end_of : {G S K R : Type 0} (terms : Terms) (queue tries : ℕ) (may : Option (List Moment)) (clock : Option Dial) (links : Option (List (Way S K))) (facts : WorldFacts G S K)
     (back : HandedBack G S K R) (no_memory : Bool) (seat : Admissions) (ways : List (SessionLink S K R)) (gate : G)
     (b b' b'' : BookView) (inlets : List InletsView) (inputs : List (Taking Piece)) (ends : List (Option DeviceEnd))
-    → terms_of b inlets terms.wait ≡ terms
+    → terms_of b inlets terms.wait ≡ terms → BookHolds b
     → DaemonHub (record { book = b; devices = devices_of inlets ends; inputs = inputs; done = seat.done; wait = terms.wait })
     → AreAdmitted seat.links b.sessions inputs → map (lanes_of queue) ways ≡ seat.links
     → All IsUnit b.units → AreAtRest (length terms.segments) b.units → CountFromZero terms.segments → All IsClosed b.sessions → All HasStopped ends
@@ -108,7 +108,7 @@ pub at_end_of : {G S K R : Type 0} (terms : Terms) (queue tries : ℕ) (may : Op
     → (back.no_memory ≡ true → ShowsOutOfMemory links (facts.gates.links gate) back b)
     → StampsAreGiven clock (map (λ (d : DeviceDone S R). d.bytes_tx.put) back.devices)
     → AtEnd (start_with (settings_of terms queue tries) may clock links) facts back b''
-at_end_of {G} {S} {K} {R} terms queue tries may clock links facts back no_memory seat ways gate b b' b'' inlets inputs ends same hub admitted lanes keeps
+at_end_of {G} {S} {K} {R} terms queue tries may clock links facts back no_memory seat ways gate b b' b'' inlets inputs ends same holds hub admitted lanes keeps
     rests zeros closed stopped served ends_are is sessions_are is' monitors_are numbers so gate_is door short stamps =
     let segments : map segment_of b.units ≡ terms.segments = ap (λ (t : Terms). t.segments) same in
     subst (λ (x : BookView). AtEnd (start_with (settings_of terms queue tries) may clock links) facts back x) (sym (is' ∙ is)) (
@@ -116,6 +116,7 @@ at_end_of {G} {S} {K} {R} terms queue tries may clock links facts back no_memory
       names = ap (λ (t : Terms). t.names) same;
       limit = ap (λ (t : Terms). t.limit) same;
       queue = of_queue queue seat ways b.sessions inputs lanes admitted;
+      requests = subst (λ (most : ℕ). HaveRequests most b.sessions) (ap (λ (t : Terms). t.requests) same) holds.requests;
       inlets = inlets;
       done = seat.done;
       hub = hub_returned facts.sources b inlets (map (λ (d : DeviceDone S R). d.end) back.devices) inputs seat.done terms.wait back.sessions closed sessions_are.inputs_are

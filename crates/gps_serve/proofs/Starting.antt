@@ -24,6 +24,10 @@ use Rattle.session_core.specs.declared.subject.Subject.{Subject}
 pub unused : {names : List (List ℕ)} {limit : ℕ} {firsts : List ℕ} {b : BookView} → IsNewBook names limit firsts b → IsUnused b
 unused {names} {limit} {firsts} {b} new = unused_new names limit firsts b new
 
+-- the same book, of whose sessions another number of requests is answered
+pub still_unused : (b : BookView) (most : ℕ) → IsUnused b → IsUnused (record b { most_requests = most })
+still_unused b most unused = record { opening = unused.opening; log = unused.log; sessions = unused.sessions; units = unused.units }
+
 no_edge : {S R : Type 0} (facts : SourceFacts S) (start : Option (EdgeStart S R)) (rx : Option (Taking Piece)) → IsFreshEdge facts start rx → got_of rx ≡ []
 no_edge facts None None fresh = refl
 no_edge facts None (Some rx) fresh = absurd fresh

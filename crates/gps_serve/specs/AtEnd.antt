@@ -30,13 +30,16 @@ pub record DaemonSettings : Type 0 where
   pub limit : ℕ
   pub wait : ℕ
   pub queue : ℕ
+  pub requests : ℕ
   pub tries : ℕ
 
 abbrev pub settings_of : Terms → ℕ → ℕ → DaemonSettings
-settings_of terms queue tries = record { names = terms.names; limit = terms.limit; wait = terms.wait; queue = queue; tries = tries }
+settings_of terms queue tries =
+    record { names = terms.names; limit = terms.limit; wait = terms.wait; queue = queue; requests = terms.requests; tries = tries }
 
 abbrev pub settings_in : Plan → DaemonSettings
-settings_in plan = record { names = plan.names; limit = plan.limit; wait = plan.wait; queue = plan.queue; tries = plan.tries }
+settings_in plan =
+    record { names = plan.names; limit = plan.limit; wait = plan.wait; queue = plan.queue; requests = plan.requests; tries = plan.tries }
 
 -- what a daemon begins with: what it was told, the stamps that its clock may give, all that its clock tells of its stamps, and the links of its door; the
 -- last three if they are told
@@ -84,6 +87,10 @@ ShowsOutOfMemory told left back book =
 abbrev pub HaveQueue : ℕ → List MemberView → Type 0
 HaveQueue queue sessions = All (λ (a : MemberView). a.session.cap ≡ queue) sessions
 
+-- how many requests of each session are answered
+abbrev pub HaveRequests : ℕ → List MemberView → Type 0
+HaveRequests most sessions = All (λ (a : MemberView). a.session.most_requests ≡ most) sessions
+
 -- what the hub knows of its parts, by the lanes that are handed back
 abbrev pub parts_at_end : {G S K R : Type 0} → BookView → List InletsView → HandedBack G S K R → Bool → ℕ → Parts
 parts_at_end {G} {S} {K} {R} book inlets back done wait = record {
@@ -102,6 +109,8 @@ pub record AtEnd {G S K R : Type 0} (start : DaemonStart S K) (facts : WorldFact
   pub names : book.names ≡ start.told.names
   pub limit : book.log.limit ≡ start.told.limit
   pub queue : HaveQueue start.told.queue book.sessions
+  -- this number of requests of each session is answered
+  pub requests : HaveRequests start.told.requests book.sessions
   -- what holds of the hub holds of the book, the lanes and the devices' ends
   pub inlets : List InletsView
   pub done : Bool

@@ -34,6 +34,7 @@ use std::sync::Wait;
 #[derive(Clone, Copy)]
 pub(crate) struct Numbers {
     pub(crate) queue: u32,
+    pub(crate) requests: u32,
     pub(crate) limit: u32,
     pub(crate) wait: u32,
     pub(crate) tries: u32,

@@ -10,6 +10,7 @@ ghost use Rattle.gps_serve.specs.Starts.{IsFreshDevice, edges_at, sources_at};
 ghost use Rattle.gps_serve.specs.Units.{CountFromZero};
 ghost use Rattle.gps_serve.specs.Served.{monitored};
 
+use crate::gathering::Numbers;
 use crate::lanes::{DeviceLanes, lay};
 use gps_fixed::NoMemory;
 use gps_hub::DoorTable;
@@ -34,20 +35,21 @@ pub(crate) struct Ground<S: Source, R: Wait + Copy> {
     pub(crate) bells: Bells,
 }
 
-/// A new book, whose units are numbered from 1 on.
-#[tactic(auto, using(crate::proofs::Starting::unused, crate::proofs::Starting::two_each))]
+/// A new book, whose units are numbered from 1 on. The given number of requests of each of its sessions is answered.
 fn new_book<R: Wait + Copy>(
     alloc: Global,
     names: Names,
     limit: u32,
+    requests: u32,
 ) -> Result<Book<Tx<Item, R>>, NoMemory>
     requires some { 1 ≤ limit }
     requires most { limit ≤ most_history }
 
-    // The book is new, with these names and this limit.
+    // The book is new, with these names and these numbers.
     ensures unused { IfOk result IsUnused }
     ensures names { IfOk result (λ book. book.names ≡ names) }
     ensures limit { IfOk result (λ book. book.log.limit ≡ limit) }
+    ensures requests { IfOk result (λ book. book.most_requests ≡ requests) }
 
     // It has two units for each of at most eight devices, and their samples are counted from 1.
     ensures units { IfOk result (λ book. length book.units ≡ 2 * length names) }
@@ -55,7 +57,8 @@ fn new_book<R: Wait + Copy>(
     ensures few { length names ≤ 8 }
 {
     let _few = names.len();
-    let book = Book::new(alloc, names, limit, [0; 16])?;
+    let mut book = Book::new(alloc, names, limit, [0; 16])?;
+    book.allow_requests(requests);
     Ok(book)
 }
 
@@ -112,14 +115,13 @@ pub(crate) fn prepare<S: Source, R: Wait + Copy>(
     rt: R,
     alloc: Global,
     names: Names,
-    limit: u32,
-    tries: u32,
+    numbers: Numbers,
     inputs: Vec<S>,
     edges: Vec<Option<S>>,
 ) -> Result<Ground<S, R>, NoMemory>
     // The limit is in its range. Each device has an input, and may have a source of edges.
-    requires some { 1 ≤ limit }
-    requires most { limit ≤ most_history }
+    requires some { 1 ≤ numbers.limit }
+    requires most { numbers.limit ≤ most_history }
     requires count { length inputs.items ≡ length names }
     requires each { length edges.items ≡ length names }
 
@@ -130,7 +132,8 @@ pub(crate) fn prepare<S: Source, R: Wait + Copy>(
     // The book is new, with two units for each of at most eight devices.
     ensures unused { IfOk result (λ ground. IsUnused ground.book) }
     ensures names { IfOk result (λ ground. ground.book.names ≡ names) }
-    ensures limit { IfOk result (λ ground. ground.book.log.limit ≡ limit) }
+    ensures limit { IfOk result (λ ground. ground.book.log.limit ≡ numbers.limit) }
+    ensures requests { IfOk result (λ ground. ground.book.most_requests ≡ numbers.requests) }
     ensures few { length names ≤ 8 }
     ensures units { IfOk result (λ ground. length ground.book.units ≡ 2 * length ground.book.names) }
 
@@ -142,19 +145,19 @@ pub(crate) fn prepare<S: Source, R: Wait + Copy>(
     // The readers begin with these sources and new lanes, the monitors with the segments of the units.
     ensures sources { IfOk result (λ ground. sources_at ground.lanes.starts.items ≡ inputs.items) }
     ensures edge_sources { IfOk result (λ ground. edges_at ground.lanes.starts.items ≡ edges.items) }
-    ensures monitor_starts { IfOk result (λ ground. segments_of ground.monitor_starts.items ≡ monitored tries (map segment_of ground.book.units)) }
+    ensures monitor_starts { IfOk result (λ ground. segments_of ground.monitor_starts.items ≡ monitored numbers.tries (map segment_of ground.book.units)) }
     ensures fresh { IfOk result (λ ground.
         AllZip (IsFreshDevice (source_facts S.Source)) ground.lanes.starts.items ground.lanes.inlets.items) }
 {
     let count = names.len();
-    let mut book = new_book(alloc, names, limit)?;
+    let mut book = new_book(alloc, names, numbers.limit, numbers.requests)?;
     let lanes = lay(rt, alloc, inputs, edges)?;
     let Tables {
         doors,
         stamps,
         monitor_starts,
         bells,
-    } = make_tables(alloc, &mut book, tries, count)?;
+    } = make_tables(alloc, &mut book, numbers.tries, count)?;
     Ok(Ground {
         book,
         lanes,

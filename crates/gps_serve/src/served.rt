@@ -267,12 +267,14 @@ pub fn serve<W: World, R: Threads + Wait + Copy + Send + Sync>(
         edges,
         listen,
         queue,
+        requests,
         limit,
         wait,
         tries,
     } = plan;
     let numbers = Numbers {
         queue,
+        requests,
         limit,
         wait,
         tries,
@@ -287,7 +289,7 @@ pub fn serve<W: World, R: Threads + Wait + Copy + Send + Sync>(
         Ok(outside) => outside,
         Err(stop) => return hand_back(alloc, world, Err(Unserved { stop, gate: None })),
     };
-    match prepare(rt, alloc, names, limit, tries, inputs, edges) {
+    match prepare(rt, alloc, names, numbers, inputs, edges) {
         Ok(ground) => {
             match run::<Brand, Brand, W, R>(rt, alloc, ground, gate, clock, &world, numbers) {
                 Ok(end) => hand_back(alloc, world, Ok(end)),

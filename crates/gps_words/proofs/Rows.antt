@@ -130,6 +130,10 @@ replayed : asked_of (codes "replay" ∷ codes "--queue" ∷ codes "65536" ∷ []
 unfolding clap_on_literals asked_on_literals
 replayed = refl
 
+requests_of_replay : asked_of (codes "replay" ∷ codes "--requests=5" ∷ []) ≡ None
+unfolding clap_on_literals asked_on_literals
+requests_of_replay = refl
+
 option_of_lines : asked_of (codes "lines" ∷ codes "--history=5" ∷ []) ≡ None
 unfolding clap_on_literals asked_on_literals
 option_of_lines = refl
@@ -147,7 +151,7 @@ abbrev served : List Text → Option Serve
 served words = serve_asked_of (codes "serve" ∷ words)
 
 abbrev defaults : ServeNumbers
-defaults = record { queue = 4_096; history = 16_777_216; wait = 0; monitor = 0; reopen = None; cycle_gap = None; report = None }
+defaults = record { queue = 4_096; requests = 65_536; history = 16_777_216; wait = 0; monitor = 0; reopen = None; cycle_gap = None; report = None }
 
 one_device : served (codes "g=file:x" ∷ []) ≡ Some (record {
   devices = record { names = codes "g" ∷ []; inputs = File (codes "x") ∷ []; edges = None ∷ [] };
@@ -184,6 +188,23 @@ stopped_and_reopened : served (codes "--stop" ∷ codes "/run/stop" ∷ codes "g
 })
 unfolding clap_on_literals serve_on_literals
 stopped_and_reopened = refl
+
+most_requests : served (codes "--requests" ∷ codes "4294967294" ∷ codes "g=file:x" ∷ []) ≡ Some (record {
+  devices = record { names = codes "g" ∷ []; inputs = File (codes "x") ∷ []; edges = None ∷ [] };
+  listen = codes "127.0.0.1:2947";
+  numbers = record defaults { requests = 4_294_967_294 };
+  stop = None;
+})
+unfolding clap_on_literals serve_on_literals
+most_requests = refl
+
+no_requests : served (codes "--requests=0" ∷ codes "g=file:x" ∷ []) ≡ None
+unfolding clap_on_literals serve_on_literals
+no_requests = refl
+
+over_most_requests : served (codes "--requests=4294967295" ∷ codes "g=file:x" ∷ []) ≡ None
+unfolding clap_on_literals serve_on_literals
+over_most_requests = refl
 
 gap_and_report : served (codes "--cycle-gap" ∷ codes "100" ∷ codes "g=file:x" ∷ codes "--report=86400" ∷ []) ≡ Some (record {
   devices = record { names = codes "g" ∷ []; inputs = File (codes "x") ∷ []; edges = None ∷ [] };

@@ -1,5 +1,5 @@
 -- What the words of `serve` ask for lies in its ranges.
-use Rattle.std.proofs.Common.{◌≡◌, ◌≤◌, ◌&&◌, ◌+◌, ℕ, Bool, true, false, nat_le, refl, sym, ap, ◌∙◌, arith, List, [], ◌∷◌, ◌++◌, length, ◌<◌, nat_lt, IfSome, Option, Some, None, option_map, option_and_then, if◌then◌else◌}
+use Rattle.std.proofs.Common.{◌≡◌, ◌≤◌, ◌&&◌, ℕ, Bool, true, false, nat_le, refl, ap, ◌∙◌, arith, List, [], ◌∷◌, length, nat_lt, IfSome, Option, Some, None, option_map, option_and_then, if◌then◌else◌}
 use Rattle.std.proofs.lemmas.Bool.{and_parts}
 use Rattle.std.proofs.Common.{leb-true, ltb-true}
 use Rattle.std.proofs.lemmas.List.{length-map, length-append}
@@ -14,8 +14,8 @@ use Rattle.gps_words.specs.declared.device.DeviceWord.{DeviceWord}
 use Rattle.gps_words.specs.declared.device.Target.{Target}
 use Rattle.gps_words.specs.declared.device.Target.TheVariants.{Device, Edges}
 use Rattle.gps_words.specs.declared.serve.ServeNumbers.{ServeNumbers}
-use Rattle.gps_words.specs.Devices.{Lists, are_devices, devices_in, devices_of, edges_of, input_of, inputs_of, is_address, is_count, lists_of, name_of, names_of, path_in, words_in}
-use Rattle.gps_words.specs.Serve.{Serve, cycle_gap_in, if_address, listen_in, devices_among, monitor_in, numbers_in, reopen_in, report_in, serve_app, serve_asked_of, serve_in, serve_of, stop_in, stop_or, wait_in}
+use Rattle.gps_words.specs.Devices.{Lists, are_devices, devices_in, devices_of, input_of, inputs_of, is_address, is_count, lists_of, name_of, names_of, words_in}
+use Rattle.gps_words.specs.Serve.{Serve, cycle_gap_in, if_address, listen_in, devices_among, monitor_in, numbers_in, reopen_in, report_in, requests_in, serve_app, serve_asked_of, serve_in, serve_of, stop_in, stop_or, wait_in}
 use Rattle.gps_words.specs.Within.{IsBetween, IsPath, IsWithin}
 
 pub some_is : {X : Type 0} (x y : X) → Some x ≡ Some y → x ≡ y
@@ -43,6 +43,8 @@ number_range default least most (Some text) n low high is =
 pub record InRange (n : ServeNumbers) : Type 0 where
   pub queue_low : 1 ≤ n.queue
   pub queue_high : n.queue ≤ 65_536
+  pub requests_low : 1 ≤ n.requests
+  pub requests_high : n.requests ≤ 4_294_967_294
   pub history_low : 1 ≤ n.history
   pub history_high : n.history ≤ 33_554_432
   pub wait : n.wait ≤ 64
@@ -51,9 +53,10 @@ pub record InRange (n : ServeNumbers) : Type 0 where
   pub cycle_gap : IfSome n.cycle_gap (IsBetween 1 10_000)
   pub report : IfSome n.report (IsBetween 10 86_400)
 
--- each of the seven is read
-record AreRead (q h w m : Option ℕ) (r g t : Option (Option ℕ)) (n : ServeNumbers) : Type 0 where
+-- each of the eight is read
+record AreRead (q a h w m : Option ℕ) (r g t : Option (Option ℕ)) (n : ServeNumbers) : Type 0 where
   pub queue : q ≡ Some n.queue
+  pub requests : a ≡ Some n.requests
   pub history : h ≡ Some n.history
   pub wait : w ≡ Some n.wait
   pub monitor : m ≡ Some n.monitor
@@ -70,13 +73,16 @@ read_last : {A B : Type 0} (f : A → B) (o : Option A) (b : B) → option_map f
 read_last f None b is = absurd (cc)
 read_last f (Some a) b is = (a, (refl, some_is (f a) b is))
 
-seven : (queue history wait monitor : Option ℕ) (reopen gap report : Option (Option ℕ)) (n : ServeNumbers)
-    → option_and_then (λ q. option_and_then (λ h. option_and_then (λ w. option_and_then (λ m. option_and_then (λ r. option_and_then (λ g. option_map (λ t.
-    record { queue = q; history = h; wait = w; monitor = m; reopen = r; cycle_gap = g; report = t }) report) gap) reopen) monitor) wait) history) queue ≡ Some n
-    → AreRead queue history wait monitor reopen gap report n
-seven queue history wait monitor reopen gap report n is =
+eight : (queue requests history wait monitor : Option ℕ) (reopen gap report : Option (Option ℕ)) (n : ServeNumbers)
+    → option_and_then (λ q. option_and_then (λ a. option_and_then (λ h. option_and_then (λ w. option_and_then (λ m. option_and_then (λ r.
+    option_and_then (λ g. option_map (λ t.
+    record { queue = q; requests = a; history = h; wait = w; monitor = m; reopen = r; cycle_gap = g; report = t })
+    report) gap) reopen) monitor) wait) history) requests) queue ≡ Some n
+    → AreRead queue requests history wait monitor reopen gap report n
+eight queue requests history wait monitor reopen gap report n is =
     let q = read_in_turn _ queue n is in
-    let h = read_in_turn _ history n q.1.1 in
+    let a = read_in_turn _ requests n q.1.1 in
+    let h = read_in_turn _ history n a.1.1 in
     let w = read_in_turn _ wait n h.1.1 in
     let m = read_in_turn _ monitor n w.1.1 in
     let r = read_in_turn _ reopen n m.1.1 in
@@ -84,6 +90,7 @@ seven queue history wait monitor reopen gap report n is =
     let t = read_last _ report n g.1.1 in
     record {
       queue = q.1.0 ∙ ap (λ (x : ServeNumbers). Some x.queue) t.1.1;
+      requests = a.1.0 ∙ ap (λ (x : ServeNumbers). Some x.requests) t.1.1;
       history = h.1.0 ∙ ap (λ (x : ServeNumbers). Some x.history) t.1.1;
       wait = w.1.0 ∙ ap (λ (x : ServeNumbers). Some x.wait) t.1.1;
       monitor = m.1.0 ∙ ap (λ (x : ServeNumbers). Some x.monitor) t.1.1;
@@ -114,14 +121,18 @@ stop_path (Some text) p is = path_read (nat_lt 0 (length text)) text p (λ e. lt
 numbers_range : (rows : List Row) (n : ServeNumbers) → numbers_in rows ≡ Some n → InRange n
 unfolding numbers_in
 numbers_range rows n is =
-    let f = seven (queue_in rows) (history_in rows) (wait_in rows) (monitor_in rows) (reopen_in rows) (cycle_gap_in rows) (report_in rows) n is in
+    let f = eight (queue_in rows) (requests_in rows) (history_in rows) (wait_in rows) (monitor_in rows) (reopen_in rows) (cycle_gap_in rows) (report_in rows)
+    n is in
     let q = number_range 4_096 1 65_536 (first_of (codes "queue") rows) n.queue (omega arith) (omega arith) f.queue in
+    let a = number_range 65_536 1 4_294_967_294 (first_of (codes "requests") rows) n.requests (omega arith) (omega arith) f.requests in
     let h = number_range 16_777_216 1 33_554_432 (first_of (codes "history") rows) n.history (omega arith) (omega arith) f.history in
     let w = number_range 0 0 64 (first_of (codes "wait") rows) n.wait (omega arith) (omega arith) f.wait in
     let m = number_range 0 0 1_000_000 (first_of (codes "monitor") rows) n.monitor (omega arith) (omega arith) f.monitor in
     record {
       queue_low = q.0;
       queue_high = q.1;
+      requests_low = a.0;
+      requests_high = a.1;
       history_low = h.0;
       history_high = h.1;
       wait = w.1;
@@ -182,6 +193,8 @@ rows_within rows s is =
       edges = l.edges;
       queue_low = n.queue_low;
       queue_high = n.queue_high;
+      requests_low = n.requests_low;
+      requests_high = n.requests_high;
       history_low = n.history_low;
       history_high = n.history_high;
       wait = n.wait;

@@ -1,5 +1,5 @@
--- What the words of `serve` ask for: `serve [--listen HOST:PORT] [--queue N] [--history N] [--wait N] [--monitor N] [--reopen SECONDS]
--- [--cycle-gap MS] [--report SECONDS] [--stop PATH] WORD ..`, with 1 to 16 device words among the options.
+-- What the words of `serve` ask for: `serve [--listen HOST:PORT] [--queue N] [--requests N] [--history N] [--wait N] [--monitor N]
+-- [--reopen SECONDS] [--cycle-gap MS] [--report SECONDS] [--stop PATH] WORD ..`, with 1 to 16 device words among the options.
 use Rattle.std.specs.Prelude.{ℕ, List, [], ◌∷◌, codes, Option, Some, None, option_and_then, option_map, unwrap_or, if◌then◌else◌}
 use Rattle.std.specs.Str.{bytes_eq}
 use Rattle.clap.specs.Simple.{App, with_rule}
@@ -30,9 +30,13 @@ shown options = record {
 abbrev pub serve_app : App
 serve_app =
     with_rule (with_options (bare_app (codes "serve"))
-    (codes "listen" ∷ codes "queue" ∷ codes "history" ∷ codes "wait" ∷ codes "monitor" ∷ codes "reopen" ∷ codes "cycle-gap" ∷ codes "report"
-    ∷ codes "stop" ∷ []))
+    (codes "listen" ∷ codes "queue" ∷ codes "requests" ∷ codes "history" ∷ codes "wait" ∷ codes "monitor" ∷ codes "reopen" ∷ codes "cycle-gap"
+    ∷ codes "report" ∷ codes "stop" ∷ []))
     (list_rule (codes "device"))
+
+-- `--requests`: how many requests of a session are answered
+abbrev pub requests_in : List Row → Option ℕ
+requests_in rows = number_or 65_536 1 4_294_967_294 (first_of (codes "requests") rows)
 
 -- `--wait`: how many sessions devices wait for
 abbrev pub wait_in : List Row → Option ℕ
@@ -56,10 +60,10 @@ report_in rows = number_if 10 86_400 (first_of (codes "report") rows)
 
 unfoldable pub numbers_in : List Row → Option ServeNumbers
 numbers_in rows =
-    option_and_then (λ queue. option_and_then (λ history. option_and_then (λ wait. option_and_then (λ monitor. option_and_then (λ reopen.
-    option_and_then (λ cycle_gap. option_map (λ report.
-    record { queue = queue; history = history; wait = wait; monitor = monitor; reopen = reopen; cycle_gap = cycle_gap; report = report })
-    (report_in rows)) (cycle_gap_in rows)) (reopen_in rows)) (monitor_in rows)) (wait_in rows)) (history_in rows)) (queue_in rows)
+    option_and_then (λ queue. option_and_then (λ requests. option_and_then (λ history. option_and_then (λ wait. option_and_then (λ monitor.
+    option_and_then (λ reopen. option_and_then (λ cycle_gap. option_map (λ report.
+    record { queue = queue; requests = requests; history = history; wait = wait; monitor = monitor; reopen = reopen; cycle_gap = cycle_gap; report = report })
+    (report_in rows)) (cycle_gap_in rows)) (reopen_in rows)) (monitor_in rows)) (wait_in rows)) (history_in rows)) (requests_in rows)) (queue_in rows)
 
 -- `--listen`: where clients connect
 abbrev pub listen_in : List Row → Text

@@ -19,6 +19,8 @@ pub record IsWithin (s : Serve) : Type 0 where
   pub edges : length s.devices.edges ≡ length s.devices.names
   pub queue_low : 1 ≤ s.numbers.queue
   pub queue_high : s.numbers.queue ≤ most_queue
+  pub requests_low : 1 ≤ s.numbers.requests
+  pub requests_high : s.numbers.requests ≤ 4_294_967_294
   pub history_low : 1 ≤ s.numbers.history
   pub history_high : s.numbers.history ≤ most_history
   pub wait : s.numbers.wait ≤ 64

@@ -4,7 +4,7 @@ ghost use Rattle.gps_words.specs.Options.{are_taken};
 ghost use Rattle.clap.specs.Words.{found_of, rows_of};
 ghost use Rattle.gps_words.specs.Devices.{shown_devices};
 ghost use Rattle.gps_words.specs.Within.{IsWithin};
-ghost use Rattle.gps_words.specs.Serve.{cycle_gap_in, devices_among, if_address, listen_in, monitor_in, numbers_in, reopen_in, report_in, serve_app, serve_asked_of, serve_in, serve_of, serve_of_numbers, serve_with, shown, stop_in, stop_or, wait_in};
+ghost use Rattle.gps_words.specs.Serve.{cycle_gap_in, devices_among, if_address, listen_in, monitor_in, numbers_in, reopen_in, report_in, requests_in, serve_app, serve_asked_of, serve_in, serve_of, serve_of_numbers, serve_with, shown, stop_in, stop_or, wait_in};
 
 use crate::WordsFault;
 use crate::device::{Input, is_address, path};
@@ -22,6 +22,8 @@ use std::alloc::{AllocError, Global};
 pub struct ServeNumbers {
     /// How many items the outlet of a session keeps at most, 1 to 65,536.
     pub queue: u32,
+    /// How many requests of a session are answered, 1 to 4,294,967,294. Its next request closes it.
+    pub requests: u32,
     /// How many symbols a generation has at most, 1 to 33,554,432.
     pub history: u32,
     /// For how many sessions that watch the devices wait, at most 64.
@@ -48,6 +50,13 @@ pub struct ServeOptions {
     pub numbers: ServeNumbers,
     /// The path of the file whose first byte or end ends the daemon, if there is one.
     pub stop: Option<Bytes>,
+}
+
+#[tactic(auto, using(crate::proofs::Given::first_of_rows))]
+fn requests(matches: &ArgMatches) -> Option<u32>
+    ensures { result ≡ requests_in (rows_of (found_of matches.now)) }
+{
+    number_given(matches.get_str("requests"), 65_536, 1, 4_294_967_294)
 }
 
 #[tactic(auto, using(crate::proofs::Given::first_of_rows))]
@@ -90,6 +99,7 @@ fn numbers(matches: &ArgMatches) -> Option<ServeNumbers>
     ensures { result ≡ numbers_in (rows_of (found_of matches.now)) }
 {
     let queue = queue(matches)?;
+    let requests = requests(matches)?;
     let history = history(matches)?;
     let wait = wait(matches)?;
     let monitor = monitor(matches)?;
@@ -98,6 +108,7 @@ fn numbers(matches: &ArgMatches) -> Option<ServeNumbers>
     let report = report(matches)?;
     Some(ServeNumbers {
         queue,
+        requests,
         history,
         wait,
         monitor,
@@ -140,9 +151,10 @@ fn stop(alloc: Global, matches: &ArgMatches) -> Result<Option<Option<Bytes>>, No
 }
 
 /// The options that have a value.
-const OPTIONS: [&str; 9] = [
+const OPTIONS: [&str; 10] = [
     "listen",
     "queue",
+    "requests",
     "history",
     "wait",
     "monitor",

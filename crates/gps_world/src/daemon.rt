@@ -3,16 +3,16 @@ ghost use Rattle.gps_outside.specs.Reads.{FitsBuffer};
 
 use crate::deadline::Deadline;
 use crate::head_source::HeadSource;
+use crate::opener::text_of;
 use gps_fixed::Bytes;
 use gps_outside::{
     ConnectFault, Listening, ReadStep, RealSink, RealSource, Source, Waits, connect,
 };
 use gps_upstream::{Head, Upstream};
 use std::fs::File;
-use std::io::{self, ErrorKind};
+use std::io;
 use std::net::{Net, TcpStream};
 use std::rt::Files;
-use std::str;
 use std::time::{Clock, Duration};
 use wire::Outward;
 
@@ -67,13 +67,6 @@ enum State<R: Files<File = File> + Net<Stream = TcpStream> + Clock + Copy> {
 pub(crate) struct Daemon<R: Files<File = File> + Net<Stream = TcpStream> + Clock + Copy> {
     machine: R,
     state: State<R>,
-}
-
-fn text_of(bytes: &Bytes) -> io::Result<&str> {
-    match str::from_utf8(bytes.as_slice()) {
-        Ok(text) => Ok(text),
-        Err(_) => Err(io::Error::from(ErrorKind::InvalidInput)),
-    }
 }
 
 fn connection_over<R: Files<File = File> + Net<Stream = TcpStream> + Clock + Copy>(

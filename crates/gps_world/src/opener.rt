@@ -134,39 +134,6 @@ impl<R: Files<File = File> + Copy> Opener<R> {
         Ok(self.files.take(self.number, &file.metadata()?))
     }
 
-    /// A file, and whether it is a terminal or another character device.
-    fn open_file(&self, path: &str, opening: Opening) -> io::Result<(RealSource<R>, bool)> {
-        let file = fs::open(&self.machine, path)?;
-        let is_device = file.metadata()?.file_type().is_char_device();
-        if !self.is_free(&file, opening)? {
-            return Err(is_taken());
-        }
-        let source = if is_device {
-            RealSource::of_device(self.machine, self.alloc, file)
-        } else {
-            RealSource::of_file(self.machine, self.alloc, file)
-        };
-        match source {
-            Ok(source) => Ok((source, is_device)),
-            Err(_) => Err(io::Error::from(ErrorKind::OutOfMemory)),
-        }
-    }
-
-    /// What is at a path, and whether that path may give something again.
-    fn open_path(&self, path: &Bytes, opening: Opening) -> io::Result<(RealSource<R>, bool)> {
-        let text = text_of(path)?;
-        let kind = fs::metadata(&self.machine, text)?.file_type();
-        if kind.is_fifo() {
-            return Ok((self.open_pipe(path, opening)?, true));
-        }
-        if opening == Opening::Later || opening == Opening::First && kind.is_dir() {
-            if let Some(reason) = is_no_receiver(kind) {
-                return Err(reason);
-            }
-        }
-        self.open_file(text, opening)
-    }
-
     /// Whether a place that could not be opened now may be there later.
     pub(crate) fn may_come(&self, place: &Place) -> bool {
         let Place::File(path) = place else {
@@ -183,8 +150,48 @@ impl<R: Files<File = File> + Copy> Opener<R> {
 }
 
 impl<R: Files<File = File> + Net<Stream = TcpStream> + Clock + Copy> Opener<R> {
-    /// Opens a path.
-    fn open_known(&self, path: &Bytes, opening: Opening) -> io::Result<(RealSource<R>, bool)> {
+    /// Opens a file, a terminal or another character device.
+    fn open_file(&self, path: &str, opening: Opening) -> io::Result<Found<R>> {
+        let file = fs::open(&self.machine, path)?;
+        let is_device = file.metadata()?.file_type().is_char_device();
+        if !self.is_free(&file, opening)? {
+            return Err(is_taken());
+        }
+        let source = if is_device {
+            RealSource::of_device(self.machine, self.alloc, file)
+        } else {
+            RealSource::of_file(self.machine, self.alloc, file)
+        };
+        match source {
+            Ok(source) => Ok(Found {
+                inlet: Inlet::Source(source),
+                returns: is_device,
+            }),
+            Err(_) => Err(io::Error::from(ErrorKind::OutOfMemory)),
+        }
+    }
+
+    /// Opens what is at a path.
+    fn open_path(&self, path: &Bytes, opening: Opening) -> io::Result<Found<R>> {
+        let text = text_of(path)?;
+        let kind = fs::metadata(&self.machine, text)?.file_type();
+        if kind.is_fifo() {
+            let source = self.open_pipe(path, opening)?;
+            return Ok(Found {
+                inlet: Inlet::Source(source),
+                returns: true,
+            });
+        }
+        if opening == Opening::Later || opening == Opening::First && kind.is_dir() {
+            if let Some(reason) = is_no_receiver(kind) {
+                return Err(reason);
+            }
+        }
+        self.open_file(text, opening)
+    }
+
+    /// Opens what is at a path. If that fails, another input may open it.
+    fn open_or_leave(&self, path: &Bytes, opening: Opening) -> io::Result<Found<R>> {
         let opened = self.open_path(path, opening);
         if opened.is_err() {
             self.leave();
@@ -197,23 +204,23 @@ impl<R: Files<File = File> + Net<Stream = TcpStream> + Clock + Copy> Opener<R> {
     /// If it is opened again later, a folder is refused, as a receiver may yet come in its place. If it was away, so are a regular file and a
     /// block device, and a named pipe or terminal that another input has open.
     pub(crate) fn open(&self, place: &Place, opening: Opening) -> io::Result<Found<R>> {
-        let (inlet, returns) = match place {
-            Place::File(path) => {
-                let (source, returns) = self.open_known(path, opening)?;
-                (Inlet::Source(source), returns)
-            }
+        let inlet = match place {
+            Place::File(path) => return self.open_or_leave(path, opening),
             Place::Tcp(address) => {
                 let address = copy_of(address)?;
-                let source = RealSource::of_host(self.machine, address, self.listening.share());
-                (Inlet::Source(source), true)
+                let listening = self.listening.share();
+                Inlet::Source(RealSource::of_host(self.machine, address, listening))
             }
             Place::Gpsd(address) => {
                 let address = copy_of(address)?;
-                let daemon = Daemon::new(self.machine, address, self.listening.share());
-                (Inlet::Daemon(daemon), true)
+                let listening = self.listening.share();
+                Inlet::Daemon(Daemon::new(self.machine, address, listening))
             }
         };
-        Ok(Found { inlet, returns })
+        Ok(Found {
+            inlet,
+            returns: true,
+        })
     }
 }
 

@@ -38,7 +38,14 @@ places_of s = map place_of s.devices.inputs ++ places_in (map edge_place_of s.de
 -- what the daemon is told
 abbrev pub told_by : Serve → DaemonSettings
 told_by s =
-    record { names = s.devices.names; limit = s.numbers.history; wait = s.numbers.wait; queue = s.numbers.queue; tries = s.numbers.monitor }
+    record {
+      names = s.devices.names;
+      limit = s.numbers.history;
+      wait = s.numbers.wait;
+      queue = s.numbers.queue;
+      requests = s.numbers.requests;
+      tries = s.numbers.monitor;
+    }
 
 -- The world is asked for the first of the places of the words, in order, and for their address. If the words ask for no daemon, it is asked for nothing.
 abbrev pub AsksFor : Option Serve → Asking → Type 0

@@ -88,6 +88,7 @@ fn plan_of(alloc: Global, options: ServeOptions) -> Result<Plan, NoMemory>
     } = options;
     let ServeNumbers {
         queue,
+        requests,
         history,
         wait,
         monitor,
@@ -103,6 +104,7 @@ fn plan_of(alloc: Global, options: ServeOptions) -> Result<Plan, NoMemory>
         edges,
         listen,
         queue,
+        requests,
         limit: history,
         wait,
         tries: monitor,

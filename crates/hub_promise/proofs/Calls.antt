@@ -49,14 +49,14 @@ pub hub_publish : (terms : Terms) (h : HubView) (lasts : List Lasts) (u : ℕ) (
 hub_publish terms h lasts u step book k lt held p =
     let next = p.units.next in
     let stepped : BookView = record h.book { units = slice_set h.book.units u next } in
-    let is : stepped ≡ book = λ i. record { names = sym p.names i; log = sym p.log i; sessions = sym p.sessions i; units = sym p.units.units i } in
+    let is : stepped ≡ book = λ i. record { names = sym p.names i; most_requests = sym p.requests i; log = sym p.log i; sessions = sym p.sessions i; units = sym p.units.units i } in
     let P : BookView → Type 0 = λ b. BookHolds b → HubKeeps terms (record h { book = b }) lasts in
     let log : List Entry = whole_log k.over.0 h.book in
     let segments = map-set_same segment_of h.book.units u next next (step_segment step (get_or h.book.units u next) next (p.units.steps next).does) in
     subst P is (λ holds.
     record {
       holds = holds;
-      terms_are = (λ i. record { names = h.book.names; limit = h.book.log.limit; lanes = map names_of h.inlets; segments = segments i; wait = h.wait }) ∙ k.terms_are;
+      terms_are = (λ i. record { names = h.book.names; limit = h.book.log.limit; requests = h.book.most_requests; lanes = map names_of h.inlets; segments = segments i; wait = h.wait }) ∙ k.terms_are;
       count = k.count;
       ends_count = k.ends_count;
       told = k.told;
@@ -113,9 +113,9 @@ pub hub_admit : (terms : Terms) (h : HubView) (lasts : List Lasts) (book : BookV
     → HubKeeps terms (record h { book = book; inputs = h.inputs ++ x ∷ []; door = admitting (link_of outlet cap x.lane) h.door; is_shut = false }) lasts
 hub_admit terms h lasts book outlet cap x k held admits none =
     let name : OutletName = of_table outlet (subject_of terms x.about.source) in
-    let newcomer : MemberView = opened name cap h.book.log.length in
+    let newcomer : MemberView = opened name cap h.book.most_requests h.book.log.length in
     let grown : BookView = record h.book { sessions = h.book.sessions ++ newcomer ∷ [] } in
-    let is : grown ≡ book = λ i. record { names = sym admits.same.names i; log = sym admits.same.log i; sessions = sym admits.sessions i; units = sym admits.same.units i } in
+    let is : grown ≡ book = λ i. record { names = sym admits.same.names i; most_requests = sym admits.same.requests i; log = sym admits.same.log i; sessions = sym admits.sessions i; units = sym admits.same.units i } in
     let P : BookView → Type 0 = λ b. Admits name cap h.book b → BookHolds b
     → HubKeeps terms (record h { book = b; inputs = h.inputs ++ x ∷ []; door = admitting (link_of outlet cap x.lane) h.door; is_shut = false }) lasts in
     let link = link_of outlet cap x.lane in

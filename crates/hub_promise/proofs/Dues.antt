@@ -10,7 +10,7 @@ use Rattle.book_replies.specs.declared.answering.Answer.{Answer}
 use Rattle.book_replies.specs.ReplyDataView.{ReplyDataView}
 use Rattle.book_replies.specs.Replies.{answered, opening_reply}
 use Rattle.book_sessions.specs.Allowing.{MayHear}
-use Rattle.book_sessions.specs.Answering.{most_requests, stretch_at}
+use Rattle.book_sessions.specs.Answering.{stretch_at}
 use Rattle.book_sessions.specs.MemberView.{MemberView}
 use Rattle.gps_command.specs.declared.request.RawCommand.{RawCommand}
 use Rattle.gps_command.specs.Requests.{requests}
@@ -125,7 +125,7 @@ replies_due names before log about table a r bytes piece named name is read sent
     let place : ℕ = length (history whole) in
     let s : SessionView = a.session in
     let known : ReplyDataView = known_in (length names) whole in
-    let left : ℕ = most_requests - s.requests in
+    let left : ℕ = s.most_requests - s.requests in
     let put : List Answer = take left (answered known names s.policy more) in
     let replies : List (List ℕ) = map (λ answer. answer.reply) put in
     let gains : requests (bytes ++ piece) ≡ requests bytes ++ more = cut bytes (account.sent.cutter is) in
@@ -160,7 +160,7 @@ opening_due log about table read =
       heard = [];
       read = read;
       sent = nothing_first about.source;
-      asked = (nothing_sent names log alone 1 place).asked;
+      asked = (nothing_sent names log alone 1 0 place).asked;
       all = sym (items_marked (line_for names) place [] last (history log) refl);
     } in
     inr ([], due)

@@ -34,6 +34,7 @@ record Kept (c : Option (ℕ × Close)) (old new : SessionView) : Type 0 where
   name : new.name ≡ old.name
   cap : new.cap ≡ old.cap
   requests : new.requests ≡ old.requests
+  most_requests : new.most_requests ≡ old.most_requests
   closes : ClosesBy c old new
 
 takes_close : (exact : Bool) (dues : List Due) (old new : SessionView) → old.closing ≡ None → TakesDue exact dues old new → ClosesBy None old new
@@ -48,19 +49,20 @@ takes_close exact (d ∷ more) old new open_is takes = by_push takes.0 takes.1 t
 
 reports_keep : (c : Option (ℕ × Close)) (exact : Bool) (lines : Selection) (first : ℕ) (reports : List Report) (old new : SessionView) → old.closing ≡ c → ReportsBy c exact lines first reports old new → Kept c old new
 reports_keep None exact lines first reports old new is r =
-    record { name = r.stays.name; cap = r.stays.cap; requests = r.stays.requests; closes = takes_close exact _ old new is r.takes }
+    record { name = r.stays.name; cap = r.stays.cap; requests = r.stays.requests; most_requests = r.stays.most_requests; closes = takes_close exact _ old new is r.takes }
 reports_keep (Some closing) exact lines first reports old new is r =
     record {
       name = ap (λ (s : SessionView). s.name) r.same;
       cap = ap (λ (s : SessionView). s.cap) r.same;
       requests = ap (λ (s : SessionView). s.requests) r.same;
+      most_requests = ap (λ (s : SessionView). s.most_requests) r.same;
       closes = (closing.0, ap (λ (s : SessionView). s.closing) r.same ∙ is, ap (λ (s : SessionView). s.kept) r.same);
     }
 
 spreads_abide : (exact : Bool) (lines : Selection) (first : ℕ) (reports : List Report) (a b : MemberView) → Spreads exact lines first reports a b → Abides a b
 spreads_abide exact lines first reports a b spreads =
     let kept = reports_keep a.session.closing exact lines first reports a.session b.session refl spreads.session in
-    record { name = kept.name; cap = kept.cap; requests = kept.requests; watched = spreads.watched; closes = kept.closes }
+    record { name = kept.name; cap = kept.cap; requests = kept.requests; most_requests = kept.most_requests; watched = spreads.watched; closes = kept.closes }
 
 turned_closes : (c : Option (ℕ × Close)) (old new : SessionView) → ClosesBy (turned_closing c) (turned old) new → ClosesBy c old new
 turned_closes None old new closes = closes
@@ -68,14 +70,14 @@ turned_closes (Some closing) old new closes = closes
 
 turned_abides : (a b : MemberView) → Abides (renewed a) b → Abides a b
 turned_abides a b abides =
-    record { name = abides.name; cap = abides.cap; requests = abides.requests; watched = abides.watched; closes = turned_closes a.session.closing a.session b.session abides.closes }
+    record { name = abides.name; cap = abides.cap; requests = abides.requests; most_requests = abides.most_requests; watched = abides.watched; closes = turned_closes a.session.closing a.session b.session abides.closes }
 
 closes_same : (c : Option (ℕ × Close)) (s : SessionView) → s.closing ≡ c → ClosesBy c s s
 closes_same None s is = inl is
 closes_same (Some closing) s is = (closing.0, is, refl)
 
 pub abides_same : (a : MemberView) → Abides a a
-abides_same a = record { name = refl; cap = refl; requests = refl; watched = refl; closes = closes_same a.session.closing a.session refl }
+abides_same a = record { name = refl; cap = refl; requests = refl; most_requests = refl; watched = refl; closes = closes_same a.session.closing a.session refl }
 
 sessions_abide : (turns exact : Bool) (lines : Selection) (first : ℕ) (reports : List Report) (old new : List MemberView)
     → AllZip (Spreads exact lines first reports) (renewed_if turns old) new → AllZip Abides old new
@@ -142,6 +144,7 @@ moves_onward exact turns old new entries held moves earns =
       };
       segments = gains_segments moves.0 (units_turned_if turns old.units) new.units moves.1.units ∙ turned_segments turns old.units;
       limit = moves.1.log.limit ∙ turned_limit turns old;
+      requests = moves.1.requests;
     }
 
 -- entries came that give no report
@@ -155,4 +158,5 @@ quiet_onward old new entries adds earns =
       units = λ before stands. record { count = ap length adds.units; each = earns.units before stands };
       segments = ap (map segment_of) adds.units;
       limit = adds.log.limit;
+      requests = adds.requests;
     }

@@ -142,6 +142,7 @@ module _ (h : HubView) (d : ℕ) (book : BookView) (y : InletsView) (end : Optio
 record Leaves (old new : BookView) : Type 0 where
   names : new.names ≡ old.names
   limit : new.log.limit ≡ old.log.limit
+  requests : new.most_requests ≡ old.most_requests
   segments : map segment_of new.units ≡ map segment_of old.units
   session_names : map (λ (a : MemberView). a.session.name) new.sessions ≡ map (λ (a : MemberView). a.session.name) old.sessions
   caps : map (λ (a : MemberView). a.session.cap) new.sessions ≡ map (λ (a : MemberView). a.session.cap) old.sessions
@@ -151,11 +152,12 @@ moves_leave : (old new : BookView) (entries : List Entry) → BookHolds old → 
 moves_leave old new entries held moves =
     ⊎_elim
     (λ (t : (new ≡ old) × (entries ≡ [])). subst (λ (b : BookView). Leaves old b) (sym t.0)
-    (record { names = refl; limit = refl; segments = refl; session_names = refl; caps = refl; closed = λ all. all }))
+    (record { names = refl; limit = refl; requests = refl; segments = refl; session_names = refl; caps = refl; closed = λ all. all }))
     (λ (onward : Onward old new entries).
     record {
       names = (onward.goes held.log.some.0 held.log.some.1).names;
       limit = onward.limit;
+      requests = onward.requests;
       segments = onward.segments;
       session_names = zip_maps Abides (λ (a : MemberView). a.session.name) (λ a b o. o.name) old.sessions new.sessions onward.abides;
       caps = zip_maps Abides (λ (a : MemberView). a.session.cap) (λ a b o. o.cap) old.sessions new.sessions onward.abides;
@@ -186,7 +188,7 @@ hub_device terms h lasts d book x y was end before last k lt here there now runs
     record {
       holds = held;
       terms_are =
-          (λ i. record { names = left.names i; limit = left.limit i; lanes = lanes i; segments = left.segments i; wait = h.wait }) ∙ k.terms_are;
+          (λ i. record { names = left.names i; limit = left.limit i; requests = left.requests i; lanes = lanes i; segments = left.segments i; wait = h.wait }) ∙ k.terms_are;
       count = length-set h.inlets d y ∙ k.count ∙ sym count;
       ends_count = length-set h.ends d end ∙ k.ends_count ∙ sym count;
       told = ap (λ l. set l d last) k.told ∙ lasts_set h.inlets d y last (step.told told);
@@ -237,7 +239,7 @@ pub hub_session : (terms : Terms) (h : HubView) (lasts : List Lasts) (s : ℕ) (
     → SessionStep s h.book book x y → HubKeeps terms (record h { book = book; inputs = set h.inputs s y }) lasts
 hub_session terms h lasts s book x y k lt here held about heard step =
     let answered : BookView = answered_book h s step.next y in
-    let is : answered ≡ book = λ i. record { names = sym step.same.names i; log = sym step.same.log i; sessions = sym step.sets i; units = sym step.same.units i } in
+    let is : answered ≡ book = λ i. record { names = sym step.same.names i; most_requests = sym step.same.requests i; log = sym step.same.log i; sessions = sym step.sets i; units = sym step.same.units i } in
     let there = λ (free : MemberView). member_at h.book.sessions s free step.was lt step.there in
     let was_is = there step.was in
     let P : BookView → Type 0 = λ b. BookHolds b → HubKeeps terms (record h { book = b; inputs = set h.inputs s y }) lasts in

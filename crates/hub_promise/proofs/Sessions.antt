@@ -8,7 +8,7 @@ use Rattle.book_log.specs.History.{history}
 use Rattle.book_log.specs.Standing.{StandsFor}
 use Rattle.book_replies.specs.declared.answering.Answer.{Answer}
 use Rattle.book_replies.specs.Replies.{answered}
-use Rattle.book_sessions.specs.Answering.{Causes, Inputs, Stops, most_requests}
+use Rattle.book_sessions.specs.Answering.{Causes, Inputs, Stops}
 use Rattle.book_sessions.specs.MemberView.{MemberView, opened}
 use Rattle.book_sessions.specs.Roster.{Changes, Closes, IsOpenAt}
 use Rattle.gps_command.specs.Kept as input
@@ -83,20 +83,20 @@ cause_on None count log x y s more gets untold cause = tt
 cause_on (Some (place, HungUp)) count log x y s more gets untold cause = still_heard End x y s more gets untold cause
 cause_on (Some (place, ReadFault)) count log x y s more gets untold cause = still_heard Failed x y s more gets untold cause
 cause_on (Some (place, DaemonEnd)) count log x y s more gets untold cause = cause
-cause_on (Some (place, TooManyRequests)) count log x y s more gets untold cause = (cause.0, more_requests x y more gets most_requests cause.1)
+cause_on (Some (place, TooManyRequests)) count log x y s more gets untold cause = (cause.0, more_requests x y more gets s.most_requests cause.1)
 cause_on (Some (place, Overrun)) count log x y s more gets untold cause = cause
 cause_on (Some (place, NoMemory)) count log x y s more gets untold cause = still_short x y s more gets cause
 
 -- entries came, of a device that had not stopped
 may_on : (why : Close) (count other place : ℕ) (log longer : List Entry) (x : Taking Piece) (old new : SessionView) → (AllStop count log → ⊥)
-    → new.requests ≡ old.requests → new.cap ≡ old.cap → new.kept ≡ old.kept → MayClose count log x old place why → MayClose other longer x new place why
-may_on HungUp count other place log longer x old new running requests cap kept may = record { before = may.before; told = may.told; answered = requests ∙ may.answered }
-may_on ReadFault count other place log longer x old new running requests cap kept may = record { before = may.before; told = may.told; answered = requests ∙ may.answered }
-may_on DaemonEnd count other place log longer x old new running requests cap kept may = absurd (running may.0)
-may_on TooManyRequests count other place log longer x old new running requests cap kept may = (requests ∙ may.0, may.1)
-may_on Overrun count other place log longer x old new running requests cap kept may =
+    → new.requests ≡ old.requests → new.most_requests ≡ old.most_requests → new.cap ≡ old.cap → new.kept ≡ old.kept → MayClose count log x old place why → MayClose other longer x new place why
+may_on HungUp count other place log longer x old new running requests most cap kept may = record { before = may.before; told = may.told; answered = requests ∙ may.answered }
+may_on ReadFault count other place log longer x old new running requests most cap kept may = record { before = may.before; told = may.told; answered = requests ∙ may.answered }
+may_on DaemonEnd count other place log longer x old new running requests most cap kept may = absurd (running may.0)
+may_on TooManyRequests count other place log longer x old new running requests most cap kept may = (requests ∙ may.0 ∙ sym most, omega (arith, most, may.1))
+may_on Overrun count other place log longer x old new running requests most cap kept may =
     subst (λ n. n ≤ length new.kept) (sym cap) (subst (λ (l : List (List ℕ)). old.cap ≤ length l) (sym kept) may)
-may_on NoMemory count other place log longer x old new running requests cap kept may = record {
+may_on NoMemory count other place log longer x old new running requests most cap kept may = record {
   before = may.before;
   piece = may.piece;
   later = may.later;
@@ -106,20 +106,20 @@ may_on NoMemory count other place log longer x old new running requests cap kept
 }
 
 over_on : (c : Option (ℕ × Close)) (count other : ℕ) (log longer : List Entry) (x : Taking Piece) (old new : SessionView) → (AllStop count log → ⊥)
-    → new.requests ≡ old.requests → new.cap ≡ old.cap → new.kept ≡ old.kept → ClosesFor count log x old c → ClosesFor other longer x new c
-over_on None count other log longer x old new running requests cap kept was = tt
-over_on (Some closing) count other log longer x old new running requests cap kept was =
-    may_on closing.1 count other closing.0 log longer x old new running requests cap kept was
+    → new.requests ≡ old.requests → new.most_requests ≡ old.most_requests → new.cap ≡ old.cap → new.kept ≡ old.kept → ClosesFor count log x old c → ClosesFor other longer x new c
+over_on None count other log longer x old new running requests most cap kept was = tt
+over_on (Some closing) count other log longer x old new running requests most cap kept was =
+    may_on closing.1 count other closing.0 log longer x old new running requests most cap kept was
 
 closes_on : (c run : Option (ℕ × Close)) (base count other : ℕ) (log longer : List Entry) (x : Taking Piece) (old new : SessionView) → (AllStop count log → ⊥)
-    → new.requests ≡ old.requests → new.cap ≡ old.cap → ClosesBy c old new → ClosesFor count log x old run → ClosesFor other longer x new (closing_after base c new.closing run)
-closes_on None run base count other log longer x old new running requests cap closes was =
+    → new.requests ≡ old.requests → new.most_requests ≡ old.most_requests → new.cap ≡ old.cap → ClosesBy c old new → ClosesFor count log x old run → ClosesFor other longer x new (closing_after base c new.closing run)
+closes_on None run base count other log longer x old new running requests most cap closes was =
     ⊎_elim (λ (e : new.closing ≡ None). subst (λ (o : Option (ℕ × Close)). ClosesFor other longer x new (closed_from base o)) (sym e) tt)
     (λ (w : (place : ℕ) × (new.closing ≡ Some (place, Overrun)) × (new.cap ≤ length new.kept)).
     subst (λ (o : Option (ℕ × Close)). ClosesFor other longer x new (closed_from base o)) (sym w.1) w.2)
     closes
-closes_on (Some closing) run base count other log longer x old new running requests cap closes was =
-    over_on run count other log longer x old new running requests cap closes.2 was
+closes_on (Some closing) run base count other log longer x old new running requests most cap closes was =
+    over_on run count other log longer x old new running requests most cap closes.2 was
 
 pub session_onward : (old new : BookView) (before onward entries : List Entry) (a b : MemberView) (x : Taking Piece) → (AllStop (length old.names) (before ++ old.log.log) → ⊥)
     → CarriesOn old before new onward a b → Abides a b → SessionFits old.names before old.log.log a x → SessionFits new.names onward new.log.log b x
@@ -128,7 +128,7 @@ session_onward old new before onward entries a b x running carries abides f =
       run = run_after (length (history onward)) a.session b.session f.run;
       account = carries f.run [] (input_bytes x.got) f.account;
       cause = closes_on a.session.closing f.run.closing (length (history onward)) (length old.names) (length new.names) (before ++ old.log.log) (onward ++ new.log.log) x
-          a.session b.session running abides.requests abides.cap abides.closes f.cause;
+          a.session b.session running abides.requests abides.most_requests abides.cap abides.closes f.cause;
     }
 
 -- if only another session changed
@@ -144,7 +144,7 @@ input_more pieces piece = flat_map-append input_part pieces (piece ∷ []) ∙ a
 set_same : (xs : List MemberView) (s : ℕ) (x y : MemberView) → s < length xs → slice_set xs s x ≡ slice_set xs s y → x ≡ y
 set_same xs s x y lt e = sym (get_or-set_same xs s x x lt) ∙ ap (λ l. get_or l s x) e ∙ get_or-set_same xs s y x lt
 
-stops_for : (c : Option (ℕ × Close)) (count place whole left : ℕ) (log : List Entry) (x : Taking Piece) (s : SessionView) → s.requests ≤ most_requests
+stops_for : (c : Option (ℕ × Close)) (count place whole left : ℕ) (log : List Entry) (x : Taking Piece) (s : SessionView) → s.requests ≤ s.most_requests
     → (0 < left → s.requests < length (requests (input_bytes x.got))) → Stops place left s c → ClosesFor count log x s (closing_at whole c)
 stops_for None count place whole left log x s few more stops = tt
 stops_for (Some closing) count place whole left log x s few more stops = by_cause closing.1 stops.2
@@ -184,7 +184,7 @@ heard_more exact names log place piece x a b inputs stands was left =
     omega (arith, size, put, length-take inputs.count answers, was, left)
 
 pub nobody : MemberView
-nobody = opened OutletName.alone 0 0
+nobody = opened OutletName.alone 0 0 0
 
 -- its client was heard
 pub heard_step : (exact : Bool) (old new : BookView) (s : ℕ) (piece : List ℕ) (x : Taking Piece) → BookHolds old → s < length old.sessions → IsOpenAt s old.sessions
@@ -274,7 +274,7 @@ pub useless_step : (book : BookView) (s : ℕ) (piece : Piece) (x : Taking Piece
 useless_step book s piece x lt is_open none =
     let here = slice_index_or book.sessions s nobody in
     record {
-      same = record { names = refl; log = refl; units = refl };
+      same = record { names = refl; requests = refl; log = refl; units = refl };
       was = here;
       there = slice_get-get_or book.sessions s nobody lt;
       next = here;
@@ -297,7 +297,7 @@ pub still_step : (book : BookView) (s : ℕ) (x : Taking Piece) → s < length b
 still_step book s x lt =
     let here = slice_index_or book.sessions s nobody in
     record {
-      same = record { names = refl; log = refl; units = refl };
+      same = record { names = refl; requests = refl; log = refl; units = refl };
       was = here;
       there = slice_get-get_or book.sessions s nobody lt;
       next = here;

@@ -85,7 +85,7 @@ pub hub_shut : (terms : Terms) (h : HubView) (lasts : List Lasts) (book : BookVi
     → HubKeeps terms (record h { book = book; is_shut = true }) lasts
 hub_shut terms h lasts book k held all shuts =
     let shut : BookView = record h.book { sessions = book.sessions } in
-    let is : shut ≡ book = λ i. record { names = sym shuts.same.names i; log = sym shuts.same.log i; sessions = book.sessions; units = sym shuts.same.units i } in
+    let is : shut ≡ book = λ i. record { names = sym shuts.same.names i; most_requests = sym shuts.same.requests i; log = sym shuts.same.log i; sessions = book.sessions; units = sym shuts.same.units i } in
     let P : BookView → Type 0 = λ b. ShutsAll h.book b → BookHolds b → HubKeeps terms (record h { book = b; is_shut = true }) lasts in
     let forgotten = k.over.0 in
     let log : List Entry = forgotten ++ h.book.log.log in

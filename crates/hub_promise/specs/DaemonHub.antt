@@ -5,7 +5,6 @@ use Rattle.std.specs.List.{AllZip, range_with_len}
 use Rattle.book_log.specs.Entries.{Entry, IsLog, has_end, has_lost, stops_in, stream}
 use Rattle.book_log.specs.History.{history}
 use Rattle.book_log.specs.Standing.{StandsFor}
-use Rattle.book_sessions.specs.Answering.{most_requests}
 use Rattle.book_sessions.specs.MemberView.{MemberView}
 use Rattle.book_sessions.specs.Roster.{was_watched}
 use Rattle.book_units.specs.Samples.{samples_of}
@@ -85,7 +84,7 @@ abbrev pub MayClose : ℕ → List Entry → Taking Piece → SessionView → �
 MayClose count log x s place HungUp = HeardOut End x s
 MayClose count log x s place ReadFault = HeardOut Failed x s
 MayClose count log x s place DaemonEnd = AllStop count log × (place ≡ length (history log))
-MayClose count log x s place TooManyRequests = (s.requests ≡ most_requests) × (most_requests < length (requests (input_bytes x.got)))
+MayClose count log x s place TooManyRequests = (s.requests ≡ s.most_requests) × (s.most_requests < length (requests (input_bytes x.got)))
 MayClose count log x s place Overrun = s.cap ≤ length s.kept
 MayClose count log x s place CloseNoMemory = ClosedOutOfMemory x s
 

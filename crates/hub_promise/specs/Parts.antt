@@ -51,18 +51,26 @@ names_of x =
       held_edges = option_map (λ (y : Taking Piece). y.about.source) x.edges;
     }
 
--- what no call of a hub changes: its book's names and limit, the lanes of its devices, the segments of its units, and for how many sessions
--- the devices wait
+-- what no call of a hub changes: its book's names and limit, how many requests of each session are answered, the lanes of its devices, the segments
+-- of its units, and for how many sessions the devices wait
 pub record Terms : Type 0 where
   pub names : List (List ℕ)
   pub limit : ℕ
+  pub requests : ℕ
   pub lanes : List LaneNames
   pub segments : List SegmentId
   pub wait : ℕ
 
 abbrev pub terms_of : BookView → List InletsView → ℕ → Terms
 terms_of book inlets wait =
-    record { names = book.names; limit = book.log.limit; lanes = map names_of inlets; segments = map segment_of book.units; wait = wait }
+    record {
+      names = book.names;
+      limit = book.log.limit;
+      requests = book.most_requests;
+      lanes = map names_of inlets;
+      segments = map segment_of book.units;
+      wait = wait;
+    }
 
 -- the edges that a device's sources hold, by what its source of edges holds: if it has none, there are none
 abbrev pub edges_in_source : Option (Option (List ℕ)) → Option (List Edge)

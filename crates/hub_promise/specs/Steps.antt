@@ -54,6 +54,7 @@ pub record Abides (old new : MemberView) : Type 0 where
   pub name : new.session.name ≡ old.session.name
   pub cap : new.session.cap ≡ old.session.cap
   pub requests : new.session.requests ≡ old.session.requests
+  pub most_requests : new.session.most_requests ≡ old.session.most_requests
   pub watched : new.watched ≡ old.watched
   pub closes : ClosesBy old.session.closing old.session new.session
 
@@ -72,6 +73,7 @@ pub record Onward (old new : BookView) (entries : List Entry) : Type 0 where
       → EachUnit (λ u. UnitHasMore (samples_of u (history_after (before ++ old.log.log) entries))) old.units new.units
   pub segments : map segment_of new.units ≡ map segment_of old.units
   pub limit : new.log.limit ≡ old.log.limit
+  pub requests : new.most_requests ≡ old.most_requests
 
 -- or nothing was added
 abbrev pub MovesOn : BookView → BookView → List Entry → Type 0

@@ -70,6 +70,7 @@ pub(crate) fn plan_of(alloc: Global, input: Place, wait: u32, limit: u32) -> Res
         edges,
         listen: Bytes::from_slice(alloc, b"h:1")?,
         queue: 64,
+        requests: 65_536,
         limit,
         wait,
         tries: 0,

@@ -10,7 +10,7 @@ use Rattle.gps_report.specs.declared.policy.Policy.{Policy}
 use Rattle.gps_report.specs.declared.report.Report.{Report}
 use Rattle.session_core.specs.declared.mark.Close.{Close}
 use Rattle.session_core.specs.declared.mark.Close.TheVariants.{HungUp, TooManyRequests, Overrun}
-use Rattle.session_core.specs.SessionView.{opening_policy}
+use Rattle.session_core.specs.SessionView.{opening_policy, usual_requests}
 use Rattle.session_core.specs.Stretches.{Stretch, answer_stretch, end_of, items_to}
 use Rattle.book_batch.specs.Lines.{line_for}
 use Rattle.book_log.specs.Entries.{Entry}
@@ -18,7 +18,7 @@ use Rattle.book_log.specs.History.{history, history_after}
 use Rattle.book_replies.specs.declared.answering.Answer.{Answer}
 use Rattle.book_replies.specs.ReplyDataView.{ReplyDataView}
 use Rattle.book_replies.specs.Replies.{answer_of, answered, opening_reply, reply}
-use Rattle.book_sessions.specs.Answering.{most_requests, stretch_at}
+use Rattle.book_sessions.specs.Answering.{stretch_at}
 use Rattle.book_sessions.specs.Spreading.{Due}
 use Rattle.report_book.specs.Knowing.{known_in}
 use Rattle.session_runs.specs.Runs.{SessionRun, items_over}
@@ -328,21 +328,21 @@ module _ (queue : ℕ) (texts : List (List ℕ)) (text : List ℕ) (event : Scri
       over : nat_le (length answers) count ≡ false → count < length answers
       over test = above (length answers) count test
 
-      too_many : nat_le (length answers) count ≡ false → nat_le (most_requests - asked) room ≡ true → ClosesFor state.names state.log texts text s c d place TooManyRequests
+      too_many : nat_le (length answers) count ≡ false → nat_le (usual_requests - asked) room ≡ true → ClosesFor state.names state.log texts text s c d place TooManyRequests
       too_many test first =
           let past : count < length answers = over test in
-          let least : most_requests - asked ≤ room = within_of (most_requests - asked) room first in
+          let least : usual_requests - asked ≤ room = within_of (usual_requests - asked) room first in
           let sum : length (requests (sent_to s onward)) ≡ length (requests (sent_to s texts ++ bytes)) = ap (λ (b : List ℕ). length (requests b)) sends_bytes in
           let each : length answers ≡ length p.more = p.each in
-          let few : length c.run.stretches ≤ 1 + most_requests = was.hears.few in
+          let few : length c.run.stretches ≤ 1 + usual_requests = was.hears.few in
           let some : 1 ≤ length c.run.stretches = was.hears.some in
           (omega (arith, size, part, past, least, few, some), omega (arith, sum, joined, each, past, least, long))
 
-      overrun : nat_le (length answers) count ≡ false → nat_le (most_requests - asked) room ≡ false → d.run.closing ≡ Some (place, refusal state.names state.log c)
+      overrun : nat_le (length answers) count ≡ false → nat_le (usual_requests - asked) room ≡ false → d.run.closing ≡ Some (place, refusal state.names state.log c)
           → ClosesFor state.names state.log texts text s c d place Overrun
       overrun test first closes =
           let past : count < length answers = over test in
-          let least : room < most_requests - asked = above (most_requests - asked) room first in
+          let least : room < usual_requests - asked = above (usual_requests - asked) room first in
           let written : Reaches (readings_of queue texts) [] (course_after queue texts) = lines_reach queue texts in
           let told_was : Told state.names state.log written.all s c = written.wrote.sessions.told s c there in
           let items : List (List ℕ) = items_of state.names state.log c in
@@ -356,7 +356,7 @@ module _ (queue : ℕ) (texts : List (List ℕ)) (text : List ℕ) (event : Scri
           answers_count (line_for state.names) (history state.log) place c.run.stretches (take count answers) in
           omega (arith, kept_were, before, now, gained, part, past, least)
 
-      by_refusal : nat_le (length answers) count ≡ false → d.run.closing ≡ Some (place, refusal state.names state.log c) → (b : Bool) → nat_le (most_requests - asked) room ≡ b
+      by_refusal : nat_le (length answers) count ≡ false → d.run.closing ≡ Some (place, refusal state.names state.log c) → (b : Bool) → nat_le (usual_requests - asked) room ≡ b
           → ClosesFor state.names state.log texts text s c d place (cond b TooManyRequests Overrun)
       by_refusal test closes true first = too_many test first
       by_refusal test closes false first = overrun test first closes
@@ -368,7 +368,7 @@ module _ (queue : ℕ) (texts : List (List ℕ)) (text : List ℕ) (event : Scri
       by_test false test =
           let closes : d.run.closing ≡ Some (place, refusal state.names state.log c) = ap (λ (b : Bool). cond b None (Some (place, refusal state.names state.log c))) test in
           subst (λ (o : Option (ℕ × Close)). HasCauseIf queue state.names state.log onward s d o) (sym closes)
-          (closed_here s c d state.log place (refusal state.names state.log c) there unclosed after (by_refusal test closes (nat_le (most_requests - asked) room) refl))
+          (closed_here s c d state.log place (refusal state.names state.log c) there unclosed after (by_refusal test closes (nat_le (usual_requests - asked) room) refl))
 
   is_hung : (s : ℕ) (c : Client) → slice_get state.clients s ≡ Some c → event ≡ Hang s → is_open c ≡ true
       → slice_get next.clients s ≡ Some (closed state.log HungUp c) → Attends queue state.names state.log onward s (closed state.log HungUp c)

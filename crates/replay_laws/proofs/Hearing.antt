@@ -10,7 +10,7 @@ use Rattle.gps_report.specs.declared.policy.Policy.{Policy}
 use Rattle.gps_report.specs.declared.report.Report.{Report}
 use Rattle.session_core.specs.declared.mark.Close.{Close}
 use Rattle.session_core.specs.Naming.{alone}
-use Rattle.session_core.specs.SessionView.{opening_policy}
+use Rattle.session_core.specs.SessionView.{opening_policy, usual_requests}
 use Rattle.session_core.specs.Stretches.{Stretch, last_watched}
 use Rattle.book_log.specs.Entries.{Entry}
 use Rattle.book_log.specs.History.{history}
@@ -18,7 +18,7 @@ use Rattle.book_replies.specs.declared.answering.Answer.{Answer}
 use Rattle.book_replies.specs.Replies.{answered}
 use Rattle.book_replies.specs.ReplyDataView.{ReplyDataView}
 use Rattle.book_replies.proofs.Joined.{one_for_each}
-use Rattle.book_sessions.specs.Answering.{most_requests, stretch_at}
+use Rattle.book_sessions.specs.Answering.{stretch_at}
 use Rattle.book_sessions.specs.Spreading.{Due}
 use Rattle.report_book.specs.Knowing.{known_in}
 use Rattle.session_runs.specs.Asking.{Asked, policy_of as asked_policy}
@@ -31,7 +31,7 @@ use Rattle.replay_player.specs.Clients.{Client, answerable, answers_to, is_open,
 -- what its stretches say of the input
 pub record Hears (names : List (List ℕ)) (log : List Entry) (bytes : List ℕ) (r : SessionRun) : Type 0 where
   pub asked : Asked names log r.stretches (requests bytes)
-  pub few : length r.stretches ≤ 1 + most_requests
+  pub few : length r.stretches ≤ 1 + usual_requests
   pub some : 1 ≤ length r.stretches
   pub whole : r.closing ≡ None → length r.stretches ≡ 1 + length (requests bytes)
   pub policy : r.closing ≡ None → last_watched opening_policy r.stretches ≡ asked_policy (requests bytes)
@@ -41,7 +41,7 @@ pub hears_nothing : (names : List (List ℕ)) (log : List Entry) → Hears names
 unfolding requests_from
 hears_nothing names log =
     record {
-      asked = (nothing_sent names log alone 0 0).asked;
+      asked = (nothing_sent names log alone 0 0 0).asked;
       few = omega arith;
       some = omega arith;
       whole = λ none. refl;

@@ -7,14 +7,13 @@ use Rattle.gps_command.specs.Requests.{requests}
 use Rattle.gps_command.specs.declared.request.RawCommand.{RawCommand}
 use Rattle.line_cut.specs.Lines.{line_cut}
 use Rattle.line_player.specs.Courses.{Course, course_of}
-use Rattle.session_core.specs.SessionView.{opening_policy}
+use Rattle.session_core.specs.SessionView.{opening_policy, usual_requests}
 use Rattle.session_core.specs.Stretches.{Stretch, AreInOrder, answer_stretch, end_of}
 use Rattle.session_core.specs.declared.mark.Close.{Close}
 use Rattle.session_core.specs.declared.mark.Close.TheVariants.{HungUp, ReadFault, DaemonEnd, TooManyRequests, Overrun, NoMemory}
 use Rattle.book_log.specs.Entries.{Entry, edged, ended, fed, lost}
 use Rattle.book_log.specs.History.{history}
 use Rattle.book_replies.specs.Replies.{opening_reply, reply}
-use Rattle.book_sessions.specs.Answering.{most_requests}
 use Rattle.report_book.specs.Knowing.{known_in}
 use Rattle.session_runs.specs.Asking.{Asked}
 use Rattle.replay_script.specs.Events.{event_in}
@@ -99,7 +98,7 @@ pub record IsHeard (queue : ℕ) (names : List (List ℕ)) (log : List Entry) (t
   pub opened : IsOpenedIn queue texts s c
   pub asked : Asked names log c.run.stretches (requests (sent_to s texts))
   pub answers : (k : ℕ) (stretch : Stretch) → slice_get c.run.stretches (suc k) ≡ Some stretch → IsAnswered names texts s k stretch
-  pub few : length c.run.stretches ≤ 1 + most_requests
+  pub few : length c.run.stretches ≤ 1 + usual_requests
   pub whole : c.run.closing ≡ None → length c.run.stretches ≡ 1 + length (requests (sent_to s texts))
   pub order : AreInOrder (end_of c.run.closing (history log)) c.run.stretches
 
@@ -121,7 +120,7 @@ abbrev pub ClosesFor : List (List ℕ) → List Entry → List (List ℕ) → Li
 ClosesFor names log before text s was c place HungUp =
     (event_in text ≡ Some (Hang s)) × (place ≡ length (history (log_of before))) × (length c.run.stretches ≡ 1 + length (requests (sent_to s before)))
 ClosesFor names log before text s was c place TooManyRequests =
-    (length c.run.stretches ≡ 1 + most_requests) × (most_requests < length (requests (sent_to s (before ++ text ∷ []))))
+    (length c.run.stretches ≡ 1 + usual_requests) × (usual_requests < length (requests (sent_to s (before ++ text ∷ []))))
 ClosesFor names log before text s was c place Overrun = was.taken + c.cap ≤ length (items_of names log c)
 ClosesFor names log before text s was c place ReadFault = ⊥
 ClosesFor names log before text s was c place DaemonEnd = ⊥

@@ -108,6 +108,7 @@ brought s b turns entries state held moves earns plays =
       watches = plays.watches;
       standing = record {
         stands = subst (λ o. StandsFor o onward) (sym adds.log.opening) there;
+        requests = adds.requests ∙ plays.standing.requests;
         clients_are = subst L (sym adds.log.log) (subst N (sym adds.names) zip);
         units_are = λ u within.
             let old_within : u < length s.book.units = let count = keeps.count in omega (arith, within, count) in
@@ -193,6 +194,7 @@ brought_quietly s b entries state adds plays =
       watches = plays.watches;
       standing = record {
         stands = subst (λ o. StandsFor o before) (sym adds.log.opening) stands;
+        requests = adds.requests ∙ plays.standing.requests;
         clients_are = subst A (sym adds.sessions) (subst N (sym adds.names) zip);
         units_are = λ u within.
             let old_within : u < length s.book.units = let count = keeps.count in omega (arith, within, count) in

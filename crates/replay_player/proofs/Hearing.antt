@@ -9,14 +9,14 @@ use Rattle.gps_command.specs.Requests.{requests}
 use Rattle.gps_report.specs.declared.policy.Policy.{Policy}
 use Rattle.session_core.specs.declared.mark.Close.{Close}
 use Rattle.session_core.specs.declared.mark.Close.TheVariants.{HungUp, ReadFault, DaemonEnd, TooManyRequests, Overrun, NoMemory as WantOfMemory}
-use Rattle.session_core.specs.SessionView.{SessionView, last_policy, opening_policy}
+use Rattle.session_core.specs.SessionView.{SessionView, last_policy, opening_policy, usual_requests}
 use Rattle.session_core.specs.Stretches.{Stretch, last_watched}
 use Rattle.book_log.specs.Entries.{Entry}
 use Rattle.book_log.specs.History.{history, history_after}
 use Rattle.book_replies.specs.declared.answering.Answer.{Answer}
 use Rattle.book_replies.specs.Replies.{answered}
 use Rattle.book_replies.proofs.Joined.{one_for_each}
-use Rattle.book_sessions.specs.Answering.{Inputs, Stops, mark_at, most_requests, raised, stretch_at}
+use Rattle.book_sessions.specs.Answering.{Inputs, Stops, mark_at, raised, stretch_at}
 use Rattle.book_sessions.specs.MemberView.{MemberView}
 use Rattle.report_book.specs.BookView.{BookView}
 use Rattle.report_book.specs.declared.fault.BookFault.{BookFault}
@@ -54,10 +54,10 @@ pub record Counts (names : List (List ℕ)) (whole : List Entry) (c : Client) (a
   pub taken : min (answerable names whole c) all ≡ count
   pub closes : closing ≡ cond (nat_le all (answerable names whole c)) None (Some (length (history whole), refusal names whole c))
 
-counts_so : (names : List (List ℕ)) (whole : List Entry) (c : Client) (all count place : ℕ) (b : SessionView) (closing : Option (ℕ × Close)) → count ≤ all → count ≤ most_requests - asked_by c → count ≤ room_of names whole c
-    → b.requests ≡ asked_by c + count → room_of names whole c ≡ b.cap - (length b.kept - count) → length b.kept ≤ b.cap → count ≤ length b.kept → asked_by c ≤ most_requests
-    → Stops place (all - count) b closing → Counts names whole c all count (closing_at (length (history whole)) closing)
-counts_so names whole c all count place b None few left room requests kept fits within most stops =
+counts_so : (names : List (List ℕ)) (whole : List Entry) (c : Client) (all count place : ℕ) (b : SessionView) (closing : Option (ℕ × Close)) → count ≤ all → count ≤ usual_requests - asked_by c → count ≤ room_of names whole c
+    → b.requests ≡ asked_by c + count → room_of names whole c ≡ b.cap - (length b.kept - count) → length b.kept ≤ b.cap → count ≤ length b.kept → asked_by c ≤ usual_requests
+    → b.most_requests ≡ usual_requests → Stops place (all - count) b closing → Counts names whole c all count (closing_at (length (history whole)) closing)
+counts_so names whole c all count place b None few left room requests kept fits within most usual stops =
     let exact : all ≡ count = let s : all - count ≡ 0 = stops in omega (arith, s, few) in
     let under : all ≤ answerable names whole c = omega (arith, exact, left, room) in
     let test : nat_le all (answerable names whole c) ≡ true = le-leb all (answerable names whole c) under in
@@ -65,34 +65,34 @@ counts_so names whole c all count place b None few left room requests kept fits 
       taken = omega (arith, exact, left, room);
       closes = sym (ap (λ t. cond t None (Some (length (history whole), refusal names whole c))) test);
     }
-counts_so names whole c all count place b (Some (at, TooManyRequests)) few left room requests kept fits within most stops =
+counts_so names whole c all count place b (Some (at, TooManyRequests)) few left room requests kept fits within most usual stops =
     let more : 0 < all - count = stops.0 in
-    let cause : most_requests ≤ b.requests = stops.2 in
-    let so : count ≡ most_requests - asked_by c = omega (arith, left, requests, cause, most) in
+    let cause : b.most_requests ≤ b.requests = stops.2 in
+    let so : count ≡ usual_requests - asked_by c = omega (arith, left, requests, cause, usual, most) in
     let is : answerable names whole c ≡ count = omega (arith, so, room) in
     let test : nat_le all (answerable names whole c) ≡ false = lt-leb all (answerable names whole c) (omega (arith, is, more)) in
-    let why : nat_le (most_requests - asked_by c) (room_of names whole c) ≡ true = le-leb (most_requests - asked_by c) (room_of names whole c) (omega (arith, so, room)) in
+    let why : nat_le (usual_requests - asked_by c) (room_of names whole c) ≡ true = le-leb (usual_requests - asked_by c) (room_of names whole c) (omega (arith, so, room)) in
     record {
       taken = omega (arith, is, few);
       closes = sym (ap (λ t. cond t None (Some (length (history whole), refusal names whole c))) test ∙ ap (λ t. Some (length (history whole), cond t TooManyRequests Overrun)) why);
     }
-counts_so names whole c all count place b (Some (at, Overrun)) few left room requests kept fits within most stops =
+counts_so names whole c all count place b (Some (at, Overrun)) few left room requests kept fits within most usual stops =
     let more : 0 < all - count = stops.0 in
-    let low : b.requests < most_requests = stops.2.0 in
+    let low : b.requests < b.most_requests = stops.2.0 in
     let full : b.cap ≤ length b.kept = stops.2.1 in
     let so : count ≡ room_of names whole c = omega (arith, room, kept, full, within, fits) in
-    let below : room_of names whole c < most_requests - asked_by c = omega (arith, so, requests, low) in
+    let below : room_of names whole c < usual_requests - asked_by c = omega (arith, so, requests, low, usual) in
     let is : answerable names whole c ≡ count = omega (arith, so, left) in
     let test : nat_le all (answerable names whole c) ≡ false = lt-leb all (answerable names whole c) (omega (arith, is, more)) in
-    let why : nat_le (most_requests - asked_by c) (room_of names whole c) ≡ false = lt-leb (most_requests - asked_by c) (room_of names whole c) below in
+    let why : nat_le (usual_requests - asked_by c) (room_of names whole c) ≡ false = lt-leb (usual_requests - asked_by c) (room_of names whole c) below in
     record {
       taken = omega (arith, is, few);
       closes = sym (ap (λ t. cond t None (Some (length (history whole), refusal names whole c))) test ∙ ap (λ t. Some (length (history whole), cond t TooManyRequests Overrun)) why);
     }
-counts_so names whole c all count place b (Some (at, HungUp)) few left room requests kept fits within most stops = absurd stops.2
-counts_so names whole c all count place b (Some (at, ReadFault)) few left room requests kept fits within most stops = absurd stops.2
-counts_so names whole c all count place b (Some (at, DaemonEnd)) few left room requests kept fits within most stops = absurd stops.2
-counts_so names whole c all count place b (Some (at, WantOfMemory)) few left room requests kept fits within most stops = absurd stops.2
+counts_so names whole c all count place b (Some (at, HungUp)) few left room requests kept fits within most usual stops = absurd stops.2
+counts_so names whole c all count place b (Some (at, ReadFault)) few left room requests kept fits within most usual stops = absurd stops.2
+counts_so names whole c all count place b (Some (at, DaemonEnd)) few left room requests kept fits within most usual stops = absurd stops.2
+counts_so names whole c all count place b (Some (at, WantOfMemory)) few left room requests kept fits within most usual stops = absurd stops.2
 
 take_least : {A : Type 0} (n : ℕ) (xs : List A) → take (min n (length xs)) xs ≡ take n xs
 take_least zero xs = let e : min 0 (length xs) ≡ 0 = omega arith in ap (λ k. take k xs) e
@@ -102,10 +102,10 @@ take_least (suc n) (x ∷ xs) =
     ap (λ k. take k (x ∷ xs)) e ∙ ap (λ l. x ∷ l) (take_least n xs)
 
 pub heard_one : (names : List (List ℕ)) (before log : List Entry) (place : ℕ) (piece : List ℕ) (a b : MemberView) (c : Client) → length (history_after before log) ≡ place
-    → Attends names before log a c → c.run.closing ≡ None → Inputs true (known_in (length names) (before ++ log)) names place piece a b
+    → a.session.most_requests ≡ usual_requests → Attends names before log a c → c.run.closing ≡ None → Inputs true (known_in (length names) (before ++ log)) names place piece a b
     → Attends names before log b (served names (before ++ log) piece c)
 unfolding served
-heard_one names before log place piece a b c long attends c_open inp =
+heard_one names before log place piece a b c long usual attends c_open inp =
     let whole = before ++ log in
     let known = known_in (length names) whole in
     let d : Client = served names whole piece c in
@@ -124,10 +124,11 @@ heard_one names before log place piece a b c long attends c_open inp =
     let low = attends.few in
     let fit_before = attends.room in
     let cap = inp.puts.cap in
-    let bounds : (inp.count ≤ most_requests - asked_by c) × (inp.count ≤ room_of names whole c) = by_count inp.count asked kept_count room_is low fit_before cap inp.room in
+    let number : b.session.most_requests ≡ usual_requests = inp.puts.most_requests ∙ usual in
+    let bounds : (inp.count ≤ usual_requests - asked_by c) × (inp.count ≤ room_of names whole c) = by_count inp.count asked kept_count room_is low fit_before cap number inp.room in
     let fits : length b.session.kept ≤ b.session.cap = let r = bounds.1 in omega (arith, r, room_is, kept_count, cap, fit_before) in
     let counts = counts_so names whole c (length inp.requests) inp.count place b.session b.session.closing inp.few bounds.0 bounds.1 asked
-    (omega (arith, room_is, kept_count, cap, fit_before)) fits (omega (arith, kept_count)) low inp.stops in
+    (omega (arith, room_is, kept_count, cap, fit_before)) fits (omega (arith, kept_count)) low number inp.stops in
     let answers = answers_to names whole piece c in
     let many : length answers ≡ length inp.requests = ap length (sym same) ∙ each in
     let puts_so : put ≡ take (answerable names whole c) answers =
@@ -158,20 +159,20 @@ heard_one names before log place piece a b c long attends c_open inp =
           ∙ sym (policy_joined opening_policy c.run.stretches (map (stretch_at at) put)) ∙ ap (last_watched opening_policy) (sym stretches);
       some = let s = attends.some in omega (arith, s, longer);
       requests = let s = attends.some in let e : b.session.requests ≡ length d.run.stretches - 1 = omega (arith, asked, longer, s) in e;
-      few = let s = attends.some in let r = bounds.0 in let e : length d.run.stretches - 1 ≤ most_requests = omega (arith, longer, s, r, low) in e;
+      few = let s = attends.some in let r = bounds.0 in let e : length d.run.stretches - 1 ≤ usual_requests = omega (arith, longer, s, r, low) in e;
       cutter = λ is_open. inp.cutter c.heard (attends.cutter c_open) (still_open names before log b.session d.run on.run is_open);
     }
   where
     by_count : (count : ℕ) → b.session.requests ≡ asked_by c + count → length b.session.kept ≡ length a.session.kept + count → room_of names (before ++ log) c ≡ a.session.cap - length a.session.kept
-        → asked_by c ≤ most_requests → length a.session.kept ≤ a.session.cap → b.session.cap ≡ a.session.cap
-        → (0 < count → (b.session.requests ≤ most_requests) × (true ≡ true → length b.session.kept ≤ b.session.cap))
-        → (count ≤ most_requests - asked_by c) × (count ≤ room_of names (before ++ log) c)
-    by_count zero asked kept room low fit cap bound = (omega arith, omega arith)
-    by_count (suc count) asked kept room low fit cap bound =
+        → asked_by c ≤ usual_requests → length a.session.kept ≤ a.session.cap → b.session.cap ≡ a.session.cap → b.session.most_requests ≡ usual_requests
+        → (0 < count → (b.session.requests ≤ b.session.most_requests) × (true ≡ true → length b.session.kept ≤ b.session.cap))
+        → (count ≤ usual_requests - asked_by c) × (count ≤ room_of names (before ++ log) c)
+    by_count zero asked kept room low fit cap number bound = (omega arith, omega arith)
+    by_count (suc count) asked kept room low fit cap number bound =
         let some : 0 < suc count = omega arith in
-        let one : b.session.requests ≤ most_requests = (bound some).0 in
+        let one : b.session.requests ≤ b.session.most_requests = (bound some).0 in
         let two : length b.session.kept ≤ b.session.cap = (bound some).1 refl in
-        (omega (arith, one, asked), omega (arith, two, kept, room, cap, fit))
+        (omega (arith, one, number, asked), omega (arith, two, kept, room, cap, fit))
 
 pub hears_act : (s : ReplayBookView) (b : BookView) (n : ℕ) (piece : List ℕ) (result : Result (Unit {0}) BookFault) (round : Result EventStep NoMemory) → BookHolds s.book
     → ComesTo result round → RefusesAs (session_fault s.book n) result → OnOk result (AnswersRequests true n piece s.book b)
@@ -195,7 +196,9 @@ hears_act s b n piece result round held comes refuses heard state plays =
         let whole = plays.before ++ s.book.log.log in
         let C : MemberView → Type 0 = λ x. Inputs true (known_in (length s.book.names) whole) s.book.names s.book.log.length piece x next in
         let inp : C both.one = subst C (both.is both.one) (changed.2 both.one) in
-        let attends = heard_one s.book.names plays.before s.book.log.log s.book.log.length piece both.one next c (place_is s.book plays.before held plays.standing.stands) both.pair c_open inp in
+        let N : MemberView → Type 0 = λ x. x.session.most_requests ≡ s.book.most_requests in
+        let usual : both.one.session.most_requests ≡ usual_requests = subst N (both.is both.one) (held.requests n both.one both.there) ∙ plays.standing.requests in
+        let attends = heard_one s.book.names plays.before s.book.log.log s.book.log.length piece both.one next c (place_is s.book plays.before held plays.standing.stands) usual both.pair c_open inp in
         let d = served s.book.names whole piece c in
         let zip = zip_set (Attends s.book.names plays.before s.book.log.log) s.book.sessions plays.clients n next d attends plays.standing.clients_are in
         let Z : List MemberView → Type 0 = λ l. AllZip (Attends s.book.names plays.before s.book.log.log) l (set plays.clients n d) in

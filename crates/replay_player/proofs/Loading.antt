@@ -91,6 +91,7 @@ loaded_one s b watchers m step out out' same steps news line state t plays there
           watches = set plays.watches m t';
           standing = record {
             stands = plays.standing.stands;
+            requests = plays.standing.requests;
             clients_are = plays.standing.clients_are;
             units_are = plays.standing.units_are;
             many = plays.standing.many;

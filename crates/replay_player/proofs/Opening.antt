@@ -31,6 +31,7 @@ stage_opens devices names limit firsts b bounds many few is =
       watches = [];
       standing = record {
         stands = is.log.opening;
+        requests = is.most_requests;
         clients_are = subst A (sym is.sessions) tt;
         units_are = λ u within.
             let none : samples_of u (history b.log.log) ≡ [] = ap (λ l. samples_of u (history l)) is.log.log ∙ ap (samples_of u) (nothing_after []) in

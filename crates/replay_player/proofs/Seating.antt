@@ -109,6 +109,7 @@ seated s b before firsts clients nexts stores watches same standing zip =
       watches = watches;
       standing = record {
         stands = subst (λ l. StandsFor l.opening before) (sym same.log) standing.stands;
+        requests = same.requests ∙ standing.requests;
         clients_are = subst (λ l. AllZip (Attends b.names before l.log) b.sessions nexts) (sym same.log) (subst N (sym same.names) zip);
         units_are = λ u within.
             let old_within : u < length s.book.units = let count = keeps.count in omega (arith, within, count) in
@@ -232,11 +233,11 @@ hung s b n result round held comes refuses hangs state plays =
 
 -- a new session
 
-attends_new : (names : List (List ℕ)) (before log : List Entry) (name : OutletName) (cap place : ℕ) → 1 ≤ cap → cap ≤ 65_536
-    → IsRunOf names before log (opened_here name cap place).session (opened_run (before ++ log)) → items_of names (before ++ log) (opened cap (before ++ log)) ≡ opening_reply ∷ []
-    → Attends names before log (opened_here name cap place) (opened cap (before ++ log))
+attends_new : (names : List (List ℕ)) (before log : List Entry) (name : OutletName) (cap number place : ℕ) → 1 ≤ cap → cap ≤ 65_536
+    → IsRunOf names before log (opened_here name cap number place).session (opened_run (before ++ log)) → items_of names (before ++ log) (opened cap (before ++ log)) ≡ opening_reply ∷ []
+    → Attends names before log (opened_here name cap number place) (opened cap (before ++ log))
 unfolding kept_from
-attends_new names before log name cap place least most run items = record {
+attends_new names before log name cap number place least most run items = record {
   run = run;
   cap = refl;
   least = most;
@@ -256,13 +257,13 @@ pub admitted : (s : ReplayBookView) (b : BookView) (name : OutletName) (n cap : 
 admitted s b name n cap state held least most admits plays =
     let begins = admitted_begins name cap s.book b plays.before held plays.standing.stands admits in
     let log : b.log ≡ s.book.log = admits.same.log in
-    let new = opened_here name cap s.book.log.length in
+    let new = opened_here name cap s.book.most_requests s.book.log.length in
     let R : List (List ℕ) → Type 0 = λ m. IsRunOf m plays.before b.log.log new.session (opened_run (plays.before ++ b.log.log)) in
     let run = subst (λ l. IsRunOf s.book.names plays.before l.log new.session (opened_run (plays.before ++ l.log))) log (subst R admits.same.names begins.run) in
     let I : List (List ℕ) → Type 0 = λ m. items_of m (plays.before ++ b.log.log) (opened cap (plays.before ++ b.log.log)) ≡ opening_reply ∷ [] in
     let items = subst (λ l. items_of s.book.names (plays.before ++ l.log) (opened cap (plays.before ++ l.log)) ≡ opening_reply ∷ []) log (subst I admits.same.names begins.items) in
     let c = opened cap (plays.before ++ s.book.log.log) in
-    let attends = attends_new s.book.names plays.before s.book.log.log name cap s.book.log.length least most run items in
+    let attends = attends_new s.book.names plays.before s.book.log.log name cap s.book.most_requests s.book.log.length least most run items in
     let zip = zip_push (Attends s.book.names plays.before s.book.log.log) s.book.sessions plays.clients new c attends plays.standing.clients_are in
     let Z : List MemberView → Type 0 = λ l. AllZip (Attends s.book.names plays.before s.book.log.log) l (plays.clients ++ c ∷ []) in
     seated s b plays.before plays.firsts plays.clients (plays.clients ++ c ∷ []) plays.stores plays.watches admits.same plays.standing (subst Z (sym admits.sessions) zip)

@@ -53,6 +53,7 @@ watch_acts s b w m u same new of test state plays =
       watches = plays.watches ++ t ∷ [];
       standing = record {
         stands = plays.standing.stands;
+        requests = plays.standing.requests;
         clients_are = plays.standing.clients_are;
         units_are = plays.standing.units_are;
         many = plays.standing.many;
@@ -128,6 +129,7 @@ stored_one s b u step below held publishes state plays =
       watches = plays.watches;
       standing = record {
         stands = subst (λ l. StandsFor l.opening plays.before) (sym publishes.log) plays.standing.stands;
+        requests = publishes.requests ∙ plays.standing.requests;
         clients_are = subst N (sym publishes.names) (subst (λ l. AllZip (Attends s.book.names plays.before l.log) b.sessions plays.clients) (sym publishes.log)
             (subst (λ l. AllZip (Attends s.book.names plays.before s.book.log.log) l plays.clients) (sym publishes.sessions) plays.standing.clients_are));
         units_are = λ v v_within.

@@ -6,12 +6,12 @@ use Rattle.gps_command.specs.Kept as input
 use Rattle.gps_command.specs.Kept.{CommandCutterView}
 use Rattle.gps_report.specs.declared.report.Report.{Report}
 use Rattle.session_core.specs.declared.mark.Close.{Close}
-use Rattle.session_core.specs.SessionView.{SessionView, opening_policy}
+use Rattle.session_core.specs.SessionView.{SessionView, opening_policy, usual_requests}
 use Rattle.session_core.specs.Stretches.{Stretch, last_watched}
 use Rattle.book_batch.specs.Lines.{line_for}
 use Rattle.book_log.specs.Entries.{Entry}
 use Rattle.book_log.specs.History.{history, history_after}
-use Rattle.book_sessions.specs.Answering.{most_requests, raised}
+use Rattle.book_sessions.specs.Answering.{raised}
 use Rattle.book_sessions.specs.MemberView.{MemberView, cutter_left, renewed}
 use Rattle.book_sessions.specs.Spreading.{Due, Reports, ReportsBy, Spreads, cutter_by, due}
 use Rattle.session_runs.specs.Runs.{SessionRun, IsRunOf, closed_from}
@@ -134,7 +134,7 @@ goes_on names before log longer a b c d more attends extends leaves is stretches
       policy = leaves.policy ∙ attends.policy ∙ ap (λ s. last_watched opening_policy s) (sym stretches);
       some = let P : List Stretch → Type 0 = λ s. 0 < length s in subst P (sym stretches) attends.some;
       requests = leaves.requests ∙ attends.requests ∙ ap (λ (s : List Stretch). length s - 1) (sym stretches);
-      few = let P : List Stretch → Type 0 = λ s. length s - 1 ≤ most_requests in subst P (sym stretches) attends.few;
+      few = let P : List Stretch → Type 0 = λ s. length s - 1 ≤ usual_requests in subst P (sym stretches) attends.few;
       cutter = λ is_open.
           let P : CommandCutterView → Type 0 = λ k. input.StandsFor k d.heard in
           let Q : List ℕ → Type 0 = λ h. input.StandsFor a.cutter h in

@@ -6,14 +6,14 @@ use Rattle.gps_report.specs.declared.policy.Policy.{Policy}
 use Rattle.gps_report.specs.declared.report.Report.{Report}
 use Rattle.session_core.specs.declared.mark.Close.{Close}
 use Rattle.session_core.specs.declared.mark.Close.TheVariants.{TooManyRequests, Overrun}
-use Rattle.session_core.specs.SessionView.{opening_policy}
+use Rattle.session_core.specs.SessionView.{opening_policy, usual_requests}
 use Rattle.session_core.specs.Stretches.{last_watched}
 use Rattle.book_batch.specs.Lines.{line_for}
 use Rattle.book_log.specs.Entries.{Entry}
 use Rattle.book_log.specs.History.{history}
 use Rattle.book_replies.specs.declared.answering.Answer.{Answer}
 use Rattle.book_replies.specs.Replies.{answered}
-use Rattle.book_sessions.specs.Answering.{most_requests, stretch_at}
+use Rattle.book_sessions.specs.Answering.{stretch_at}
 use Rattle.book_sessions.specs.Spreading.{Due, due}
 use Rattle.report_book.specs.Knowing.{known_in}
 use Rattle.session_runs.specs.Runs.{SessionRun, items_over}
@@ -82,11 +82,11 @@ answers_to names log piece c = answered (known_in (length names) log) names (pol
 
 -- how many are answered: up to 65,536 in the whole run, and no more than the outlet has room for
 abbrev pub answerable : List (List ℕ) → List Entry → Client → ℕ
-answerable names log c = min (most_requests - asked_by c) (room_of names log c)
+answerable names log c = min (usual_requests - asked_by c) (room_of names log c)
 
 -- why the next one closes the session
 abbrev pub refusal : List (List ℕ) → List Entry → Client → Close
-refusal names log c = cond (nat_le (most_requests - asked_by c) (room_of names log c)) TooManyRequests Overrun
+refusal names log c = cond (nat_le (usual_requests - asked_by c) (room_of names log c)) TooManyRequests Overrun
 
 -- an open session gets its next piece of input
 unfoldable pub served : List (List ℕ) → List Entry → List ℕ → Client → Client

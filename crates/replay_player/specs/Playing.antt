@@ -8,12 +8,12 @@ use Rattle.gps_command.specs.Kept as input
 use Rattle.book_log.specs.Entries.{Entry}
 use Rattle.book_log.specs.History.{history}
 use Rattle.book_log.specs.Standing.{StandsFor}
-use Rattle.book_sessions.specs.Answering.{most_requests}
 use Rattle.book_sessions.specs.MemberView.{MemberView}
 use Rattle.book_units.specs.Samples.{samples_of}
 use Rattle.report_book.specs.BookView.{BookView}
 use Rattle.report_book.specs.declared.fault.BookFault.{BookFault}
 use Rattle.report_book.specs.declared.fault.BookFault.TheVariants as book
+use Rattle.session_core.specs.SessionView.{usual_requests}
 use Rattle.session_runs.specs.Runs.{IsRunOf}
 use Rattle.replay_player.specs.Books.{IsStoredAt}
 use Rattle.replay_player.specs.Loads.{reading_after, step_of}
@@ -42,7 +42,7 @@ pub record Attends (names : List (List ℕ)) (before log : List Entry) (a : Memb
   pub policy : a.session.policy ≡ policy_of c
   pub some : 0 < length c.run.stretches
   pub requests : a.session.requests ≡ asked_by c
-  pub few : asked_by c ≤ most_requests
+  pub few : asked_by c ≤ usual_requests
   pub cutter : c.run.closing ≡ None → input.StandsFor a.cutter c.heard
 
 -- a monitor beside a book is this one
@@ -55,6 +55,7 @@ pub record Watches (b : BookView) (w : UnitMonitorView) (t : MonitorState) : Typ
 pub record Standing (s : ReplayBookView) (before : List Entry) (firsts : List ℕ) (clients : List Client) (stores : List ℕ)
     (watches : List MonitorState) : Type 0 where
   pub stands : StandsFor s.book.log.opening before
+  pub requests : s.book.most_requests ≡ usual_requests
   pub clients_are : AllZip (Attends s.book.names before s.book.log.log) s.book.sessions clients
   pub units_are : (u : ℕ) → u < length s.book.units
       → IsStoredAt u (slice_index firsts u) (samples_of u (history (before ++ s.book.log.log))) (slice_index stores u) s.book

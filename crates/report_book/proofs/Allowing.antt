@@ -56,13 +56,13 @@ module _ (may : OutletName → List (List ℕ) → Type 0) where
   are_reports true log next entries before reports opening present adds =
       ap (λ l. history_after l entries) (sym (append-nil (before ++ log.log))) ∙ adds.reports_are (before ++ log.log) present
 
-  pub lines_allowed : (d : ℕ) (entries : List Entry) (names : List (List ℕ)) (log next : DeviceLogView) (sessions : List MemberView) (units : List UnitView) (turns began : Bool)
-      (reports : List Report) → BookHolds (record { names = names; log = log; sessions = sessions; units = units })
+  pub lines_allowed : (d : ℕ) (entries : List Entry) (names : List (List ℕ)) (most : ℕ) (log next : DeviceLogView) (sessions : List MemberView) (units : List UnitView) (turns began : Bool)
+      (reports : List Report) → BookHolds (record { names = names; most_requests = most; log = log; sessions = sessions; units = units })
       → LogAdds (log_turned_if turns log) next entries reports
-      → device_fault (record { names = names; log = log; sessions = sessions; units = units }) d ≡ None
-      → MayAdd may d entries (record { names = names; log = log; sessions = sessions; units = units })
+      → device_fault (record { names = names; most_requests = most; log = log; sessions = sessions; units = units }) d ≡ None
+      → MayAdd may d entries (record { names = names; most_requests = most; log = log; sessions = sessions; units = units })
       → MayReportEach may (line_for names) reports (renewed_if began sessions)
-  lines_allowed d entries names log next sessions units turns began reports held adds runs allows =
+  lines_allowed d entries names most log next sessions units turns began reports held adds runs allows =
       let found = allows runs held in
       let before = found.0 in
       let P : List Report → Type 0 = λ l. MayReportEach may (line_for names) l sessions in

@@ -51,16 +51,16 @@ pub record Moved (exact turns : Bool) (old new : BookView) (entries : List Entry
   pub adds : BookAdds exact (turned_if turns old) new entries reports
   pub earns : Earns (turned_if turns old) new entries
 
-pub moved : (exact : Bool) (names : List (List ℕ)) (log next : DeviceLogView) (sessions members : List MemberView) (units kept others : List UnitView) (turns began : Bool) (first : ℕ) (entries : List Entry) (reports : List Report)
-    → BookHolds (record { names = names; log = log; sessions = sessions; units = units })
+pub moved : (exact : Bool) (names : List (List ℕ)) (most : ℕ) (log next : DeviceLogView) (sessions members : List MemberView) (units kept others : List UnitView) (turns began : Bool) (first : ℕ) (entries : List Entry) (reports : List Report)
+    → BookHolds (record { names = names; most_requests = most; log = log; sessions = sessions; units = units })
     → began ≡ turns → first ≡ (log_turned_if turns log).length → kept ≡ units
     → LogHolds next → LogAdds (log_turned_if turns log) next entries reports
     → (began ≡ true → AllZip MemberTurns sessions (map renewed sessions))
     → (began ≡ true → EachUnit (λ _. UnitTurns) kept (map turned_unit kept))
     → AllZip (Spreads exact (line_for names) first reports) (renewed_if began sessions) members
     → EachUnit (λ u. UnitGains (samples_of u reports)) (units_turned_if began kept) others
-    → Moved exact turns (record { names = names; log = log; sessions = sessions; units = units }) (record { names = names; log = next; sessions = members; units = others }) entries reports
-moved exact names log next sessions members units kept others turns began first entries reports held is first_is kept_is holds adds sessions_turn units_turn spread gains =
+    → Moved exact turns (record { names = names; most_requests = most; log = log; sessions = sessions; units = units }) (record { names = names; most_requests = most; log = next; sessions = members; units = others }) entries reports
+moved exact names most log next sessions members units kept others turns began first entries reports held is first_is kept_is holds adds sessions_turn units_turn spread gains =
     let P : Bool → Type 0 = λ b. AllZip (Spreads exact (line_for names) (log_turned_if turns log).length reports) (renewed_if b sessions) members in
     let F : ℕ → Type 0 = λ n. AllZip (Spreads exact (line_for names) n reports) (renewed_if began sessions) members in
     let spread_is = subst P is (subst F first_is spread) in
@@ -68,11 +68,11 @@ moved exact names log next sessions members units kept others turns began first 
     let K : List UnitView → Type 0 = λ l. EachUnit (λ u. UnitGains (samples_of u reports)) (units_turned_if began l) others in
     let gains_are = subst U is (subst K kept_is gains) in
     let T : List UnitView → Type 0 = λ l. EachUnit (λ _. UnitTurns) l (map turned_unit l) in
-    let whole = book_turned_if turns (record { names = names; log = log; sessions = sessions; units = units }) held (λ e. sessions_turn (is ∙ e)) (λ e. subst T kept_is (units_turn (is ∙ e))) in
+    let whole = book_turned_if turns (record { names = names; most_requests = most; log = log; sessions = sessions; units = units }) held (λ e. sessions_turn (is ∙ e)) (λ e. subst T kept_is (units_turn (is ∙ e))) in
     record {
-      holds = added exact names (log_turned_if turns log) next (renewed_if turns sessions) members (units_turned_if turns units) others entries reports whole holds adds spread_is gains_are;
-      adds = record { names = refl; log = adds; sessions = spread_is; units = gains_are };
-      earns = earned exact names (log_turned_if turns log) next (renewed_if turns sessions) members (units_turned_if turns units) others entries reports whole adds spread_is gains_are;
+      holds = added exact names most (log_turned_if turns log) next (renewed_if turns sessions) members (units_turned_if turns units) others entries reports whole holds adds spread_is gains_are;
+      adds = record { names = refl; requests = refl; log = adds; sessions = spread_is; units = gains_are };
+      earns = earned exact names most (log_turned_if turns log) next (renewed_if turns sessions) members (units_turned_if turns units) others entries reports whole adds spread_is gains_are;
     }
 
 -- no turn and no entries change the limit of a generation
@@ -134,18 +134,23 @@ after_all_at b place held place_is =
     let F : ℕ → Type 0 = λ n. IsAfterAll n b.sessions in
     subst F (sym place_is) (after_all b held.log.some.0 held held.log.some.1)
 
--- one session becomes another, and what that one has is known over any history as long as the place
+-- one session becomes another: of that one's requests as many are answered, and what it has is known over any history as long as the place
 pub one_changed : (R : MemberView → MemberView → Type 0) (b : BookView) (s place : ℕ) (members : List MemberView)
     → ((history : List Report) (old next : MemberView) → length history ≡ place → R old next → SessionHolds b.names history old.session → SessionHolds b.names history next.session)
+    → ((old next : MemberView) → R old next → next.session.most_requests ≡ old.session.most_requests)
     → BookHolds b → s < length b.sessions → place ≡ b.log.length → Changes s R b.sessions members
-    → BookHolds (record { names = b.names; log = b.log; sessions = members; units = b.units })
-one_changed R b s place members keeps held within place_is changes =
-    sessions_changed b.names b.log b.sessions members b.units held (λ before stands all.
+    → BookHolds (record { names = b.names; most_requests = b.most_requests; log = b.log; sessions = members; units = b.units })
+one_changed R b s place members keeps same held within place_is changes =
+    let M : MemberView → Type 0 = λ a. a.session.most_requests ≡ b.most_requests in
+    let N : List MemberView → Type 0 = λ l. All M l in
+    sessions_changed b.names b.most_requests b.log b.sessions members b.units held (λ before stands all.
     let P : MemberView → Type 0 = λ a. SessionHolds b.names (history_of b before) a.session in
     let next = changes.0 in
     let Q : List MemberView → Type 0 = λ l. All P l in
     subst Q (sym changes.1) (All-set P b.sessions s next
     (keeps (history_of b before) (get_or b.sessions s next) next (sym (held.log.over before stands).places ∙ sym place_is) (changes.2 next) (all s next within)) all))
+    (subst N (sym changes.1) (All-set M b.sessions s changes.0
+    (same (get_or b.sessions s changes.0) changes.0 (changes.2 changes.0) ∙ held.requests s changes.0 within) held.requests))
 
 pub closed_holds : (why : Close) (names : List (List ℕ)) (place : ℕ) (history : List Report) (old next : MemberView) → length history ≡ place → Closes place why old next
     → SessionHolds names history old.session → SessionHolds names history next.session
@@ -157,7 +162,7 @@ heard_holds exact known place piece names history old next long inputs held = (_
 
 -- a session heard a piece of its input
 pub record Hears (exact : Bool) (s place : ℕ) (piece : List ℕ) (b : BookView) (members : List MemberView) : Type 0 where
-  pub holds : BookHolds (record { names = b.names; log = b.log; sessions = members; units = b.units })
+  pub holds : BookHolds (record { names = b.names; most_requests = b.most_requests; log = b.log; sessions = members; units = b.units })
   pub session : (before : List Entry) → StandsFor b.log.opening before
       → Changes s (Inputs exact (known_in (length b.names) (before ++ b.log.log)) b.names place piece) b.sessions members
 
@@ -167,7 +172,8 @@ hears : (exact : Bool) (b : BookView) (s place : ℕ) (piece : List ℕ) (member
 hears exact b s place piece members held within place_is session =
     let known = known_in (length b.names) (held.log.some.0 ++ b.log.log) in
     record {
-      holds = one_changed (Inputs exact known b.names place piece) b s place members (heard_holds exact known place piece b.names) held within place_is (session held.log.some.0 held.log.some.1);
+      holds = one_changed (Inputs exact known b.names place piece) b s place members (heard_holds exact known place piece b.names)
+          (λ old next inputs. inputs.puts.most_requests) held within place_is (session held.log.some.0 held.log.some.1);
       session = session;
     }
 
@@ -211,23 +217,33 @@ shut_by_holds : (c : Option (ℕ × Close)) (why : Close) (names : List (List �
 shut_by_holds None why names place history old next long shuts held = closed_holds why names place history old next long shuts held
 shut_by_holds (Some closing) why names place history old next long shuts held = let P : MemberView → Type 0 = λ a. SessionHolds names history a.session in subst P (sym shuts) held
 
+shut_same : (c : Option (ℕ × Close)) (why : Close) (place : ℕ) (old next : MemberView) → ShutsBy c place why old next → next.session.most_requests ≡ old.session.most_requests
+shut_same None why place old next shuts = ap (λ (a : MemberView). a.session.most_requests) shuts.becomes
+shut_same (Some closing) why place old next shuts = ap (λ (a : MemberView). a.session.most_requests) shuts
+
 pub shut_all : (why : Close) (b : BookView) (place : ℕ) (members : List MemberView) → BookHolds b → place ≡ b.log.length → AllZip (Shuts place why) b.sessions members
-    → BookHolds (record { names = b.names; log = b.log; sessions = members; units = b.units })
+    → BookHolds (record { names = b.names; most_requests = b.most_requests; log = b.log; sessions = members; units = b.units })
 shut_all why b place members held place_is shuts =
-    sessions_changed b.names b.log b.sessions members b.units held (λ before stands all.
+    sessions_changed b.names b.most_requests b.log b.sessions members b.units held (λ before stands all.
     let P : MemberView → Type 0 = λ a. SessionHolds b.names (history_of b before) a.session in
     all_along P P (Shuts place why) (λ x y old shut. shut_by_holds x.session.closing why b.names place (history_of b before) x y (sym (held.log.over before stands).places ∙ sym place_is) shut old)
     b.sessions members all shuts)
+    (let M : MemberView → Type 0 = λ a. a.session.most_requests ≡ b.most_requests in
+    all_along M M (Shuts place why) (λ x y answers shut. shut_same x.session.closing why place x y shut ∙ answers) b.sessions members held.requests shuts)
 
 pub one_more : (b : BookView) (place : ℕ) (a : MemberView) (stretches : List Stretch) (members : List MemberView) → BookHolds b → place ≡ b.log.length
+    → a.session.most_requests ≡ b.most_requests
     → ((lines : Policy → Report → List (List ℕ)) (history : List Report) → length history ≡ place → Holding lines history a.session stretches)
     → members ≡ b.sessions ++ a ∷ []
-    → BookHolds (record { names = b.names; log = b.log; sessions = members; units = b.units })
-one_more b place a stretches members held place_is opens is =
-    sessions_changed b.names b.log b.sessions members b.units held (λ before stands all.
+    → BookHolds (record { names = b.names; most_requests = b.most_requests; log = b.log; sessions = members; units = b.units })
+one_more b place a stretches members held place_is answers opens is =
+    let M : MemberView → Type 0 = λ x. x.session.most_requests ≡ b.most_requests in
+    let N : List MemberView → Type 0 = λ l. All M l in
+    sessions_changed b.names b.most_requests b.log b.sessions members b.units held (λ before stands all.
     let P : MemberView → Type 0 = λ x. SessionHolds b.names (history_of b before) x.session in
     let Q : List MemberView → Type 0 = λ l. All P l in
     subst Q (sym is) (All-push P b.sessions a all (stretches, opens (line_for b.names) (history_of b before) (sym (held.log.over before stands).places ∙ sym place_is))))
+    (subst N (sym is) (All-push M b.sessions a held.requests answers))
 
 pub taken_holds : (names : List (List ℕ)) (place : ℕ) (history : List Report) (old next : MemberView) → length history ≡ place → next ≡ with_kept (drop 1 old.session.kept) old
     → SessionHolds names history old.session → SessionHolds names history next.session
@@ -239,21 +255,22 @@ pub is_there : (b : BookView) (s : ℕ) (x : Unit {0}) → RefusesOnly (missing_
 is_there b s x passed = ltb-true s (length b.sessions) (not_missing (nat_lt s (length b.sessions)) (passes (missing_session b s) x passed))
 
 -- entries that give no report change nothing else
-pub quiet : (names : List (List ℕ)) (log next : DeviceLogView) (sessions : List MemberView) (units : List UnitView) (entries : List Entry)
-    → BookHolds (record { names = names; log = log; sessions = sessions; units = units }) → LogHolds next → LogAdds log next entries []
-    → BookHolds (record { names = names; log = next; sessions = sessions; units = units }) × Earns (record { names = names; log = log; sessions = sessions; units = units }) (record { names = names; log = next; sessions = sessions; units = units }) entries
-quiet names log next sessions units entries held holds adds =
+pub quiet : (names : List (List ℕ)) (most : ℕ) (log next : DeviceLogView) (sessions : List MemberView) (units : List UnitView) (entries : List Entry)
+    → BookHolds (record { names = names; most_requests = most; log = log; sessions = sessions; units = units }) → LogHolds next → LogAdds log next entries []
+    → BookHolds (record { names = names; most_requests = most; log = next; sessions = sessions; units = units }) × Earns (record { names = names; most_requests = most; log = log; sessions = sessions; units = units }) (record { names = names; most_requests = most; log = next; sessions = sessions; units = units }) entries
+quiet names most log next sessions units entries held holds adds =
     let same : (before : List Entry) → StandsFor log.opening before → history_after before log.log ≡ history_after before next.log =
     λ before stands. sym (append-nil (history_after before log.log)) ∙ sym (history_added log next entries [] before adds stands) in (
       record {
         log = holds;
         over = λ before stands.
-            let P : List Report → Type 0 = λ r. FollowsReports (record { names = names; log = next; sessions = sessions; units = units }) r in
+            let P : List Report → Type 0 = λ r. FollowsReports (record { names = names; most_requests = most; log = next; sessions = sessions; units = units }) r in
             let was : StandsFor log.opening before = subst (λ s. StandsFor s before) adds.opening stands in
             subst P (same before was) (record { sessions = (held.over before was).sessions; units = (held.over before was).units });
         names = held.names ∙ sym adds.count;
         count = held.count;
         units = held.units;
+        requests = held.requests;
       },
       record {
         sessions = λ before stands s free within stretches holding.
@@ -278,15 +295,15 @@ new_at (first ∷ firsts) [] new u free within = absurd new
 new_at (first ∷ firsts) (x ∷ units) new zero free within = (first, new.0)
 new_at (first ∷ firsts) (x ∷ units) new (suc u) free within = new_at firsts units new.1 u free (omega arith)
 
-pub new_holds : (names : List (List ℕ)) (log : DeviceLogView) (limit : ℕ) (firsts : List ℕ) (units : List UnitView) → IsFresh (length names) limit log → LogHolds log → length names ≤ 8
+pub new_holds : (names : List (List ℕ)) (most : ℕ) (log : DeviceLogView) (limit : ℕ) (firsts : List ℕ) (units : List UnitView) → IsFresh (length names) limit log → LogHolds log → length names ≤ 8
     → AllZip IsNew (take (2 * length names) firsts) units → length units ≡ 2 * length names
-    → BookHolds (record { names = names; log = log; sessions = []; units = units })
+    → BookHolds (record { names = names; most_requests = most; log = log; sessions = []; units = units })
 unfolding history_after
-new_holds names log limit firsts units fresh holds short new count =
+new_holds names most log limit firsts units fresh holds short new count =
     record {
       log = holds;
       over = λ before stands.
-          let P : List Entry → Type 0 = λ l. FollowsReports (record { names = names; log = log; sessions = []; units = units }) (history_after before l) in
+          let P : List Entry → Type 0 = λ l. FollowsReports (record { names = names; most_requests = most; log = log; sessions = []; units = units }) (history_after before l) in
           subst P (sym fresh.log) (record {
             sessions = λ k d within. absurd (omega arith);
             units = λ u free within.
@@ -296,4 +313,18 @@ new_holds names log limit firsts units fresh holds short new count =
       names = sym fresh.count;
       count = short;
       units = count;
+      requests = λ k d within. absurd (omega arith);
+    }
+
+-- how many requests are answered is said before the first session
+pub allowed_holds : (most : ℕ) (b : BookView) → BookHolds b → b.sessions ≡ [] → BookHolds (record b { most_requests = most })
+allowed_holds most b held none =
+    let N : List MemberView → Type 0 = λ l. All (λ (a : MemberView). a.session.most_requests ≡ most) l in
+    record {
+      log = held.log;
+      over = λ before stands. record { sessions = (held.over before stands).sessions; units = (held.over before stands).units };
+      names = held.names;
+      count = held.count;
+      units = held.units;
+      requests = subst N (sym none) (λ k d within. absurd (omega arith));
     }

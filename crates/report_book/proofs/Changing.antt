@@ -47,17 +47,19 @@ after_all b before held stands =
     (λ k d within. after_history b.names (history_of b before) (get_or b.sessions k d).session ((held.over before stands).sessions k d within))
 
 -- the sessions alone have changed
-pub sessions_changed : (names : List (List ℕ)) (log : DeviceLogView) (sessions members : List MemberView) (units : List UnitView)
-    → BookHolds (record { names = names; log = log; sessions = sessions; units = units })
+pub sessions_changed : (names : List (List ℕ)) (most : ℕ) (log : DeviceLogView) (sessions members : List MemberView) (units : List UnitView)
+    → BookHolds (record { names = names; most_requests = most; log = log; sessions = sessions; units = units })
     → ((before : List Entry) → StandsFor log.opening before → All (λ a. SessionHolds names (history_after before log.log) a.session) sessions
     → All (λ a. SessionHolds names (history_after before log.log) a.session) members)
-    → BookHolds (record { names = names; log = log; sessions = members; units = units })
-sessions_changed names log sessions members units held change = record {
+    → All (λ a. a.session.most_requests ≡ most) members
+    → BookHolds (record { names = names; most_requests = most; log = log; sessions = members; units = units })
+sessions_changed names most log sessions members units held change requests = record {
   log = held.log;
   over = λ before stands. record { sessions = change before stands (held.over before stands).sessions; units = (held.over before stands).units };
   names = held.names;
   count = held.count;
   units = held.units;
+  requests = requests;
 }
 
 -- a test that passed found no fault

@@ -2,7 +2,7 @@
 use Rattle.std.proofs.Common.{◌≡◌, ◌≤◌, ◌+◌, ℕ, Bool, true, false, ◌&&◌, cond, refl, sym, ap, ◌∙◌, subst, List, [], ◌∷◌, ◌++◌, length, map, get_or, append-nil, arith, ◌<◌}
 use Rattle.std.specs.List.{All, AllZip, fold}
 use Rattle.std.proofs.lemmas.List.{length-map}
-use Rattle.std.proofs.lemmas.List.Elements.{AllZip-get_or}
+use Rattle.std.proofs.lemmas.List.Elements.{All-map, AllZip-get_or}
 use Rattle.session_core.specs.declared.mark.Close.{Close}
 use Rattle.session_core.specs.Holding.{stretches_left}
 use Rattle.session_core.specs.SessionView.{turned_closing}
@@ -39,6 +39,7 @@ book_turned b held sessions units =
       names = held.names;
       count = held.count;
       units = count ∙ held.units;
+      requests = All-map (λ (a : MemberView). a.session.most_requests ≡ b.most_requests) renewed b.sessions held.requests;
     }
 
 pub book_turned_if : (turns : Bool) (b : BookView) → BookHolds b → (turns ≡ true → AllZip MemberTurns b.sessions (map renewed b.sessions))

@@ -1,4 +1,5 @@
--- What contracts see of a book: the names of its devices, what came of them, its sessions by number, and its units.
+-- What contracts see of a book: the names of its devices, how many requests of a session it answers, what came of its devices, its sessions by
+-- number, and its units.
 use Rattle.std.specs.Prelude.{ℕ, Bool, List, cond, map}
 use Rattle.book_log.specs.DeviceLogView.{DeviceLogView, turned_if as log_turned_if}
 use Rattle.book_sessions.specs.MemberView.{MemberView, renewed}
@@ -7,6 +8,7 @@ use Rattle.book_units.specs.Units.{UnitView}
 
 pub record BookView : Type 0 where
   pub names : List (List ℕ)
+  pub most_requests : ℕ  -- at most this number of each session is answered
   pub log : DeviceLogView
   pub sessions : List MemberView
   pub units : List UnitView
@@ -21,6 +23,7 @@ units_turned_if turns units = cond turns (map turned_unit units) units
 abbrev pub turned_if : Bool → BookView → BookView
 turned_if turns b = record {
   names = b.names;
+  most_requests = b.most_requests;
   log = log_turned_if turns b.log;
   sessions = renewed_if turns b.sessions;
   units = units_turned_if turns b.units;

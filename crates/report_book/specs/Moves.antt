@@ -7,7 +7,7 @@ use Rattle.session_core.specs.declared.mark.Close.{Close}
 use Rattle.session_core.specs.declared.mark.Close.TheVariants.{DaemonEnd}
 use Rattle.session_core.specs.Holding.{Holding, SessionGains}
 use Rattle.session_core.specs.Naming.{OutletName}
-use Rattle.session_core.specs.SessionView.{SessionView, opening_policy}
+use Rattle.session_core.specs.SessionView.{SessionView, opening_policy, usual_requests}
 use Rattle.session_core.specs.Stretches.{Stretch, answer_stretch}
 use Rattle.shm_segment.specs.declared.sample.Sample.{Sample}
 use Rattle.book_batch.specs.Lines.{line_for}
@@ -32,6 +32,7 @@ use Rattle.report_book.specs.Standing.{history_of}
 -- Entries came, and gave these reports: each session is given what its policy selects of them, and each unit its samples.
 pub record BookAdds (exact : Bool) (old new : BookView) (entries : List Entry) (reports : List Report) : Type 0 where
   pub names : new.names ≡ old.names
+  pub requests : new.most_requests ≡ old.most_requests
   pub log : LogAdds old.log new.log entries reports
   pub sessions : AllZip (Spreads exact (line_for old.names) old.log.length reports) old.sessions new.sessions
   pub units : EachUnit (λ u. UnitGains (samples_of u reports)) old.units new.units
@@ -43,6 +44,7 @@ Moves exact turns old new entries = (reports : List Report) × BookAdds exact (t
 -- These entries came and gave no report: nothing else changes.
 pub record AddsQuietly (old new : BookView) (entries : List Entry) : Type 0 where
   pub names : new.names ≡ old.names
+  pub requests : new.most_requests ≡ old.most_requests
   pub log : LogAdds old.log new.log entries []
   pub sessions : new.sessions ≡ old.sessions
   pub units : new.units ≡ old.units
@@ -63,16 +65,17 @@ pub record Earns (old new : BookView) (entries : List Entry) : Type 0 where
 -- all but the sessions is as it was
 pub record SameButSessions (old new : BookView) : Type 0 where
   pub names : new.names ≡ old.names
+  pub requests : new.most_requests ≡ old.most_requests
   pub log : new.log ≡ old.log
   pub units : new.units ≡ old.units
 
 -- a new session follows the others: it was sent its opening reply, at the history's end
 pub record Admits (name : OutletName) (cap : ℕ) (old new : BookView) : Type 0 where
   pub same : SameButSessions old new
-  pub sessions : new.sessions ≡ old.sessions ++ opened name cap old.log.length ∷ []
+  pub sessions : new.sessions ≡ old.sessions ++ opened name cap old.most_requests old.log.length ∷ []
   pub holding : (before : List Entry) → StandsFor old.log.opening before
       → Holding (line_for old.names) (history_of old before)
-      (opened name cap old.log.length).session (answer_stretch old.log.length opening_policy opening_reply ∷ [])
+      (opened name cap old.most_requests old.log.length).session (answer_stretch old.log.length opening_policy opening_reply ∷ [])
 
 -- the requests that this piece ends are answered by what is known at this moment, whatever log the opening stands for
 pub record AnswersRequests (exact : Bool) (s : ℕ) (piece : List ℕ) (old new : BookView) : Type 0 where
@@ -93,6 +96,7 @@ pub record ShutsAll (old new : BookView) : Type 0 where
 -- a unit takes a step, and nothing else changes
 pub record PublishesAt (u : ℕ) (step : UnitStep) (old new : BookView) : Type 0 where
   pub names : new.names ≡ old.names
+  pub requests : new.most_requests ≡ old.most_requests
   pub log : new.log ≡ old.log
   pub sessions : new.sessions ≡ old.sessions
   pub units : Publishes u step old.units new.units
@@ -100,6 +104,7 @@ pub record PublishesAt (u : ℕ) (step : UnitStep) (old new : BookView) : Type 0
 -- a new book: its opening is of the empty log, and nothing has come
 pub record IsNewBook (names : List (List ℕ)) (limit : ℕ) (firsts : List ℕ) (b : BookView) : Type 0 where
   pub names_are : b.names ≡ names
+  pub most_requests : b.most_requests ≡ usual_requests
   pub log : IsFresh (length names) limit b.log
   pub sessions : b.sessions ≡ []
   pub units : AllZip IsNew (take (2 * length names) firsts) b.units

@@ -38,3 +38,4 @@ pub record BookHolds (b : BookView) : Type 0 where
   pub names : length b.names ≡ length b.log.present.lines
   pub count : length b.names ≤ 8
   pub units : length b.units ≡ 2 * length b.names
+  pub requests : All (λ a. a.session.most_requests ≡ b.most_requests) b.sessions

@@ -1,4 +1,4 @@
-ghost use Rattle.std.specs.Prelude.{◌≡◌, ◌≤◌, ◌<◌, ◌+◌, ◌*◌, ◌++◌, ◌⊎◌, ℕ, true, false, List, [], ◌∷◌, length, count_by, get_or, slice_get, option_map, option_and_then, Some, None, IfOk, IfErr, OnOk, OnErr, IfNone};
+ghost use Rattle.std.specs.Prelude.{◌≡◌, ◌≤◌, ◌<◌, ◌+◌, ◌*◌, ◌++◌, ◌⊎◌, ℕ, true, false, List, [], ◌∷◌, length, get_or, slice_get, Some, None, IfOk, IfErr, OnOk, OnErr, IfNone};
 ghost use Rattle.std.specs.List.{All, list_all};
 ghost use Rattle.std.specs.Arc.{arc_value};
 ghost use Rattle.std.specs.Option.{option_to_list};
@@ -10,8 +10,7 @@ ghost use Rattle.book_log.specs.DeviceLogView.{turns_at};
 ghost use Rattle.book_log.specs.Standing.{DevicesGoOn, has_stopped};
 ghost use Rattle.book_replies.specs.Replies.{opening_reply};
 ghost use Rattle.book_sessions.specs.MemberView.{MemberView};
-ghost use Rattle.book_sessions.specs.Roster.{live_in, was_watched};
-ghost use Rattle.book_units.specs.Steps.{BearsOut, state_of};
+ghost use Rattle.book_units.specs.Steps.{BearsOut};
 ghost use Rattle.book_units.specs.Units.{UnitView, IsInOrder, IsUnit, segment_of};
 ghost use Rattle.report_book.specs.Allowing.{MayAdd, MayInput};
 ghost use Rattle.report_book.specs.BookView.{turned_if};
@@ -25,7 +24,7 @@ use crate::placing::put;
 use book_log::DeviceLog;
 use book_replies::may_poll;
 use book_sessions::Roster;
-use book_units::{UnitState, UnitStep, Units};
+use book_units::{UnitStep, Units};
 use gps_fixed::{NoMemory, Stamp};
 use gps_report::{Edge, Names};
 use session_core::{Close, Item, Outlet, PlainOutlet, TwoEnded};
@@ -40,6 +39,9 @@ const MOST_OF_PIECE: usize = 2568;
 /// The most that an edge adds.
 const MOST_OF_EDGE: usize = 1;
 
+/// How many requests of each session are answered, if no other number is allowed.
+const USUAL_REQUESTS: u32 = 65_536;
+
 /// The devices of a daemon, its one history, its sessions, and its units.
 ///
 /// A device is named by its number, from 0 on, and has two units: unit 2d has its serial times with precision -1, and unit 2d + 1 its
@@ -49,9 +51,11 @@ const MOST_OF_EDGE: usize = 1;
 pub struct Book<O: Outlet> {
     alloc: Global,
     names: Names,
-    log: DeviceLog,
-    roster: Roster<O>,
-    units: Units,
+    /// How many requests of each session are answered.
+    most_requests: u32,
+    pub(crate) log: DeviceLog,
+    pub(crate) roster: Roster<O>,
+    pub(crate) units: Units,
 }
 
 impl<O: Outlet> Model for Book<O> {
@@ -60,14 +64,14 @@ impl<O: Outlet> Model for Book<O> {
 
     ghost Value = { BookView };
 
-    ghost view = { λ b. record { names = b.names; log = b.log; sessions = b.roster; units = b.units.units } };
+    ghost view = { λ b. record { names = b.names; most_requests = b.most_requests; log = b.log; sessions = b.roster; units = b.units.units } };
 
-    ghost invariant = { λ b. BookHolds (record { names = b.names; log = b.log; sessions = b.roster; units = b.units.units }) };
+    ghost invariant = { λ b. BookHolds (record { names = b.names; most_requests = b.most_requests; log = b.log; sessions = b.roster; units = b.units.units }) };
 }
 
 impl<O: Outlet> Book<O> {
     /// A book of devices with these names, whose generations hold at most `limit` symbols, or those of one call if that is more. The
-    /// samples of unit u are numbered from `firsts[u] + 1` on.
+    /// samples of unit u are numbered from `firsts[u] + 1` on. Of each session 65,536 requests are answered.
     pub fn new(
         alloc: Global,
         names: Names,
@@ -86,10 +90,20 @@ impl<O: Outlet> Book<O> {
         Ok(Book {
             alloc,
             names,
+            most_requests: USUAL_REQUESTS,
             log,
             roster: Roster::new(alloc),
             units,
         })
+    }
+
+    /// Says how many requests of each session are answered: the next one closes the session. No session was opened yet.
+    #[tactic(auto, using(crate::proofs::Calls::allowed_holds))]
+    pub fn allow_requests(&mut self, most: u32)
+        requires none { self.old.sessions ≡ [] }
+        ensures { self.new ≡ record self.old { most_requests = most } }
+    {
+        self.most_requests = most;
     }
 
     fn check_device(&self, d: u8) -> Result<(), BookFault>
@@ -126,7 +140,7 @@ impl<O: Outlet> Book<O> {
         }
     }
 
-    fn check_unit(&self, u: u8) -> Result<(), BookFault>
+    pub(crate) fn check_unit(&self, u: u8) -> Result<(), BookFault>
         ensures { RefusesOnly (missing_unit self.now u) result }
     {
         if usize::from(u) < 2 * self.names.len() {
@@ -226,7 +240,10 @@ impl<O: Outlet> Book<O> {
         ensures limit { self.new.log.limit ≡ self.old.log.limit }
         ensures unchanged { OnErr result (self.new ≡ self.old) }
     {
-        match self.roster.admit(outlet, self.log.place()) {
+        match self
+            .roster
+            .admit(outlet, self.most_requests, self.log.place())
+        {
             Ok(s) => Ok(s),
             Err((outlet, fault)) => Err((outlet, fault.into())),
         }
@@ -323,73 +340,6 @@ impl<O: Outlet> Book<O> {
         self.check_unit(u)?;
         self.units.hear(u, account);
         Ok(())
-    }
-
-    /// Whether each device has ended or was lost.
-    pub fn all_ended(&self) -> bool
-        ensures { result ≡ list_all (λ line. has_stopped line.stage) self.now.log.present.lines }
-    {
-        self.log.all_ended()
-    }
-
-    /// The number of symbols in the log of this generation.
-    pub fn symbols(&self) -> u32
-        ensures { result ≡ self.now.log.symbols }
-    {
-        self.log.symbols()
-    }
-
-    /// The number of generations before this one; at its greatest value it stays there.
-    pub fn generation(&self) -> u64
-        ensures { result ≡ self.now.log.generation }
-    {
-        self.log.generation()
-    }
-
-    /// The number of sessions that are not closed.
-    pub fn live(&self) -> u32
-        ensures { result ≡ live_in self.now.sessions }
-    {
-        self.roster.live()
-    }
-
-    /// The number of sessions that were opened in the whole run.
-    pub fn opened(&self) -> u32
-        ensures { result ≡ length self.now.sessions }
-    {
-        self.roster.opened()
-    }
-
-    /// The number of sessions, live or closed, that have had a mark with an enabled policy in the whole run.
-    pub fn watched(&self) -> u32
-        ensures { result ≡ count_by was_watched self.now.sessions }
-    {
-        self.roster.watched()
-    }
-
-    /// The number of items pushed to a session; none exactly if there is no such session.
-    pub fn items(&self, s: u32) -> Option<u64>
-        ensures { result ≡ option_map (λ a. a.session.items) (slice_get self.now.sessions s) }
-    {
-        self.roster.items(s)
-    }
-
-    /// The place of this generation's history at which a session was closed, and why; none exactly if it does not exist or is not
-    /// closed.
-    pub fn closing(&self, s: u32) -> Option<(u64, Close)>
-        ensures { result ≡ option_and_then (λ a. a.session.closing) (slice_get self.now.sessions s) }
-    {
-        self.roster.closing(s)
-    }
-
-    /// How many samples a unit has published in this run, its word count, and how many are left; none exactly if there is no such unit.
-    pub fn unit(&self, u: u8) -> Option<UnitState>
-        ensures { result ≡ option_map state_of (slice_get self.now.units u) }
-    {
-        match self.check_unit(u) {
-            Ok(()) => Some(self.units.unit(u)),
-            Err(_) => None,
-        }
     }
 
     /// What always holds of a book. A device that has not stopped stands for each stream that its opening stands for, followed by its

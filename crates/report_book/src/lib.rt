@@ -9,6 +9,7 @@ mod book;
 mod fault;
 mod knowing;
 mod placing;
+mod telling;
 
 pub use book::Book;
 pub use book_batch::Batch;

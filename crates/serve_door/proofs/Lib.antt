@@ -2,3 +2,4 @@ pub mod Seating
 pub mod Dropping
 pub mod Asking
 pub mod Released
+pub mod Sending

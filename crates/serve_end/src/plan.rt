@@ -15,6 +15,8 @@ pub struct Plan {
     pub listen: Bytes,
     /// How many items may wait for each session.
     pub queue: u32,
+    /// How many requests of each session are answered.
+    pub requests: u32,
     /// The most symbols of one generation of the history.
     pub limit: u32,
     /// For how many watching sessions the devices wait.

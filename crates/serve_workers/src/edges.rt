@@ -9,13 +9,14 @@ ghost use Rattle.serve_workers.specs.Readings.{Meets, StepHasCause, over};
 ghost use Rattle.serve_workers.specs.Sourced.{CutterAtEnd, CutterBefore, CutterFrom, CutterFromOn, LinesFrom};
 ghost use Rattle.serve_workers.specs.EdgeLines.{PutsLine, PutsLines, PutsLast, EdgeLineSteps, CutsLines, HandsLines};
 
+use crate::bells::ReaderBells;
 use crate::pauses::pause;
 use crate::puts::put;
 use crate::readers::{READ, ReaderEnd, ReaderStep, Span, tell};
-use gps_lane::{Bell, Ending, Piece, Tx};
+use crate::spawner::Hands;
+use gps_lane::{Ending, Piece, Tx};
 use gps_outside::{ReadStep, Source};
 use line_cut::{Last, Limit, LineCutter, Next, text_of};
-use std::alloc::Global;
 use std::sync::Wait;
 
 /// How many bytes a line may have without its line end.
@@ -30,12 +31,10 @@ enum Put {
 }
 
 fn put_line<R: Wait + Copy>(
-    rt: &R,
-    alloc: Global,
+    hands: &Hands<R>,
     pieces: &mut Tx<Piece, R>,
     text: &[u8],
-    own: &Bell,
-    pump: &Bell,
+    bells: ReaderBells,
 ) -> Put
     requires open { pieces.old.is_open ≡ true }
     requires short { IsShort text.now }
@@ -43,10 +42,10 @@ fn put_line<R: Wait + Copy>(
     ensures puts { PutsLine result text.now pieces.old.put pieces.new.put }
     ensures lane { pieces.new ≡ record pieces.old { put = pieces.new.put } }
 {
-    match Piece::line(alloc, text) {
+    match Piece::line(hands.alloc, text) {
         Ok(piece) => {
-            if put(rt, pieces, piece, own) {
-                pump.ring();
+            if put(&hands.rt, pieces, piece, bells.own) {
+                bells.pump.ring();
                 Put::Done
             } else {
                 Put::Closed
@@ -58,13 +57,11 @@ fn put_line<R: Wait + Copy>(
 
 /// Puts the lines that a piece of bytes completes. Those that are too long are skipped.
 fn put_lines<R: Wait + Copy>(
-    rt: &R,
-    alloc: Global,
+    hands: &Hands<R>,
     pieces: &mut Tx<Piece, R>,
     cutter: &mut LineCutter,
     piece: &[u8],
-    own: &Bell,
-    pump: &Bell,
+    bells: ReaderBells,
 ) -> Put
     // The lane is open, and the cutter keeps what the bytes so far have left open.
     requires open { pieces.old.is_open ≡ true }
@@ -80,7 +77,7 @@ fn put_lines<R: Wait + Copy>(
     'cuts: loop {
         match cutter.next(rest) {
             Ok(Next::Line(line, used)) => {
-                match put_line(rt, alloc, pieces, text_of(line.as_slice()), own, pump) {
+                match put_line(hands, pieces, text_of(line.as_slice()), bells) {
                     Put::Done => rest = &rest[used..],
                     Put::NoMemory => return Put::NoMemory,
                     Put::Closed => return Put::Closed,
@@ -95,12 +92,10 @@ fn put_lines<R: Wait + Copy>(
 
 /// Puts the last line, if it lacks its line end.
 fn put_last<R: Wait + Copy>(
-    rt: &R,
-    alloc: Global,
+    hands: &Hands<R>,
     pieces: &mut Tx<Piece, R>,
     cutter: &LineCutter,
-    own: &Bell,
-    pump: &Bell,
+    bells: ReaderBells,
 ) -> Put
     requires open { pieces.old.is_open ≡ true }
     requires limit { cutter.now.limit ≡ edge_limit }
@@ -109,7 +104,7 @@ fn put_last<R: Wait + Copy>(
     ensures lane { pieces.new ≡ record pieces.old { put = pieces.new.put } }
 {
     match cutter.last() {
-        Last::Line(line) => put_line(rt, alloc, pieces, line, own, pump),
+        Last::Line(line) => put_line(hands, pieces, line, bells),
         Last::None => Put::Done,
         Last::TooLong => Put::Done,
     }
@@ -117,13 +112,11 @@ fn put_last<R: Wait + Copy>(
 
 /// Reads once, and puts the lines that the bytes complete.
 fn cut_once<S: Source, R: Wait + Copy>(
-    rt: &R,
-    alloc: Global,
+    hands: &Hands<R>,
     source: &mut S,
     pieces: &mut Tx<Piece, R>,
     cutter: &mut LineCutter,
-    own: &Bell,
-    pump: &Bell,
+    bells: ReaderBells,
 ) -> ReaderStep
     // The lane is open, and the cutter keeps what the bytes so far have left open.
     requires open { pieces.old.is_open ≡ true }
@@ -144,13 +137,13 @@ fn cut_once<S: Source, R: Wait + Copy>(
 {
     let mut buf = [0u8; READ];
     match source.read(&mut buf) {
-        ReadStep::Got(n) => match put_lines(rt, alloc, pieces, cutter, &buf[..n], own, pump) {
+        ReadStep::Got(n) => match put_lines(hands, pieces, cutter, &buf[..n], bells) {
             Put::Done => ReaderStep::On,
             Put::NoMemory => ReaderStep::Over(Ending::NoMemory),
             Put::Closed => ReaderStep::Closed,
         },
         ReadStep::Quiet => {
-            if pause(rt, own) {
+            if pause(&hands.rt, bells.own) {
                 ReaderStep::On
             } else {
                 ReaderStep::Closed
@@ -163,13 +156,11 @@ fn cut_once<S: Source, R: Wait + Copy>(
 
 /// Reads a source to its end, and puts the lines that its bytes complete. None if it was told to end before that.
 fn cut_on<S: Source, R: Wait + Copy>(
-    rt: &R,
-    alloc: Global,
+    hands: &Hands<R>,
     source: &mut S,
     pieces: &mut Tx<Piece, R>,
     cutter: &mut LineCutter,
-    own: &Bell,
-    pump: &Bell,
+    bells: ReaderBells,
 ) -> Option<Ending>
     // The lane is open, and the cutter keeps what the bytes so far have left open.
     requires open { pieces.old.is_open ≡ true }
@@ -188,8 +179,8 @@ fn cut_on<S: Source, R: Wait + Copy>(
     ensures quiets_stay { S.quiets source.old ≤ S.quiets source.new }
     ensures failed { StepHasCause (over result) (S.faults source.old) (S.faults source.new) }
 {
-    'reads: for _ in rt.forever() {
-        match cut_once(rt, alloc, source, pieces, cutter, own, pump) {
+    'reads: for _ in hands.rt.forever() {
+        match cut_once(hands, source, pieces, cutter, bells) {
             ReaderStep::On => {}
             ReaderStep::Over(ending) => return Some(ending),
             ReaderStep::Closed => return None,
@@ -200,12 +191,10 @@ fn cut_on<S: Source, R: Wait + Copy>(
 
 /// Reads a source to its end, and puts its lines, also a last one that lacks its line end.
 fn cut_all<S: Source, R: Wait + Copy>(
-    rt: &R,
-    alloc: Global,
+    hands: &Hands<R>,
     source: &mut S,
     pieces: &mut Tx<Piece, R>,
-    own: &Bell,
-    pump: &Bell,
+    bells: ReaderBells,
 ) -> Option<Ending>
     requires open { pieces.old.is_open ≡ true }
     requires from { LinesFrom pieces.old.about.source pieces.old.put [] (S.content source.old) }
@@ -219,9 +208,9 @@ fn cut_all<S: Source, R: Wait + Copy>(
     ensures quiets_stay { S.quiets source.old ≤ S.quiets source.new }
     ensures failed { StepHasCause (over result) (S.faults source.old) (S.faults source.new) }
 {
-    let mut cutter = LineCutter::new(alloc, Limit::Text(LONGEST));
-    match cut_on(rt, alloc, source, pieces, &mut cutter, own, pump) {
-        Some(Ending::End) => match put_last(rt, alloc, pieces, &cutter, own, pump) {
+    let mut cutter = LineCutter::new(hands.alloc, Limit::Text(LONGEST));
+    match cut_on(hands, source, pieces, &mut cutter, bells) {
+        Some(Ending::End) => match put_last(hands, pieces, &cutter, bells) {
             Put::Done => Some(Ending::End),
             Put::NoMemory => Some(Ending::NoMemory),
             Put::Closed => None,
@@ -234,13 +223,10 @@ fn cut_all<S: Source, R: Wait + Copy>(
 
 /// Reads a source to its end, unless it is to read nothing, puts its lines, and after them how the source ended.
 fn put_edges<S: Source, R: Wait + Copy>(
-    rt: &R,
-    alloc: Global,
+    hands: &Hands<R>,
     source: &mut S,
     pieces: &mut Tx<Piece, R>,
-    own: &Bell,
-    pump: &Bell,
-    span: Span,
+    bells: ReaderBells,
 ) -> ReaderEnd
     requires open { pieces.old.is_open ≡ true }
     requires from { LinesFrom pieces.old.about.source pieces.old.put [] (S.content source.old) }
@@ -254,11 +240,11 @@ fn put_edges<S: Source, R: Wait + Copy>(
     ensures quiets_stay { S.quiets source.old ≤ S.quiets source.new }
     ensures meets { Meets result.failed result.told (S.faults source.old) (S.faults source.new) }
 {
-    if span == Span::Nothing {
-        return tell(rt, pieces, Some(Ending::NoMemory), own, pump);
+    if bells.alone.span() == Span::Nothing {
+        return tell(hands, pieces, Some(Ending::NoMemory), bells);
     }
-    let met = cut_all(rt, alloc, source, pieces, own, pump);
-    tell(rt, pieces, met, own, pump)
+    let met = cut_all(hands, source, pieces, bells);
+    tell(hands, pieces, met, bells)
 }
 
 /// Reads the lines of an edges file to its end, and puts each that has at most 64 bytes without its line end, LF or CR
@@ -266,13 +252,10 @@ fn put_edges<S: Source, R: Wait + Copy>(
 /// [`read_device`](crate::read_device). However it ends, the source is closed.
 #[tactic(auto, using(crate::proofs::LineStepping::lines_closed))]
 pub fn read_edges<S: Source, R: Wait + Copy>(
-    rt: &R,
-    alloc: Global,
+    hands: &Hands<R>,
     source: &mut S,
     pieces: &mut Tx<Piece, R>,
-    own: &Bell,
-    pump: &Bell,
-    span: Span,
+    bells: ReaderBells,
 ) -> ReaderEnd
     requires open { pieces.old.is_open ≡ true }
     requires from { LinesFrom pieces.old.about.source pieces.old.put [] (S.content source.old) }
@@ -286,7 +269,7 @@ pub fn read_edges<S: Source, R: Wait + Copy>(
     ensures quiets_stay { S.quiets source.old ≤ S.quiets source.new }
     ensures meets { Meets result.failed result.told (S.faults source.old) (S.faults source.new) }
 {
-    let end = put_edges(rt, alloc, source, pieces, own, pump, span);
+    let end = put_edges(hands, source, pieces, bells);
     source.finish();
     end
 }

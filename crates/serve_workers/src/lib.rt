@@ -31,6 +31,6 @@ pub use reading::{
 };
 pub use session::{Attending, LinkDone, SessionLink, WriterDone, start_session};
 pub use shared_clock::{Dials, SharedClock};
-pub use spawner::Spawner;
+pub use spawner::{Hands, Spawner};
 pub use work::{Work, start};
 pub use writer::{WriterEnd, write_items};

@@ -8,14 +8,15 @@ ghost use Rattle.serve_workers.specs.Readings.{HandsOn, IsDevicePiece, IsInputPi
 ghost use Rattle.serve_workers.specs.Sourced.{FromSource, FromSourceOn};
 ghost use Rattle.serve_workers.specs.Stamping.{StampsPieces, spare_in};
 
+use crate::bells::ReaderBells;
 use crate::maker::{Maker, Requests, Stamped};
 use crate::pauses::pause;
 use crate::puts::{put, put_ending};
+use crate::spawner::Hands;
 use crate::{Dials, SharedClock};
-use gps_lane::{Bell, Ending, Piece, Tx};
+use gps_lane::{Ending, Piece, Tx};
 use gps_outside::{Clock, ReadStep, Source};
 use stamp_shares::StampShare;
-use std::alloc::Global;
 use std::sync::{Mutex, Wait};
 
 /// The bytes of one read.
@@ -51,13 +52,11 @@ pub(crate) enum ReaderStep {
 /// Reads once, and puts what came.
 #[tactic(auto, using(crate::proofs::Stamping::one_stamped, crate::proofs::Stamping::late_stamped, crate::proofs::Stamping::dropped_stamp, crate::proofs::Stamping::none_stamped))]
 fn read_once<M: Maker, S: Source, R: Wait + Copy>(
-    rt: &R,
-    alloc: Global,
+    hands: &Hands<R>,
     maker: &mut M,
     source: &mut S,
     pieces: &mut Tx<Piece, R>,
-    own: &Bell,
-    pump: &Bell,
+    bells: ReaderBells,
 ) -> ReaderStep
     // The lane is open, and has what its source gave so far.
     requires open { pieces.old.is_open ≡ true }
@@ -75,13 +74,13 @@ fn read_once<M: Maker, S: Source, R: Wait + Copy>(
     ensures quiets_stay { S.quiets source.old ≤ S.quiets source.new }
     ensures failed { StepHasCause result (S.faults source.old) (S.faults source.new) }
 {
-    let told = own.is_closed();
+    let told = bells.own.is_closed();
     let mut buf = [0u8; READ];
     match source.read(&mut buf) {
-        ReadStep::Got(n) => match maker.piece(rt, alloc, &buf[..n]) {
+        ReadStep::Got(n) => match maker.piece(&hands.rt, hands.alloc, &buf[..n]) {
             Ok(piece) => {
-                if put(rt, pieces, piece, own) {
-                    pump.ring();
+                if put(&hands.rt, pieces, piece, bells.own) {
+                    bells.pump.ring();
                     ReaderStep::On
                 } else {
                     ReaderStep::Closed
@@ -93,7 +92,7 @@ fn read_once<M: Maker, S: Source, R: Wait + Copy>(
             if told {
                 ReaderStep::Closed
             } else {
-                pause(rt, own);
+                pause(&hands.rt, bells.own);
                 ReaderStep::On
             }
         }
@@ -105,13 +104,11 @@ fn read_once<M: Maker, S: Source, R: Wait + Copy>(
 /// Reads a source to its end, and puts what each read gave. None if it was told to end before that.
 #[tactic(auto, using(crate::proofs::Stamping::none_stamped, crate::proofs::Stamping::stamped_on))]
 fn read_on<M: Maker, S: Source, R: Wait + Copy>(
-    rt: &R,
-    alloc: Global,
+    hands: &Hands<R>,
     maker: &mut M,
     source: &mut S,
     pieces: &mut Tx<Piece, R>,
-    own: &Bell,
-    pump: &Bell,
+    bells: ReaderBells,
 ) -> Option<Ending>
     // The lane is open, and has what its source gave so far.
     requires open { pieces.old.is_open ≡ true }
@@ -128,8 +125,8 @@ fn read_on<M: Maker, S: Source, R: Wait + Copy>(
     ensures quiets_stay { S.quiets source.old ≤ S.quiets source.new }
     ensures failed { StepHasCause (over result) (S.faults source.old) (S.faults source.new) }
 {
-    'reads: for _ in rt.forever() {
-        match read_once(rt, alloc, maker, source, pieces, own, pump) {
+    'reads: for _ in hands.rt.forever() {
+        match read_once(hands, maker, source, pieces, bells) {
             ReaderStep::On => {}
             ReaderStep::Over(ending) => return Some(ending),
             ReaderStep::Closed => return None,
@@ -141,13 +138,11 @@ fn read_on<M: Maker, S: Source, R: Wait + Copy>(
 /// Reads a source to its end, puts what each read gave, and closes the source. None if it was told to end before that.
 #[tactic(auto, using(crate::proofs::Stepping::steps_closed, crate::proofs::Stepping::was_read_closed))]
 fn read_and_close<M: Maker, S: Source, R: Wait + Copy>(
-    rt: &R,
-    alloc: Global,
+    hands: &Hands<R>,
     maker: &mut M,
     source: &mut S,
     pieces: &mut Tx<Piece, R>,
-    own: &Bell,
-    pump: &Bell,
+    bells: ReaderBells,
 ) -> Option<Ending>
     // The lane is open, and has what its source gave so far.
     requires open { pieces.old.is_open ≡ true }
@@ -164,7 +159,7 @@ fn read_and_close<M: Maker, S: Source, R: Wait + Copy>(
     ensures quiets_stay { S.quiets source.old ≤ S.quiets source.new }
     ensures failed { StepHasCause (over result) (S.faults source.old) (S.faults source.new) }
 {
-    let ending = read_on(rt, alloc, maker, source, pieces, own, pump);
+    let ending = read_on(hands, maker, source, pieces, bells);
     source.finish();
     ending
 }
@@ -180,11 +175,10 @@ fn is_fault(met: Option<Ending>) -> bool
 
 /// Puts how a source ended, unless the reader was told to end before.
 pub(crate) fn tell<R: Wait + Copy>(
-    rt: &R,
+    hands: &Hands<R>,
     pieces: &mut Tx<Piece, R>,
     met: Option<Ending>,
-    own: &Bell,
-    pump: &Bell,
+    bells: ReaderBells,
 ) -> ReaderEnd
     requires open { pieces.old.is_open ≡ true }
     ensures puts { pieces.new ≡ record pieces.old { put = pieces.old.put ++ last_piece result.told } }
@@ -192,7 +186,7 @@ pub(crate) fn tell<R: Wait + Copy>(
     ensures failed { result.failed ≡ is_fault met }
 {
     let told = match met {
-        Some(ending) => put_ending(rt, pieces, ending, own, pump),
+        Some(ending) => put_ending(&hands.rt, pieces, ending, bells.own, bells.pump),
         None => None,
     };
     ReaderEnd {
@@ -203,13 +197,11 @@ pub(crate) fn tell<R: Wait + Copy>(
 
 /// Reads a source to its end, puts what each read gave, and after it how the source ended. However it ends, the source is closed.
 fn read_all<M: Maker, S: Source, R: Wait + Copy>(
-    rt: &R,
-    alloc: Global,
+    hands: &Hands<R>,
     maker: &mut M,
     source: &mut S,
     pieces: &mut Tx<Piece, R>,
-    own: &Bell,
-    pump: &Bell,
+    bells: ReaderBells,
 ) -> ReaderEnd
     // The lane is open, and has what its source gave so far.
     requires open { pieces.old.is_open ≡ true }
@@ -226,19 +218,18 @@ fn read_all<M: Maker, S: Source, R: Wait + Copy>(
     ensures quiets_stay { S.quiets source.old ≤ S.quiets source.new }
     ensures meets { Meets result.failed result.told (S.faults source.old) (S.faults source.new) }
 {
-    let met = read_and_close(rt, alloc, maker, source, pieces, own, pump);
-    tell(rt, pieces, met, own, pump)
+    let met = read_and_close(hands, maker, source, pieces, bells);
+    tell(hands, pieces, met, bells)
 }
 
 /// Closes a source, and tells its lane that its reader was out of memory.
 #[tactic(auto, using(crate::proofs::Stamping::same_stamps))]
 fn refuse<M: Maker, S: Source, R: Wait + Copy>(
-    rt: &R,
+    hands: &Hands<R>,
     _maker: &M,
     source: &mut S,
     pieces: &mut Tx<Piece, R>,
-    own: &Bell,
-    pump: &Bell,
+    bells: ReaderBells,
 ) -> ReaderEnd
     requires open { pieces.old.is_open ≡ true }
 
@@ -253,7 +244,7 @@ fn refuse<M: Maker, S: Source, R: Wait + Copy>(
     ensures meets { Meets result.failed result.told (S.faults source.old) (S.faults source.new) }
 {
     source.finish();
-    tell(rt, pieces, Some(Ending::NoMemory), own, pump)
+    tell(hands, pieces, Some(Ending::NoMemory), bells)
 }
 
 /// Closes a source, and then reads it once, so that the read does not wait. What it gives is dropped.
@@ -283,15 +274,12 @@ fn read_closed<S: Source>(source: &mut S) -> Ending
 /// It rings the pump after each piece, and sleeps on its own bell while its lane is full.
 #[tactic(auto, using(crate::proofs::Stamping::unstamped))]
 pub fn read_device<S: Source, C: Clock, D: Dials, R: Wait + Copy>(
-    rt: &R,
-    alloc: Global,
+    hands: &Hands<R>,
     source: &mut S,
     clock: &Mutex<SharedClock<C, D>>,
     share: StampShare<D>,
     pieces: &mut Tx<Piece, R>,
-    own: &Bell,
-    pump: &Bell,
-    span: Span,
+    bells: ReaderBells,
 ) -> (ReaderEnd, StampShare<D>)
     // The lane is open, and has what its source gave so far.
     requires open { pieces.old.is_open ≡ true }
@@ -308,12 +296,12 @@ pub fn read_device<S: Source, C: Clock, D: Dials, R: Wait + Copy>(
     ensures meets { Meets result.0.failed result.0.told (S.faults source.old) (S.faults source.new) }
 {
     let mut maker = Stamped { clock, share };
-    if span == Span::Nothing {
-        let end = refuse(rt, &maker, source, pieces, own, pump);
+    if bells.alone.span() == Span::Nothing {
+        let end = refuse(hands, &maker, source, pieces, bells);
         let Stamped { share, .. } = maker;
         return (end, share);
     }
-    let end = read_all(rt, alloc, &mut maker, source, pieces, own, pump);
+    let end = read_all(hands, &mut maker, source, pieces, bells);
     let Stamped { share, .. } = maker;
     (end, share)
 }
@@ -321,13 +309,10 @@ pub fn read_device<S: Source, C: Clock, D: Dials, R: Wait + Copy>(
 /// Reads the requests of a session to their end, as [`read_device`] reads a device. It makes at least one read; if it is to read nothing, it
 /// closes the source before that.
 pub fn read_session<S: Source, R: Wait + Copy>(
-    rt: &R,
-    alloc: Global,
+    hands: &Hands<R>,
     source: &mut S,
     pieces: &mut Tx<Piece, R>,
-    own: &Bell,
-    pump: &Bell,
-    span: Span,
+    bells: ReaderBells,
 ) -> ReaderEnd
     // The lane is open, and has what its source gave so far.
     requires open { pieces.old.is_open ≡ true }
@@ -343,9 +328,9 @@ pub fn read_session<S: Source, R: Wait + Copy>(
     ensures quiets_stay { S.quiets source.old ≤ S.quiets source.new }
     ensures meets { Meets result.failed result.told (S.faults source.old) (S.faults source.new) }
 {
-    if span == Span::Nothing {
+    if bells.alone.span() == Span::Nothing {
         let ending = read_closed(source);
-        return tell(rt, pieces, Some(ending), own, pump);
+        return tell(hands, pieces, Some(ending), bells);
     }
-    read_all(rt, alloc, &mut Requests, source, pieces, own, pump)
+    read_all(hands, &mut Requests, source, pieces, bells)
 }

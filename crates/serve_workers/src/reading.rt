@@ -10,12 +10,11 @@ use crate::bells::ReaderBells;
 use crate::edges::read_edges;
 use crate::readers::{read_device, read_session};
 use crate::shared_clock::{Dials, SharedClock};
-use crate::spawner::Spawner;
+use crate::spawner::{Hands, Spawner};
 use crate::work::{Work, start};
 use gps_lane::{Ending, Piece, Tx};
 use gps_outside::{Clock, Source};
 use stamp_shares::StampShare;
-use std::alloc::Global;
 use std::snapshot::Snapshot;
 use std::sync::{Mutex, Wait};
 use std::thread::Promise;
@@ -76,8 +75,7 @@ impl<S: Source, R> Promise<ReaderDone<S, R>> for EdgeReading<S, R> {
 /// Reads a device to its end, or not at all if it has no thread.
 #[tactic(auto, using(gps_lane::proofs::Closing::more_put))]
 pub fn device_reader<S: Source, C: Clock, D: Dials, R: Wait + Copy>(
-    rt: &R,
-    alloc: Global,
+    hands: &Hands<R>,
     source: S,
     clock: &Mutex<SharedClock<C, D>>,
     share: StampShare<D>,
@@ -93,17 +91,7 @@ pub fn device_reader<S: Source, C: Clock, D: Dials, R: Wait + Copy>(
 {
     let mut source = source;
     let mut pieces = pieces;
-    let (end, share) = read_device(
-        rt,
-        alloc,
-        &mut source,
-        clock,
-        share,
-        &mut pieces,
-        bells.own,
-        bells.pump,
-        bells.alone.span(),
-    );
+    let (end, share) = read_device(hands, &mut source, clock, share, &mut pieces, bells);
     let reader = ReaderDone {
         source,
         pieces,
@@ -116,8 +104,7 @@ pub fn device_reader<S: Source, C: Clock, D: Dials, R: Wait + Copy>(
 /// Reads a session's requests to their end. Its source is read at least once.
 #[tactic(auto, using(gps_lane::proofs::Closing::more_put))]
 pub fn session_reader<S: Source, R: Wait + Copy>(
-    rt: &R,
-    alloc: Global,
+    hands: &Hands<R>,
     source: S,
     pieces: Tx<Piece, R>,
     bells: ReaderBells,
@@ -130,15 +117,7 @@ pub fn session_reader<S: Source, R: Wait + Copy>(
 {
     let mut source = source;
     let mut pieces = pieces;
-    let end = read_session(
-        rt,
-        alloc,
-        &mut source,
-        &mut pieces,
-        bells.own,
-        bells.pump,
-        bells.alone.span(),
-    );
+    let end = read_session(hands, &mut source, &mut pieces, bells);
     ReaderDone {
         source,
         pieces,
@@ -174,11 +153,11 @@ pub fn start_device<
         pieces: Snapshot::of(&pieces),
         share: Snapshot::of(&share),
     };
-    let (rt, alloc, scope) = (spawner.rt, spawner.alloc, spawner.scope);
+    let hands = spawner.hands();
     start(
-        scope,
+        spawner.scope,
         promise,
-        move || device_reader(&rt, alloc, source, clock, share, pieces, bells),
+        move || device_reader(&hands, source, clock, share, pieces, bells),
         move || bells.alone.leave(),
     )
 }
@@ -186,8 +165,7 @@ pub fn start_device<
 /// Reads the edges of a device to their end, or not at all if it has no thread.
 #[tactic(auto, using(gps_lane::proofs::Closing::more_put))]
 pub fn edge_reader<S: Source, R: Wait + Copy>(
-    rt: &R,
-    alloc: Global,
+    hands: &Hands<R>,
     source: S,
     pieces: Tx<Piece, R>,
     bells: ReaderBells,
@@ -199,15 +177,7 @@ pub fn edge_reader<S: Source, R: Wait + Copy>(
 {
     let mut source = source;
     let mut pieces = pieces;
-    let end = read_edges(
-        rt,
-        alloc,
-        &mut source,
-        &mut pieces,
-        bells.own,
-        bells.pump,
-        bells.alone.span(),
-    );
+    let end = read_edges(hands, &mut source, &mut pieces, bells);
     ReaderDone {
         source,
         pieces,
@@ -232,11 +202,11 @@ pub fn start_edges<'s, E, S: Source + Send + 's, R: Wait + Copy + Send + Sync + 
         source: Snapshot::of(&source),
         pieces: Snapshot::of(&pieces),
     };
-    let (rt, alloc, scope) = (spawner.rt, spawner.alloc, spawner.scope);
+    let hands = spawner.hands();
     start(
-        scope,
+        spawner.scope,
         promise,
-        move || edge_reader(&rt, alloc, source, pieces, bells),
+        move || edge_reader(&hands, source, pieces, bells),
         move || bells.alone.leave(),
     )
 }

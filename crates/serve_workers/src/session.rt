@@ -119,6 +119,7 @@ pub fn attend<
     requires goes_on { MayWriteOn K.asks K.written K.allows link.sink link.items }
     ensures { SessionRuns S.content S.faults S.quiets K.written K.faults link result }
 {
+    let hands = spawner.hands();
     let Spawner { rt, alloc, scope } = spawner;
     let SessionLink {
         source,
@@ -146,14 +147,14 @@ pub fn attend<
     };
     match started {
         Ok(writer) => {
-            let reader = session_reader(&rt, alloc, source, pieces, reader_bells);
+            let reader = session_reader(&hands, source, pieces, reader_bells);
             let writer = writer.join(&rt);
             bells.leave();
             LinkDone { reader, writer }
         }
         Err(refused) => {
             bells.alone.leave();
-            let reader = session_reader(&rt, alloc, source, pieces, reader_bells);
+            let reader = session_reader(&hands, source, pieces, reader_bells);
             let writer = (refused.value)();
             bells.leave();
             LinkDone { reader, writer }

@@ -10,7 +10,7 @@ use Rattle.session_core.specs.declared.outlet.Push.{Push}
 use Rattle.session_core.specs.declared.outlet.Push.TheVariants.{Done, Full}
 use Rattle.session_core.specs.Naming.{OutletName}
 use Rattle.session_core.specs.Pushing.{MatchPush}
-use Rattle.session_core.specs.SessionView.{SessionView, fresh, given, replied, closed_at, turned, turned_marks, turned_closing, last_place}
+use Rattle.session_core.specs.SessionView.{SessionView, allowing, fresh, given, replied, closed_at, turned, turned_marks, turned_closing, last_place}
 use Rattle.session_core.specs.Stretches.{Stretch, mark_of, selected, items_to, end_of, session_items, AreInOrder, last_watched, answer_stretch}
 use Rattle.session_core.specs.Holding.{Selection, IsSuffix, AreReplied, Agrees, Holding, SessionGains, stretches_left}
 use Rattle.session_core.proofs.Intervals.{placed_within, order_longer, order_marked, watched_marked, replied_marked}
@@ -216,6 +216,17 @@ module _ (lines : Selection) where
       kept = overlap_shorter s.kept (session_items lines s.closing stretches history) agrees.kept;
     };
     opened = holding.opened;
+  }
+
+  pub allowed : (most : ℕ) (history : List Report) (s : SessionView) (stretches : List Stretch) → Agrees lines history s stretches
+      → Agrees lines history (allowing most s) stretches
+  allowed most history s stretches agrees = record {
+    marks = agrees.marks;
+    replies = agrees.replies;
+    order = agrees.order;
+    within = agrees.within;
+    policy = agrees.policy;
+    kept = agrees.kept;
   }
 
   pub roomier : (history : List Report) (s : SessionView) (spare : ℕ) (stretches : List Stretch) → Holding lines history s stretches

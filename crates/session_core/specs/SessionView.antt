@@ -17,8 +17,9 @@ pub record SessionView : Type 0 where
   -- of the whole run
   pub policy : Policy
   pub requests : ℕ
+  pub most_requests : ℕ  -- at most this number of them is answered
   pub items : ℕ
-  pub spare : ℕ  -- how many further marks room is taken for
+  pub spare : ℕ  -- for how many further marks it was made ready
 
 -- nothing is watched
 abbrev pub opening_policy : Policy
@@ -36,6 +37,10 @@ last_place place (mark ∷ more) = last_place mark.place more
 abbrev pub one_more : ℕ → ℕ → ℕ
 one_more greatest number = min (number + 1) greatest
 
+-- how many requests of a session are answered, if no other number is allowed
+abbrev pub usual_requests : ℕ
+usual_requests = 65_536
+
 -- a new session over an outlet, with room for its opening
 abbrev pub fresh : OutletName → ℕ → List (List ℕ) → SessionView
 fresh name cap kept = record {
@@ -47,9 +52,14 @@ fresh name cap kept = record {
   closing = None;
   policy = opening_policy;
   requests = 0;
+  most_requests = usual_requests;
   items = 0;
   spare = 1;
 }
+
+-- of its requests, this number is answered
+abbrev pub allowing : ℕ → SessionView → SessionView
+allowing most s = record s { most_requests = most }
 
 abbrev pub given : List ℕ → SessionView → SessionView
 given item s = record s { kept = s.kept ++ item ∷ []; items = one_more (2 ^ 64 - 1) s.items }

@@ -5,7 +5,6 @@
 mod item;
 mod laws;
 mod mark;
-mod marks;
 mod outlet;
 mod plain_outlet;
 mod session;

@@ -9,7 +9,7 @@ pub enum Close {
     ReadFault,
     /// The daemon has ended.
     DaemonEnd,
-    /// It sent more than 65,536 requests.
+    /// It sent more requests than are answered.
     TooManyRequests,
     /// Its outlet was full.
     Overrun,

@@ -6,33 +6,35 @@ ghost use Rattle.gps_report.specs.declared.report.Report.{Report};
 ghost use Rattle.session_core.specs.Stretches.{Stretch, answer_stretch};
 ghost use Rattle.session_core.specs.Holding.{Selection, Agrees, Holding, SessionGains, stretches_left};
 ghost use Rattle.session_core.specs.Pushing.{MatchPush};
-ghost use Rattle.session_core.specs.SessionView.{fresh, given, marked, replied, closed_at, turned, last_place, one_more};
+ghost use Rattle.session_core.specs.SessionView.{allowing, fresh, given, marked, replied, closed_at, turned, turned_closing, last_place, one_more};
 
-use crate::marks::{add_mark, leave_last, leave_none};
 use crate::{Close, Item, Mark, Outlet, PlainOutlet, Push, TwoEnded};
+use ghost_list::GhostList;
 use gps_fixed::NoMemory;
 use gps_report::Policy;
 use std::alloc::Global;
 use std::marker::Model;
 
-/// One session: the marks of this generation, the closing, and the outlet into which its items are pushed.
+/// One session: the marks of this generation, the closing, and the outlet into which its items are pushed. The marks are kept in proofs alone: of them
+/// the program needs only whether there is one, and the policy of the last one. So a session takes no memory for what it is asked.
 #[derive(Drop)]
 pub struct Session<O: Outlet> {
     outlet: O,
-    marks: Vec<Mark>,
+    marks: GhostList<Mark>,
+    /// The last mark. If there is none, its policy is that of the last one that there was, or of no request.
+    last: Mark,
+    marked: bool,
     answered: bool,
     closing: Option<(u64, Close)>,
-    /// The policy if there is no mark.
-    unmarked: Policy,
     requests: u32,
+    most_requests: u32,
     items: u64,
-    /// A closed session gets no mark, and so needs no room for it.
     spare: usize,
 }
 
 impl<O: Outlet> Model for Session<O> {
-    ghost use Rattle.std.specs.Prelude.{◌≡◌, ◌≤◌, ◌+◌, None, vec_len, vec_capacity};
-    ghost use Rattle.session_core.specs.SessionView.{SessionView, last_policy};
+    ghost use Rattle.std.specs.Prelude.{◌≡◌, ◌==◌, None, length, not};
+    ghost use Rattle.session_core.specs.SessionView.{SessionView};
 
     ghost Value = { SessionView };
 
@@ -40,16 +42,17 @@ impl<O: Outlet> Model for Session<O> {
       name = O.name s.outlet;
       cap = O.cap s.outlet;
       kept = O.kept s.outlet;
-      marks = s.marks.items;
+      marks = s.marks;
       answered = s.answered;
       closing = s.closing;
-      policy = last_policy s.unmarked s.marks.items;
+      policy = s.last.policy;
       requests = s.requests;
+      most_requests = s.most_requests;
       items = s.items;
       spare = s.spare;
     } };
 
-    ghost invariant = { λ s. (s.closing ≡ None → vec_len s.marks + s.spare ≤ vec_capacity s.marks)
+    ghost invariant = { λ s. (s.marked ≡ not (length s.marks == 0))
         × (s.closing ≡ None → O.takes s.outlet) };
 }
 
@@ -64,22 +67,34 @@ fn counted(requests: u32, opening: bool) -> u32
     }
 }
 
+/// A closing as a turn leaves it: at the place at which the new generation begins.
+fn begun(closing: Option<(u64, Close)>) -> Option<(u64, Close)>
+    ensures { result ≡ turned_closing closing }
+{
+    match closing {
+        None => None,
+        Some((_, why)) => Some((0, why)),
+    }
+}
+
+/// How many requests of a session are answered, if no other number is allowed.
+const USUAL_REQUESTS: u32 = 65_536;
+
 impl<O: Outlet> Session<O> {
-    /// A session without marks that watches nothing, with room for its opening. Out of memory, the outlet
-    /// comes back.
-    pub fn new(alloc: Global, outlet: O) -> Result<Session<O>, O>
+    /// A session without marks that watches nothing, with room for its opening, of which 65,536 requests are answered. It takes no memory; refused for
+    /// that, the outlet would come back.
+    pub fn new(_alloc: Global, outlet: O) -> Result<Session<O>, O>
         requires { O.takes outlet }
         ensures fresh { IfOk result (λ s. s ≡ fresh (O.name outlet) (O.cap outlet) (O.kept outlet)) }
         ensures outlet { IfErr result (λ back. back ≡ outlet) }
         ensures agrees { (lines : Selection) (history : List Report) → IfOk result (λ s. Agrees lines history s []) }
     {
-        match Vec::with_capacity(alloc, 1) {
-            Ok(marks) => Ok(Session {
-                outlet,
-                marks,
-                answered: false,
-                closing: None,
-                unmarked: Policy {
+        Ok(Session {
+            outlet,
+            marks: GhostList::new(),
+            last: Mark {
+                place: 0,
+                policy: Policy {
                     enable: false,
                     json: false,
                     nmea: false,
@@ -87,15 +102,28 @@ impl<O: Outlet> Session<O> {
                     pps: false,
                     device: None,
                 },
-                requests: 0,
-                items: 0,
-                spare: 1,
-            }),
-            Err(_) => Err(outlet),
-        }
+            },
+            marked: false,
+            answered: false,
+            closing: None,
+            requests: 0,
+            most_requests: USUAL_REQUESTS,
+            items: 0,
+            spare: 1,
+        })
     }
 
-    /// Allocates room for the given number of further marks.
+    /// Says how many requests of it are answered.
+    #[tactic(auto, using(crate::proofs::Gaining::allowed))]
+    pub fn allow_requests(&mut self, most: u32)
+        ensures now { self.new ≡ allowing most self.old }
+        ensures agrees { (lines : Selection) (history : List Report) (stretches : List Stretch) → Agrees lines history self.old stretches
+            → Agrees lines history self.new stretches }
+    {
+        self.most_requests = most;
+    }
+
+    /// Makes ready for the given number of further marks, which takes no memory.
     #[tactic(auto, using(crate::proofs::Gaining::roomier))]
     pub fn reserve(&mut self, marks: u32) -> Result<(), NoMemory>
         ensures ok { OnOk result (self.new ≡ record self.old { spare = max self.old.spare marks }) }
@@ -104,13 +132,9 @@ impl<O: Outlet> Session<O> {
             → Holding lines history self.new stretches }
     {
         let marks = marks as usize;
-        if self.spare >= marks {
-            return Ok(());
+        if self.spare < marks {
+            self.spare = marks;
         }
-        if self.closing.is_none() {
-            self.marks.reserve(marks)?;
-        }
-        self.spare = marks;
         Ok(())
     }
 
@@ -135,9 +159,11 @@ impl<O: Outlet> Session<O> {
         requires room { 1 ≤ self.old.spare }
         ensures { self.new ≡ marked place policy self.old }
     {
-        let opening = add_mark(&mut self.marks, place, policy);
-        self.answered = opening || self.answered;
-        self.requests = counted(self.requests, opening);
+        self.last = Mark { place, policy };
+        self.marks.add(&self.last);
+        self.answered = !self.marked || self.answered;
+        self.requests = counted(self.requests, !self.marked);
+        self.marked = true;
         self.spare -= 1;
     }
 
@@ -230,14 +256,10 @@ impl<O: Outlet> Session<O> {
     }
 
     /// The policy of the last reply, or before the first one that of the opening.
-    #[tactic(auto, using(crate::proofs::Policies::last_policy_got))]
     pub fn policy(&self) -> &Policy
         ensures { result.now ≡ self.now.policy }
     {
-        match self.marks.last() {
-            Some(mark) => &mark.policy,
-            None => &self.unmarked,
-        }
+        &self.last.policy
     }
 
     /// How many requests were answered.
@@ -245,6 +267,13 @@ impl<O: Outlet> Session<O> {
         ensures { result ≡ self.now.requests }
     {
         self.requests
+    }
+
+    /// How many requests are answered.
+    pub fn most_requests(&self) -> u32
+        ensures { result ≡ self.now.most_requests }
+    {
+        self.most_requests
     }
 
     /// How many items were pushed.
@@ -269,13 +298,13 @@ impl<O: Outlet> Session<O> {
         ensures now { self.new ≡ turned self.old }
         ensures holding { (lines : Selection) → Holding lines [] self.new (stretches_left self.old.closing self.old.policy) }
     {
-        match self.closing {
-            None => leave_last(&mut self.marks),
-            Some((_, why)) => {
-                leave_none(&mut self.marks, &mut self.unmarked);
-                self.closing = Some((0, why));
-            }
+        self.marks = GhostList::new();
+        self.last.place = 0;
+        self.marked = self.closing.is_none();
+        if self.marked {
+            self.marks.add(&self.last);
         }
+        self.closing = begun(self.closing);
         self.answered = false;
     }
 }

@@ -85,7 +85,7 @@ admitted_account name cap old new before held stands admits =
       run = begins.run;
       given = begins.kept ∙ sym begins.items;
       items = ap (λ l. min (length l) (2 ^ 64 - 1)) (sym begins.items);
-      sent = nothing_sent new.names (before ++ new.log.log) name cap old.log.length;
+      sent = nothing_sent new.names (before ++ new.log.log) name cap old.most_requests old.log.length;
     }
 
 pub others_keep : OthersKeepAccounts

@@ -43,7 +43,7 @@ renamed names named before log logged sessions runs same_names same_log zip =
 pub admitted_begins : AdmittedRunBegins
 admitted_begins name cap old new before held stands admits =
     let G : List Entry = before ++ old.log.log in
-    let a : MemberView = opened name cap old.log.length in
+    let a : MemberView = opened name cap old.most_requests old.log.length in
     let at : length (history G) ≡ length (history before) + old.log.length = omega (arith, whole_length before old.log.log, place_is old before held stands) in
     let here : IsHere old.names before old.log.log a.session (opened_run G) = record {
       earlier = [];

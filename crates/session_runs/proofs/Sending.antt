@@ -21,7 +21,7 @@ use Rattle.book_replies.specs.declared.answering.Answer.{Answer}
 use Rattle.book_replies.specs.ReplyDataView.{ReplyDataView}
 use Rattle.book_replies.specs.Replies.{answered}
 use Rattle.book_replies.proofs.Joined.{one_for_each}
-use Rattle.book_sessions.specs.Answering.{Stops, enables, mark_at, most_requests, stretch_at}
+use Rattle.book_sessions.specs.Answering.{Stops, enables, mark_at, stretch_at}
 use Rattle.book_sessions.specs.MemberView.{MemberView, closed, cutter_left, renewed}
 use Rattle.book_sessions.specs.Roster.{ShutsBy}
 use Rattle.book_sessions.specs.Spreading.{ReportsBy, Spreads, cutter_by}
@@ -46,7 +46,7 @@ requests_more bytes (c ∷ piece) =
 
 pub nothing_sent : NothingSent
 unfolding requests_from
-nothing_sent names log name cap place = record {
+nothing_sent names log name cap most place = record {
   asked = (
     length log,
     record { after = omega arith; within = le_refl (length log); place = sym (ap (λ l. length (history l)) (take-length log)) },
@@ -65,7 +65,7 @@ pub sent_onward : SentOnward
 sent_onward names log entries old new stretches bytes nothing sent = record {
   asked = asked_longer names log entries stretches (requests bytes) sent.asked;
   count = sent.count ∙ ap (λ n. 1 + n) (sym nothing.requests);
-  few = subst (λ n. n ≤ most_requests) (sym nothing.requests) sent.few;
+  few = omega (arith, nothing.requests, nothing.most_requests, sent.few);
   whole = λ none. sent.whole (nothing.still none).0;
   policy = λ none. nothing.policy ∙ sent.policy (nothing.still none).0;
   cutter = λ none. (nothing.still none).1 ∙ sent.cutter (nothing.still none).0;
@@ -106,10 +106,10 @@ none_left : (place left : ℕ) (s : SessionView) (c : Option (ℕ × Close)) →
 none_left place left s None none stops = stops
 none_left place left s (Some closing) none stops = absurd (cc)
 
-few_more : (count : ℕ) (all : List Answer) (old new : ℕ) → (0 < count → new ≤ most_requests) → new ≡ old + length (take count all) → old ≤ most_requests
-    → new ≤ most_requests
-few_more zero all old new room is low = let none : length (take 0 all) ≡ 0 = refl in omega (arith, is, none, low)
-few_more (suc n) all old new room is low = room (omega arith)
+few_more : (count : ℕ) (all : List Answer) (old new : SessionView) → new.most_requests ≡ old.most_requests → (0 < count → new.requests ≤ new.most_requests)
+    → new.requests ≡ old.requests + length (take count all) → old.requests ≤ old.most_requests → new.requests ≤ new.most_requests
+few_more zero all old new same room is low = let none : length (take 0 all) ≡ 0 = refl in omega (arith, same, is, none, low)
+few_more (suc n) all old new same room is low = room (omega arith)
 
 pub sent_more : SentMore
 sent_more exact names log place piece old new stretches bytes heard is sent =
@@ -135,7 +135,7 @@ sent_more exact names log place piece old new stretches bytes heard is sent =
           (asked_joined names log stretches (map (stretch_at whole) put) (requests bytes) more long sent.asked
           (λ last within. answers_now names log (requests bytes) more last whole heard.count old.session.policy within refl policy));
       count = omega (arith, size, counted, answers);
-      few = few_more heard.count all old.session.requests new.session.requests (λ some. (heard.room some).0) answers sent.few;
+      few = few_more heard.count all old.session new.session heard.puts.most_requests (λ some. (heard.room some).0) answers sent.few;
       whole = λ none.
           let count : heard.count ≡ length more = count_is none in
           let sum : length (requests (bytes ++ piece)) ≡ length (requests bytes) + length more = ap length gains ∙ length-append (requests bytes) more in
@@ -165,12 +165,14 @@ spread_by : (c : Option (ℕ × Close)) (exact : Bool) (names : List (List ℕ))
 spread_by None exact names first old new reports is reported cutter watched = record {
   policy = reported.stays.policy;
   requests = reported.stays.requests;
+  most_requests = reported.stays.most_requests;
   watched = watched;
   still = λ none. (is, cutter ∙ ap (λ c. cutter_left c old.cutter) none);
 }
 spread_by (Some closing) exact names first old new reports is same cutter watched = record {
   policy = ap (λ (s : SessionView). s.policy) same.same;
   requests = ap (λ (s : SessionView). s.requests) same.same;
+  most_requests = ap (λ (s : SessionView). s.most_requests) same.same;
   watched = watched;
   still = λ none. (sym (ap (λ (s : SessionView). s.closing) same.same) ∙ none, cutter);
 }
@@ -188,6 +190,7 @@ renewed_unheard : (old new : MemberView) → HearsNothing (renewed old) new → 
 renewed_unheard old new nothing = record {
   policy = nothing.policy;
   requests = nothing.requests;
+  most_requests = nothing.most_requests;
   watched = nothing.watched;
   still = λ none. (open_before old.session.closing (nothing.still none).0, (nothing.still none).1);
 }
@@ -208,19 +211,19 @@ pub closings_unheard : ClosingsAreNotHeard
 closings_unheard place why old new closes =
     let P : MemberView → Type 0 = λ a. HearsNothing old a in
     let none_of : (closed place why old).session.closing ≡ None → ⊥ = λ none. absurd (cc) in
-    subst P (sym closes.becomes) (record { policy = refl; requests = refl; watched = refl; still = λ none. absurd (none_of none) })
+    subst P (sym closes.becomes) (record { policy = refl; requests = refl; most_requests = refl; watched = refl; still = λ none. absurd (none_of none) })
 
 pub taking_unheard : TakingIsNotHeard
-taking_unheard kept a = record { policy = refl; requests = refl; watched = refl; still = λ none. (none, refl) }
+taking_unheard kept a = record { policy = refl; requests = refl; most_requests = refl; watched = refl; still = λ none. (none, refl) }
 
 pub same_unheard : (a : MemberView) → HearsNothing a a
-same_unheard a = record { policy = refl; requests = refl; watched = refl; still = λ none. (none, refl) }
+same_unheard a = record { policy = refl; requests = refl; most_requests = refl; watched = refl; still = λ none. (none, refl) }
 
 shut_by_unheard : (c : Option (ℕ × Close)) (place : ℕ) (why : Close) (old new : MemberView) → ShutsBy c place why old new → HearsNothing old new
 shut_by_unheard None place why old new shuts = closings_unheard place why old new shuts
 shut_by_unheard (Some closing) place why old new shuts =
     let P : MemberView → Type 0 = λ a. HearsNothing old a in
-    subst P (sym shuts) (record { policy = refl; requests = refl; watched = refl; still = λ none. (none, refl) })
+    subst P (sym shuts) (record { policy = refl; requests = refl; most_requests = refl; watched = refl; still = λ none. (none, refl) })
 
 pub shuts_unheard : ShutsAreNotHeard
 shuts_unheard place why old new shuts = shut_by_unheard old.session.closing place why old new shuts

@@ -50,7 +50,7 @@ QuietEntriesCarryAccounts = (old new : BookView) (entries before : List Entry) �
 -- a new session: nothing was taken, and nothing was sent
 abbrev pub AdmittedHasAccount : Type 0
 AdmittedHasAccount = (name : OutletName) (cap : ℕ) (old new : BookView) (before : List Entry) → BookHolds old → StandsFor old.log.opening before
-    → Admits name cap old new → AccountIn new before (opened name cap old.log.length) (opened_run (before ++ new.log.log)) [] []
+    → Admits name cap old new → AccountIn new before (opened name cap old.most_requests old.log.length) (opened_run (before ++ new.log.log)) [] []
 
 -- if nothing but sessions changed, each other one has the account that it had
 abbrev pub OthersKeepAccounts : Type 0

@@ -11,7 +11,6 @@ use Rattle.session_core.specs.Stretches.{Stretch}
 use Rattle.book_log.specs.Entries.{Entry}
 use Rattle.book_log.specs.History.{history}
 use Rattle.book_replies.specs.Replies.{opening_reply, reply}
-use Rattle.book_sessions.specs.Answering.{most_requests}
 use Rattle.book_sessions.specs.MemberView.{MemberView}
 use Rattle.report_book.specs.Knowing.{known_in}
 
@@ -55,7 +54,7 @@ is_enabled stretch = stretch.policy.enable
 pub record HasSent (names : List (List ℕ)) (log : List Entry) (a : MemberView) (stretches : List Stretch) (bytes : List ℕ) : Type 0 where
   pub asked : Asked names log stretches (requests bytes)
   pub count : length stretches ≡ 1 + a.session.requests
-  pub few : a.session.requests ≤ most_requests
+  pub few : a.session.requests ≤ a.session.most_requests
   pub whole : a.session.closing ≡ None → length stretches ≡ 1 + length (requests bytes)
   pub policy : a.session.closing ≡ None → a.session.policy ≡ policy_of (requests bytes)
   pub cutter : a.session.closing ≡ None → input.StandsFor a.cutter bytes
@@ -65,5 +64,6 @@ pub record HasSent (names : List (List ℕ)) (log : List Entry) (a : MemberView)
 pub record HearsNothing (old new : MemberView) : Type 0 where
   pub policy : new.session.policy ≡ old.session.policy
   pub requests : new.session.requests ≡ old.session.requests
+  pub most_requests : new.session.most_requests ≡ old.session.most_requests
   pub watched : new.watched ≡ old.watched
   pub still : new.session.closing ≡ None → (old.session.closing ≡ None) × (new.cutter ≡ old.cutter)

@@ -20,8 +20,8 @@ use Rattle.session_runs.specs.Following.{opened_run}
 
 -- a new session's client has sent nothing
 abbrev pub NothingSent : Type 0
-NothingSent = (names : List (List ℕ)) (log : List Entry) (name : OutletName) (cap place : ℕ)
-    → HasSent names log (opened name cap place) (opened_run log).stretches []
+NothingSent = (names : List (List ℕ)) (log : List Entry) (name : OutletName) (cap most place : ℕ)
+    → HasSent names log (opened name cap most place) (opened_run log).stretches []
 
 -- the log goes on, and the session hears nothing
 abbrev pub SentOnward : Type 0

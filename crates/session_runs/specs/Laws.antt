@@ -26,9 +26,9 @@ use Rattle.session_runs.specs.Following.{BookGoesOn, Extends, Follows, answered_
 
 -- A new session's run is its opening, after the whole log.
 pub record RunBegins (name : OutletName) (cap : ℕ) (old new : BookView) (before : List Entry) : Type 0 where
-  pub run : IsRunOf new.names before new.log.log (opened name cap old.log.length).session (opened_run (before ++ new.log.log))
+  pub run : IsRunOf new.names before new.log.log (opened name cap old.most_requests old.log.length).session (opened_run (before ++ new.log.log))
   pub items : items_over new.names (before ++ new.log.log) (opened_run (before ++ new.log.log)) ≡ opening_reply ∷ []
-  pub kept : (opened name cap old.log.length).session.kept ≡ opening_reply ∷ []
+  pub kept : (opened name cap old.most_requests old.log.length).session.kept ≡ opening_reply ∷ []
   pub runs : (runs : List SessionRun) → RunsOf old before runs → RunsOf new before (runs ++ opened_run (before ++ new.log.log) ∷ [])
 
 abbrev pub AdmittedRunBegins : Type 0

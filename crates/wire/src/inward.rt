@@ -99,7 +99,7 @@ impl Inward {
         match &result {
             Ok(n) => self.given.add_all(&buf[..*n]),
             Err(error) if may_pass(error) => {}
-            Err(error) => self.failures.add(error.kind()),
+            Err(error) => self.failures.add(&error.kind()),
         }
         result
     }

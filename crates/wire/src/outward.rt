@@ -107,7 +107,7 @@ impl Outward {
         match &result {
             Ok(n) => self.taken.add_all(&piece[..*n]),
             Err(error) if may_pass(error) => {}
-            Err(error) => self.failures.add(error.kind()),
+            Err(error) => self.failures.add(&error.kind()),
         }
         result
     }

@@ -3,12 +3,12 @@ use Rattle.gps_outside.specs.Counts.{Rose}
 use Rattle.gps_outside.proofs.ReadSteps.{quiet_at_last}
 use Rattle.gps_decode.proofs.Causes.{broken, not_written}
 use Rattle.gps_decode.proofs.UnderWay.{begun, had_some, after_piece, after_quiet, ready_or_flushed}
-use Rattle.gps_decode.proofs.Ends.{broken_in_piece, broken_in_last, filled, broken_at_end, not_flushed, unwritten}
+use Rattle.gps_decode.proofs.Ends.{broken_in_piece, broken_in_last, filled, ended, broken_at_end, failed, too_quiet, not_flushed, unwritten}
 use Rattle.gps_decode.proofs.decoding.write_reports.Goals as goal
 
 pub rounds-init : goal.rounds-init
 rounds-init g c = record {
-  under_way = begun _ _ _ _ _ _ _ _ _ _ c.new-intake.ensures c.requires.fresh c.new-draft.ensures;
+  under_way = begun _ _ _ _ _ _ _ _ _ _ c.new-intake.ensures c.new-device.ensures.stands c.new-draft.ensures;
   few = let none : c.new-intake.result.quiets ≡ 0 = ap (λ b. b.quiets) c.new-intake.ensures in omega (arith, none);
   faults = omega arith;
   quiets = omega arith;
@@ -182,3 +182,18 @@ returns-in-TooQuiet-clause-cause g c =
       ),
       not_written _ _ _ (c.if-not-flush_unless_ready.ensures.fails_only refl ∙ at.sunk) (c.if-flush-2.ensures.failed refl),
     )
+
+pub returns-in-Ok-close-clause-decoded : goal.returns-in-Ok-close-clause-decoded
+returns-in-Ok-close-clause-decoded g c =
+    let ready = ready_or_flushed _ _ _ _ _ _ _ _ _ _ _ _ _ _ _ _ _ c.rounds.invariant.under_way c.if-not-flush_unless_ready.ensures.bytes in
+    ended _ _ c.step.new.buf _ _ _ _ _ _ _ _ _ _ _ _ _ _ _ ready c.in-End.ensures.bytes c.in-Ok-close.ensures.lines
+
+pub returns-then-flush-clause-decoded : goal.returns-then-flush-clause-decoded
+returns-then-flush-clause-decoded g c =
+    let ready = ready_or_flushed _ _ _ _ _ _ _ _ _ _ _ _ _ _ _ _ _ c.rounds.invariant.under_way c.if-not-flush_unless_ready.ensures.bytes in
+    failed _ _ c.step.new.buf _ _ _ _ _ _ _ _ _ _ _ _ _ _ _ ready c.in-Failed.ensures.bytes c.if-flush.ensures.bytes
+
+pub returns-then-flush-2-clause-decoded : goal.returns-then-flush-2-clause-decoded
+returns-then-flush-2-clause-decoded g c =
+    let ready = ready_or_flushed _ _ _ _ _ _ _ _ _ _ _ _ _ _ _ _ _ c.rounds.invariant.under_way c.if-not-flush_unless_ready.ensures.bytes in
+    too_quiet _ _ c.step.new.buf _ _ _ _ _ _ _ _ _ _ _ _ _ _ _ ready c.in-TooQuiet.ensures.bytes c.if-flush-2.ensures.bytes

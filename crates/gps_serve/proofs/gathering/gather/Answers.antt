@@ -91,7 +91,7 @@ returns-clause-at_end g c =
     at_end_of g.J.HubNaming.terms c.args.numbers.queue c.args.numbers.tries g.D.Dials.may g.D.Dials.first links facts back
     c.was_out_of_memory-no_memory.result door.seat c.requires.tended.links door.gate c.part-book.result.book _ _
     c.part-book.result.inlets.items c.part-book.result.sessions.items c.part-book.result.ends.items
-    c.part-book.ensures.terms c.part-book.ensures.agrees c.part-book.ensures.sessions c.requires.tended.seated.lanes c.show.ensures.units
+    c.part-book.ensures.terms c.part-book.ensures.holds c.part-book.ensures.agrees c.part-book.ensures.sessions c.requires.tended.seated.lanes c.show.ensures.units
     (subst (λ (x : BookView). AreAtRest (length g.J.HubNaming.terms.segments) x.units) (sym c.part-book.ensures.same.0) c.requires.rest)
     c.requires.from
     (subst (λ (x : BookView). All IsClosed x.sessions) (sym c.part-book.ensures.same.0) c.requires.closed)

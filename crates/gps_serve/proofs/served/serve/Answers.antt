@@ -51,7 +51,7 @@ returns-in-Ok-run-clause-at_end g c =
     (told_again facts (back_of end) (Some end.book) c.in-Ok-prepare.ground.book
     c.in-Ok-prepare.ground.lanes.inlets.items c.args.plan (g.W.World.stamps c.args.world) (g.W.Now.Clock.stamps c.in-Ok.outside.clock)
     (g.W.World.links c.args.world) (g.W.Gate.Door.links c.in-Ok.outside.gate) c.in-Ok-prepare.ensures.names c.in-Ok-prepare.ensures.limit
-    c.in-Ok.ensures.stamps c.in-Ok.ensures.links c.in-Ok-run.ensures.at_end)
+    c.in-Ok-prepare.ensures.requests c.in-Ok.ensures.stamps c.in-Ok.ensures.links c.in-Ok-run.ensures.at_end)
 
 pub returns-in-Ok-run-clause-whole : goal.returns-in-Ok-run-clause-whole
 returns-in-Ok-run-clause-whole g c some =

@@ -1,11 +1,11 @@
-use Rattle.book_log.proofs.CallSteps.{lost_called, lost_room, lost_stopped}
+use Rattle.book_log.proofs.CallSteps.{lost_called, lost_stopped}
 use Rattle.book_log.proofs.device_log.DeviceLog.lose_device.Goals as goal
 
 pub invariant_of-self : goal.invariant_of-self
 invariant_of-self c =
     let k = lost_called c.args.self.now c.self.inside.present c.lose.new.self c.self.inside.limit c.self.inside.generation c.self.inside.current c.push_loss.new.self c.args.device
     c.self.invariant c.self.view_is c.requires c.lose.ensures c.push_loss.ensures in
-    (k.holds, k.rooms)
+    k.holds
 
 pub returns-clause-adds : goal.returns-clause-adds
 returns-clause-adds c =
@@ -21,6 +21,3 @@ returns-clause-holds c =
 
 pub returns-clause-stopped : goal.returns-clause-stopped
 returns-clause-stopped c = lost_stopped c.args.self.now c.self.inside.present c.lose.new.self c.self.inside.limit c.self.inside.generation c.self.inside.current c.args.device c.self.view_is c.requires c.lose.ensures
-
-pub push_loss-requires : goal.push_loss-requires
-push_loss-requires c = lost_room c.args.self.now c.self.inside.present c.lose.new.self c.self.inside.limit c.self.inside.generation c.self.inside.current c.args.device c.self.invariant c.self.view_is c.requires c.lose.ensures

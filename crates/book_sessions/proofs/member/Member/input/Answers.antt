@@ -23,8 +23,8 @@ returns-clause-answers g c =
     let none : old.session.closing ≡ None = subst P (sym c.self.view_is) c.requires.open in
     subst Q c.self.view_is
     (answers_put g.O.Outlet.exact c.args.known.now c.args.names.now c.args.place c.args.cut.requests.items c.as_slice.result.now c.args.cut.cutter _
-    (max c.self.inside.session.spare c.in_ok-count.count) c.policy.result.now c.in_ok-replies.replies.items c.reserve.new.self old c.put_all.new.self c.rest.new.self none (c.self.invariant none)
-    c.in_ok-reserve.ensures.ok c.put-requests.ensures.cutter c.policy.ensures c.as_slice.ensures.value c.in_ok-replies.ensures c.put_all.ensures c.rest.ensures)
+    (max c.self.inside.session.spare c.in_ok-count.count) c.policy.result.now c.in_ok-replies.replies.items c.reserve.new.self old c.put_all.new.self c.rest.new.self c.put_all.ensures.few none (c.self.invariant none)
+    c.in_ok-reserve.ensures.ok c.put-requests.ensures.cutter c.policy.ensures c.as_slice.ensures.value c.in_ok-replies.ensures c.put_all.ensures.puts c.rest.ensures)
 
 pub returns-clause-watched : goal.returns-clause-watched
 returns-clause-watched g c =

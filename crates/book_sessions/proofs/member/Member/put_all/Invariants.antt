@@ -12,6 +12,7 @@ abbrev pub invariant-replies : goal.invariant-replies
 invariant-replies g l = record {
   so_far : (new : MemberView) → PutsAnswers g.O.Outlet.exact l.place l.self (into_iter_items l.reply-iterator) new
       → PutsAnswers g.O.Outlet.exact l.place l.initial.self l.fn.replies.items new;
+  most : l.most_requests ≡ l.self.session.most_requests;
   is_open : l.self.session.closing ≡ None;
   room : length (into_iter_items l.reply-iterator) ≤ l.self.session.spare;
   allowed : AllowsAll g.O.Outlet.may l.self.session (replies_left l.self.session (into_iter_items l.reply-iterator));

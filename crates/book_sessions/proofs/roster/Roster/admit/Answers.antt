@@ -24,9 +24,9 @@ pub returns-in-Ok-clause-after : goal.returns-in-Ok-clause-after
 returns-in-Ok-clause-after g c = λ later low after.
     let P : List MemberView → Type 0 = λ l. IsAfterAll later l in
     let old = c.self.inside.members.items in
-    let pushed : c.push_reserved.new.self.items ≡ old ++ opened (g.O.Outlet.name c.args.outlet) (g.O.Outlet.cap c.args.outlet) c.args.place ∷ [] =
+    let pushed : c.push_reserved.new.self.items ≡ old ++ opened (g.O.Outlet.name c.args.outlet) (g.O.Outlet.cap c.args.outlet) c.args.most_requests c.args.place ∷ [] =
     c.push_reserved.ensures.items ∙ ap (λ l. l ++ c.in-Ok.member ∷ []) c.make_room.ensures.members ∙ ap (λ (a : MemberView). old ++ a ∷ []) c.in-Ok.ensures.opened in
-    after_admit c.args.place (g.O.Outlet.name c.args.outlet) (g.O.Outlet.cap c.args.outlet) old c.push_reserved.new.self.items pushed later low (subst P (sym c.self.view_is) after)
+    after_admit c.args.place (g.O.Outlet.name c.args.outlet) (g.O.Outlet.cap c.args.outlet) c.args.most_requests old c.push_reserved.new.self.items pushed later low (subst P (sym c.self.view_is) after)
 
 pub returns-then-is_err-clause-after : goal.returns-then-is_err-clause-after
 returns-then-is_err-clause-after g c = λ later low after. let P : List MemberView → Type 0 = λ l. IsAfterAll later l in subst P (sym (c.make_room.ensures.members ∙ c.self.view_is)) after

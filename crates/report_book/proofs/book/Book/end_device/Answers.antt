@@ -14,7 +14,7 @@ use Rattle.report_book.proofs.book.Book.end_device.Goals as goal
 
 pub put-requires-clause-after : goal.put-requires-clause-after
 put-requires-clause-after g c =
-    after_if false c.in_ok-added.added.turned c.in_ok-added.added.first (record { names = c.self.inside.names; log = c.self.inside.log; sessions = c.self.inside.roster; units = c.self.inside.units.units }) c.self.invariant c.in_ok-added.ensures.turned c.in_ok-added.ensures.first
+    after_if false c.in_ok-added.added.turned c.in_ok-added.added.first (record { names = c.self.inside.names; most_requests = c.self.inside.most_requests; log = c.self.inside.log; sessions = c.self.inside.roster; units = c.self.inside.units.units }) c.self.invariant c.in_ok-added.ensures.turned c.in_ok-added.ensures.first
 
 pub put-requires-clause-named : goal.put-requires-clause-named
 put-requires-clause-named g c =
@@ -29,22 +29,22 @@ pub put-requires-clause-may : goal.put-requires-clause-may
 put-requires-clause-may g c =
     let M : BookView → Type 0 = λ b. MayAdd g.O.Outlet.may c.args.d (ended c.args.d) b in
     let F : BookView → Type 0 = λ b. device_fault b c.args.d ≡ None in
-    lines_allowed g.O.Outlet.may c.args.d (ended c.args.d) c.self.inside.names c.self.inside.log c.end_device.new.self c.self.inside.roster c.self.inside.units.units
+    lines_allowed g.O.Outlet.may c.args.d (ended c.args.d) c.self.inside.names c.self.inside.most_requests c.self.inside.log c.end_device.new.self c.self.inside.roster c.self.inside.units.units
     false c.in_ok-added.added.turned c.in_ok-added.added.batch.reports c.self.invariant c.in_ok-added.ensures.adds
     (subst F (sym c.self.view_is) (passes (device_fault c.args.self.now c.args.d) c.in_ok-check_device.field-0 c.in_ok-check_device.ensures))
     (subst M (sym c.self.view_is) c.requires.may)
 
 pub invariant_of-self-2 : goal.invariant_of-self-2
 invariant_of-self-2 g c =
-    (moved g.O.Outlet.exact c.self.inside.names c.self.inside.log c.end_device.new.self c.self.inside.roster c.put.new.roster c.self.inside.units.units c.self.inside.units.units c.put.new.units.units
+    (moved g.O.Outlet.exact c.self.inside.names c.self.inside.most_requests c.self.inside.log c.end_device.new.self c.self.inside.roster c.put.new.roster c.self.inside.units.units c.self.inside.units.units c.put.new.units.units
     false c.in_ok-added.added.turned c.in_ok-added.added.first (ended c.args.d) c.in_ok-added.added.batch.reports
     c.self.invariant c.in_ok-added.ensures.turned c.in_ok-added.ensures.first refl c.in_ok-added.ensures.holds c.in_ok-added.ensures.adds
     c.put.ensures.turned c.put.ensures.carried c.put.ensures.sessions c.put.ensures.units).holds
 
 pub returns-clause-earns : goal.returns-clause-earns
 returns-clause-earns g c =
-    let P : BookView → Type 0 = λ b. Earns b (record { names = c.self.inside.names; log = c.end_device.new.self; sessions = c.put.new.roster; units = c.put.new.units.units }) (ended c.args.d) in
-    subst P c.self.view_is ((moved g.O.Outlet.exact c.self.inside.names c.self.inside.log c.end_device.new.self c.self.inside.roster c.put.new.roster c.self.inside.units.units c.self.inside.units.units c.put.new.units.units
+    let P : BookView → Type 0 = λ b. Earns b (record { names = c.self.inside.names; most_requests = c.self.inside.most_requests; log = c.end_device.new.self; sessions = c.put.new.roster; units = c.put.new.units.units }) (ended c.args.d) in
+    subst P c.self.view_is ((moved g.O.Outlet.exact c.self.inside.names c.self.inside.most_requests c.self.inside.log c.end_device.new.self c.self.inside.roster c.put.new.roster c.self.inside.units.units c.self.inside.units.units c.put.new.units.units
     false c.in_ok-added.added.turned c.in_ok-added.added.first (ended c.args.d) c.in_ok-added.added.batch.reports
     c.self.invariant c.in_ok-added.ensures.turned c.in_ok-added.ensures.first refl c.in_ok-added.ensures.holds c.in_ok-added.ensures.adds
     c.put.ensures.turned c.put.ensures.carried c.put.ensures.sessions c.put.ensures.units).earns)

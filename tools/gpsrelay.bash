@@ -23,10 +23,10 @@ _gpsrelay() {
         compopt -o filenames 2>/dev/null
         return
         ;;
-    --queue | --wait | --monitor | --reopen | --cycle-gap | --report | --seed | --size) return ;;
+    --queue | --requests | --wait | --monitor | --reopen | --cycle-gap | --report | --seed | --size) return ;;
     esac
     case ${COMP_WORDS[1]} in
-    serve) options="--listen --queue --history --wait --monitor --reopen --cycle-gap --report --stop --help" ;;
+    serve) options="--listen --queue --requests --history --wait --monitor --reopen --cycle-gap --report --stop --help" ;;
     decode | pseudo) options="--history --help" ;;
     replay) options="--history --queue --help" ;;
     generate) options="--seed --size --help" ;;

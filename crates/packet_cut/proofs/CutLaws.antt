@@ -1,5 +1,5 @@
 -- What a cutter does with a piece.
-use Rattle.std.proofs.Common.{◌≡◌, ◌≤◌, ◌<◌, ◌+◌, ◌-◌, ◌*◌, ℕ, true, false, List, [], ◌∷◌, ◌++◌, length, drop, map, min, get_or, Result, Ok, Err, IfOk, refl, inl, inr, sym, ap, arith, ◌∙◌}
+use Rattle.std.proofs.Common.{◌≡◌, ◌≤◌, ◌<◌, ◌+◌, ◌-◌, ◌*◌, ℕ, true, false, List, [], ◌∷◌, ◌++◌, length, drop, map, min, get_or, Result, Ok, Err, IfOk, refl, inl, inr, sym, subst, ap, arith, ◌∙◌}
 use Rattle.std.proofs.lemmas.Bool.{cases_lt, lt-ltb, le-ltb}
 use Rattle.std.proofs.lemmas.List.{length-append, drop-map, drop-append-le}
 use Rattle.std.proofs.Math.ListN.{drop_of_length-le}
@@ -35,7 +35,7 @@ pub if_ok : {A E : Type 0} (r : Result A E) (P Q : A → Type 0) → ((a : A) �
 if_ok (Ok a) P Q follows p = follows a p
 if_ok (Err e) P Q follows p = p
 
-pub piece_is_stream : (at : Moment) (piece : List ℕ) → piece ≡ bytes_of (stamped at piece)
+piece_is_stream : (at : Moment) (piece : List ℕ) → piece ≡ bytes_of (stamped at piece)
 piece_is_stream at piece = sym (bytes_of-stamped piece at)
 
 -- the changes of the two kinds
@@ -46,7 +46,7 @@ abbrev pub onward : Moment → ℕ → List ℕ → Shift
 onward at gone tail = record { anew = false; gone = gone; more = stamped at tail }
 
 -- nothing was kept
-pub cut_of_piece : (at : Moment) (piece : List ℕ) (packets : List PacketRecord) (rest : ℕ) (shift : Shift) → IsFound (stream_of [] at piece) packets rest →
+cut_of_piece : (at : Moment) (piece : List ℕ) (packets : List PacketRecord) (rest : ℕ) (shift : Shift) → IsFound (stream_of [] at piece) packets rest →
     shift ≡ anew at (drop rest piece) → IsCut [] at piece packets shift
 cut_of_piece at piece packets rest shift found is =
     let left : applied shift [] ≡ rest_of (stamped at piece) =
@@ -62,6 +62,16 @@ cut_of_piece at piece packets rest shift found is =
   where
     true_is : true ≡ false → ⊥
     true_is e = cc
+
+pub first_is_stream : (kept : List Stamped) (at : Moment) (bytes : List ℕ) → length kept ≡ 0 → bytes ≡ bytes_of (stream_of kept at bytes)
+first_is_stream [] at bytes none = piece_is_stream at bytes
+first_is_stream (byte ∷ kept) at bytes none = absurd (omega (arith, none))
+
+pub cut_of_first : (kept : List Stamped) (at : Moment) (piece bytes : List ℕ) (packets : List PacketRecord) (rest : ℕ) (shift : Shift) → length kept ≡ 0 →
+    bytes ≡ piece → IsFound (stream_of kept at bytes) packets rest → shift ≡ anew at (drop rest piece) → IsCut kept at piece packets shift
+cut_of_first [] at piece bytes packets rest shift none same found is =
+    cut_of_piece at piece packets rest shift (subst (λ t. IsFound (stream_of [] at t) packets rest) same found) is
+cut_of_first (byte ∷ kept) at piece bytes packets rest shift none same found is = absurd (omega (arith, none))
 
 -- what was kept is pending still
 pub cut_of_nothing : (kept : List Stamped) (at : Moment) (piece : List ℕ) (packets : List PacketRecord) (shift : Shift) → 0 < length kept →
@@ -129,9 +139,9 @@ frame_waits class id low high rest short waits =
     lt-ltb (length (class ∷ id ∷ low ∷ high ∷ rest)) (low + 256 * high + 6) (omega arith) in
     rw (fits, open_still) refl
 
-pub waits : (kept : List Stamped) (first second low high : Stamped) → 6 ≤ length kept → first ≡ get_or kept 0 first → second ≡ get_or kept 1 second →
-    low ≡ get_or kept 4 low → high ≡ get_or kept 5 high → first.1 ≡ 0xb5 → second.1 ≡ 0x62 → low.1 + 256 * high.1 ≤ 2048 →
-    (piece : List ℕ) → length piece < low.1 + 256 * high.1 + 8 - length kept → head_of (bytes_of kept ++ piece) ≡ Pending
+pub waits : (kept : List ℕ) (first second low high : ℕ) → 6 ≤ length kept → first ≡ get_or kept 0 0 → second ≡ get_or kept 1 0 →
+    low ≡ get_or kept 4 0 → high ≡ get_or kept 5 0 → first ≡ 0xb5 → second ≡ 0x62 → low + 256 * high ≤ 2048 →
+    (piece : List ℕ) → length piece < low + 256 * high + 8 - length kept → head_of (kept ++ piece) ≡ Pending
 waits [] first second low high long is_first is_second is_low is_high b5 x62 short piece more = absurd (omega arith)
 waits (a ∷ []) first second low high long is_first is_second is_low is_high b5 x62 short piece more = absurd (omega arith)
 waits (a ∷ b ∷ []) first second low high long is_first is_second is_low is_high b5 x62 short piece more = absurd (omega arith)
@@ -139,9 +149,6 @@ waits (a ∷ b ∷ c ∷ []) first second low high long is_first is_second is_lo
 waits (a ∷ b ∷ c ∷ d ∷ []) first second low high long is_first is_second is_low is_high b5 x62 short piece more = absurd (omega arith)
 waits (a ∷ b ∷ c ∷ d ∷ e ∷ []) first second low high long is_first is_second is_low is_high b5 x62 short piece more = absurd (omega arith)
 waits (a ∷ b ∷ c ∷ d ∷ e ∷ f ∷ kept) first second low high long is_first is_second is_low is_high b5 x62 short piece more =
-    let a_is : a.1 ≡ 0xb5 = ap (λ s. s.1) (sym is_first) ∙ b5 in
-    let b_is : b.1 ≡ 0x62 = ap (λ s. s.1) (sym is_second) ∙ x62 in
-    let e_is : low.1 ≡ e.1 = ap (λ s. s.1) is_low in
-    let f_is : high.1 ≡ f.1 = ap (λ s. s.1) is_high in
-    rw (a_is, b_is) (frame_waits c.1 d.1 e.1 f.1 (bytes_of kept ++ piece) (omega arith)
-    (omega (arith, length-append (bytes_of kept) piece, length-bytes_of kept)))
+    let a_is : a ≡ 0xb5 = sym is_first ∙ b5 in
+    let b_is : b ≡ 0x62 = sym is_second ∙ x62 in
+    rw (a_is, b_is) (frame_waits c d e f (kept ++ piece) (omega arith) (omega (arith, length-append kept piece)))

@@ -1,5 +1,5 @@
 -- The first items of a list go, and the others move to its front.
-use Rattle.std.proofs.Common.{◌≡◌, ◌≤◌, ◌<◌, ◌+◌, ◌-◌, ℕ, List, ◌++◌, length, take, drop, min, refl, inl, inr, sym, ap, arith, ◌∙◌, zero-add, take_all}
+use Rattle.std.proofs.Common.{◌≡◌, ◌+◌, ◌-◌, ℕ, List, length, take, drop, min, inl, inr, sym, ap, arith, ◌∙◌, zero-add, take_all}
 use Rattle.std.proofs.lemmas.Bool.{cases_lt}
 use Rattle.std.proofs.lemmas.List.{drop_all, length-drop}
 use Rattle.std.proofs.lemmas.List.Edits.{take-paste}

@@ -1,5 +1,7 @@
 -- What a list begins with, under more bytes: from the laws of the two shapes.
-use Rattle.std.proofs.Common.{◌≡◌, ◌≤◌, ◌==◌, ◌⊎◌, ◌↔◌, ℕ, List, [], ◌∷◌, ◌++◌, length, refl, inl, inr, ap, arith}
+use Rattle.std.proofs.Common.{◌≡◌, ◌≤◌, ◌<◌, ◌+◌, ◌-◌, ◌==◌, ◌||◌, ◌⊎◌, ◌↔◌, ℕ, zero, suc, true, false, List, [], ◌∷◌, ◌++◌, length, drop, Some, None, get_or, slice_index, refl, inl, inr, sym, subst, ap, arith, ◌∙◌}
+use Rattle.std.proofs.lemmas.List.{drop_all, drop_more, drop-drop, length-drop}
+use Rattle.memchr.specs.Find.{Nowhere, Passes, IsFirstByte, is_byte2}
 use Rattle.std.proofs.lemmas.Bool.{cases_Bool, eqb-true}
 use Rattle.nmea_frame.specs.declared.sentence.Shape.{Shape as SentenceShape}
 use Rattle.nmea_frame.specs.declared.sentence.Shape.TheVariants.{Whole as WholeSentence, Pending as PendingSentence, No as NoSentence}
@@ -13,6 +15,7 @@ use Rattle.gps_report.specs.declared.packet.PacketKind.{PacketKind}
 use Rattle.gps_report.specs.declared.packet.PacketKind.TheVariants.{Nmea, Ubx}
 use Rattle.packet_cut.specs.declared.head.Head.TheVariants.{Packet, Pending, Junk}
 use Rattle.packet_cut.specs.Heads.{first_of, head_of}
+use Rattle.packet_cut.specs.Next.{JunkUpTo}
 
 -- at most one of the two shapes says something, or nothing is there yet
 data Alone : SentenceShape → FrameShape → Type 0 where
@@ -149,3 +152,70 @@ pending_short bytes e = go (pending_only (sentence_shape bytes) (frame_shape byt
 pub nothing_pending : head_of [] ≡ Pending
 unfolding head_of sentence_shape frame_shape
 nothing_pending = refl
+
+-- ---- by the first byte
+-- a byte with which neither a sentence nor a frame begins is junk, whatever follows it
+junk_first : (c : ℕ) (text : List ℕ) → (c == 36) ≡ false → (c == 0xb5) ≡ false → head_of (c ∷ text) ≡ Junk
+unfolding head_of sentence_shape frame_shape
+junk_first c text no_dollar no_sync = rw (no_dollar, no_sync) refl
+
+pub junk_at : (bytes : List ℕ) (place byte : ℕ) → place < length bytes → byte ≡ get_or bytes place byte → (byte == 36) ≡ false → (byte == 0xb5) ≡ false
+    → Junk ≡ head_of (drop place bytes)
+junk_at bytes place byte within is no_dollar no_sync =
+    sym (ap head_of (drop_more bytes place byte within ∙ ap (λ x. x ∷ drop (place + 1) bytes) (sym is)) ∙ junk_first byte (drop (place + 1) bytes) no_dollar no_sync)
+
+sentence_first : (text : List ℕ) → first_of (sentence_shape (36 ∷ text)) NoFrame ≡ head_of (36 ∷ text)
+unfolding head_of frame_shape
+sentence_first text = refl
+
+pub sentence_at_place : (bytes : List ℕ) (place byte : ℕ) (shape : SentenceShape) → place < length bytes → byte ≡ get_or bytes place byte → byte ≡ 36
+    → shape ≡ sentence_shape (drop place bytes) → first_of shape NoFrame ≡ head_of (drop place bytes)
+sentence_at_place bytes place byte shape within is dollar known =
+    let here : drop place bytes ≡ 36 ∷ drop (place + 1) bytes = drop_more bytes place byte within ∙ ap (λ x. x ∷ drop (place + 1) bytes) (sym is ∙ dollar) in
+    ap (λ s. first_of s NoFrame) (known ∙ ap sentence_shape here) ∙ sentence_first (drop (place + 1) bytes) ∙ ap head_of (sym here)
+
+frame_first_byte : (text : List ℕ) → first_of NoSentence (frame_shape (0xb5 ∷ text)) ≡ head_of (0xb5 ∷ text)
+unfolding head_of sentence_shape
+frame_first_byte text = refl
+
+pub frame_at_place : (bytes : List ℕ) (place byte : ℕ) (shape : FrameShape) → place < length bytes → byte ≡ get_or bytes place byte → byte ≡ 0xb5
+    → shape ≡ frame_shape (drop place bytes) → first_of NoSentence shape ≡ head_of (drop place bytes)
+frame_at_place bytes place byte shape within is sync known =
+    let here : drop place bytes ≡ 0xb5 ∷ drop (place + 1) bytes = drop_more bytes place byte within ∙ ap (λ x. x ∷ drop (place + 1) bytes) (sym is ∙ sync) in
+    ap (first_of NoSentence) (known ∙ ap frame_shape here) ∙ frame_first_byte (drop (place + 1) bytes) ∙ ap head_of (sym here)
+
+pub nothing_at : (bytes : List ℕ) (place : ℕ) → length bytes ≤ place → Pending ≡ head_of (drop place bytes)
+nothing_at bytes place over = sym (ap head_of (drop_all place bytes over) ∙ nothing_pending)
+
+-- ---- the search for a first byte
+quiet : (bytes : List ℕ) (k : ℕ) → k < length bytes → ¬ (is_byte2 36 0xb5 (slice_index bytes k) ≡ true) → head_of (drop k bytes) ≡ Junk
+quiet [] k within fails = absurd (omega arith)
+quiet (c ∷ bytes) zero within fails = elim (cases_Bool (c == 36)) [
+  | inl dollar ↦ absurd (fails (ap (λ b. b || (c == 0xb5)) dollar))
+  | inr no_dollar ↦ elim (cases_Bool (c == 0xb5)) [
+    | inl sync ↦ absurd (fails (ap (λ b. b || (c == 0xb5)) no_dollar ∙ sync))
+    | inr no_sync ↦ junk_first c bytes no_dollar no_sync
+  ]
+]
+quiet (c ∷ bytes) (suc k) within fails = quiet bytes k (omega (arith, within)) fails
+
+quiet_up_to : (bytes : List ℕ) (place count : ℕ) → place + count ≤ length bytes → Nowhere (Passes (is_byte2 36 0xb5) (drop place bytes)) 0 count
+    → JunkUpTo bytes place (place + count)
+quiet_up_to bytes place count within nowhere = record {
+  forward = omega arith;
+  inside = within;
+  junk = λ k from to.
+      let here : place + (k - place) ≡ k = omega (arith, from) in
+      ap head_of (ap (λ n. drop n bytes) (sym here) ∙ sym (drop-drop (k - place) place bytes))
+      ∙ quiet (drop place bytes) (k - place) (omega (arith, from, to, within, length-drop place bytes)) (nowhere (k - place) (omega arith) (omega (arith, from, to)));
+}
+
+pub first_byte_found : (bytes : List ℕ) (place behind : ℕ) → place ≤ length bytes → IsFirstByte (is_byte2 36 0xb5) (drop place bytes) (Some behind)
+    → JunkUpTo bytes place (place + behind)
+first_byte_found bytes place behind within is =
+    quiet_up_to bytes place behind (omega (arith, within, is.0.high, length-drop place bytes)) is.0.before
+
+pub no_first_byte : (bytes : List ℕ) (place : ℕ) → place ≤ length bytes → IsFirstByte (is_byte2 36 0xb5) (drop place bytes) None → JunkUpTo bytes place (length bytes)
+no_first_byte bytes place within is =
+    let all : place + length (drop place bytes) ≡ length bytes = omega (arith, within, length-drop place bytes) in
+    subst (JunkUpTo bytes place) all (quiet_up_to bytes place (length (drop place bytes)) (omega (arith, all)) is)

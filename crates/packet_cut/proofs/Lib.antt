@@ -6,3 +6,4 @@ mod Steps
 mod CutLaws
 mod Rule
 mod Fronts
+mod Runs

@@ -1,12 +1,10 @@
 -- The rule of packets, by what a list begins with.
-use Rattle.std.proofs.Common.{◌≡◌, ◌≤◌, ◌<◌, ◌+◌, ℕ, List, [], ◌∷◌, length, drop, map, refl, sym, ap, arith, ◌∙◌}
-use Rattle.std.proofs.lemmas.List.{length-drop}
+use Rattle.std.proofs.Common.{◌≡◌, ◌≤◌, ◌+◌, ℕ, List, [], ◌∷◌, length, drop, map, ap, arith, ◌∙◌}
 use Rattle.gps_report.specs.declared.packet.PacketKind.{PacketKind}
 use Rattle.packet_cut.specs.declared.head.Head.TheVariants.{Packet, Pending, Junk}
-use Rattle.packet_cut.specs.declared.found.Found.{Found}
 use Rattle.packet_cut.specs.Heads.{head_of}
-use Rattle.packet_cut.specs.Packets.{parts_from, rest_from, found, found_of, moved, rest_of_bytes}
-use Rattle.packet_cut.proofs.HeadLaws.{nothing_pending, packet_least}
+use Rattle.packet_cut.specs.Packets.{parts_from, found, found_of, moved, rest_of_bytes}
+use Rattle.packet_cut.proofs.HeadLaws.{packet_least}
 use Rattle.packet_cut.proofs.PacketLaws.{parts_junk, rest_junk}
 use Rattle.packet_cut.proofs.StreamLaws.{found_moved}
 use Rattle.packet_cut.proofs.Steps.{packet_to, packet_rest, pending_parts, pending_rest}

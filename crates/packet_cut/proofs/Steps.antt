@@ -29,13 +29,18 @@ junk_some bytes place e = elim (cases_lt place (length bytes)) [
   | inr past ↦ let none : drop place bytes ≡ [] = drop_of_length-le bytes past in cc nothing_pending
 ]
 
-pub junk_more : (bytes : List ℕ) (place start : ℕ) → JunkUpTo bytes place start → head_of (drop start bytes) ≡ Junk → JunkUpTo bytes place (start + 1)
-junk_more bytes place start before e = record {
-  forward = omega (arith, before.forward);
-  inside = omega (arith, junk_some bytes start e);
+-- junk up to a place, a byte of it there, and junk behind that byte
+pub junk_over : (bytes : List ℕ) (place start next : ℕ) → JunkUpTo bytes place start → head_of (drop start bytes) ≡ Junk → JunkUpTo bytes (start + 1) next
+    → JunkUpTo bytes place next
+junk_over bytes place start next before e behind = record {
+  forward = omega (arith, before.forward, behind.forward);
+  inside = behind.inside;
   junk = λ k from to. elim (cases_lt k start) [
     | inl less ↦ before.junk k from less
-    | inr more ↦ let is : k ≡ start = omega arith in rw is e
+    | inr more ↦ elim (cases_lt start k) [
+      | inl later ↦ behind.junk k (omega arith) to
+      | inr same ↦ let is : k ≡ start = omega arith in rw is e
+    ]
   ];
 }
 

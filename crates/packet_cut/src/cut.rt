@@ -1,15 +1,17 @@
 ghost use Rattle.std.specs.Prelude.{◌≡◌, ◌≤◌, ◌<◌, ◌+◌, ◌++◌, ℕ, List, [], IfOk, IsTrue, length, map, drop};
 ghost use Rattle.packet_cut.specs.Heads.{head_of};
 ghost use Rattle.packet_cut.specs.Packets.{bytes_of, stamped, packets_of, rest_of, placed_packet};
-ghost use Rattle.packet_cut.specs.Standing.{IsCut, IsFound, stamp_in, stream_of, applied};
+ghost use Rattle.packet_cut.specs.Standing.{IsCut, IsFound, stream_of};
 
 use crate::Head;
-use crate::change::CutterChange;
+use crate::change::{CutterChange, piece_in};
+use crate::kept::Kept;
 use crate::next::{Next, next_from};
 use crate::placed::{Placed, PlacedCut, copies_of};
 use gps_fixed::{NoMemory, Stamp};
 use gps_report::Packet;
 use std::alloc::Global;
+use ubx_frame::FrameFinder;
 
 /// Few packets are shorter; so there is room for all of a piece at once, mostly.
 const USUAL_PACKET: usize = 48;
@@ -32,23 +34,19 @@ struct Places {
 
 /// All packets, each with the stamp of its first byte.
 #[tactic(auto, using(crate::proofs::Steps::cut_begin))]
-fn places_in(
-    alloc: Global,
-    kept: &[(Stamp, u8)],
-    at: Stamp,
-    bytes: &[u8],
-) -> Result<Places, NoMemory>
+fn places_in(alloc: Global, kept: &Kept, at: Stamp, bytes: &[u8]) -> Result<Places, NoMemory>
     requires { bytes.now ≡ bytes_of (stream_of kept.now at bytes.now) }
     ensures { IfOk result (λ found. IsFound (stream_of kept.now at bytes.now) (map (placed_packet bytes.now) found.placed.items) found.rest) }
 {
     let mut placed = Vec::with_capacity(alloc, bytes.len() / USUAL_PACKET)?;
+    let mut frames = FrameFinder::new(bytes);
     let mut place = 0usize;
     'packets: loop {
-        match next_from(bytes, place) {
+        match next_from(&mut frames, bytes, place) {
             Next::Packet(found) => {
                 placed.push(Placed {
                     kind: found.kind,
-                    at: stamp_at(kept, at, found.start),
+                    at: kept.stamp_at(found.start, at),
                     start: found.start,
                     len: found.len,
                 })?;
@@ -59,20 +57,10 @@ fn places_in(
     }
 }
 
-/// The stamp of the byte at a place.
-fn stamp_at(kept: &[(Stamp, u8)], at: Stamp, place: usize) -> Stamp
-    ensures { result ≡ stamp_in kept.now at place }
-{
-    match kept.get(place) {
-        Some(byte) => byte.0,
-        None => at,
-    }
-}
-
 /// The cut of a piece that follows what was kept.
 pub(crate) fn cut_behind(
     alloc: Global,
-    kept: &[(Stamp, u8)],
+    kept: &Kept,
     at: Stamp,
     piece: &[u8],
 ) -> Result<PacketCut, NoMemory>
@@ -90,25 +78,26 @@ pub(crate) fn cut_behind(
 /// The same, by places.
 pub(crate) fn place_behind(
     alloc: Global,
-    kept: &[(Stamp, u8)],
+    kept: &Kept,
     at: Stamp,
     piece: &[u8],
 ) -> Result<PlacedCut, NoMemory>
     ensures { IfOk result (λ cut. IsCut kept.now at piece.now (map (placed_packet cut.bytes.items) cut.placed.items) cut.change) }
 {
-    match kept {
-        [] => place_piece(alloc, at, piece),
-        _ if is_waiting(kept, piece.len()) => place_nothing(alloc, kept, at, piece),
+    match kept.bytes() {
+        [] => place_piece(alloc, kept, at, piece),
+        bytes if is_waiting(bytes, piece.len()) => place_nothing(alloc, kept, at, piece),
         _ => place_joined(alloc, kept, at, piece),
     }
 }
 
 /// The cut if nothing was kept.
-fn place_piece(alloc: Global, at: Stamp, piece: &[u8]) -> Result<PlacedCut, NoMemory>
-    ensures { IfOk result (λ cut. IsCut [] at piece.now (map (placed_packet cut.bytes.items) cut.placed.items) cut.change) }
+fn place_piece(alloc: Global, kept: &Kept, at: Stamp, piece: &[u8]) -> Result<PlacedCut, NoMemory>
+    requires { length kept.now ≡ 0 }
+    ensures { IfOk result (λ cut. IsCut kept.now at piece.now (map (placed_packet cut.bytes.items) cut.placed.items) cut.change) }
 {
-    let bytes = joined(alloc, &[], piece)?;
-    let Places { placed, rest } = places_in(alloc, &[], at, bytes.as_slice())?;
+    let bytes = piece_in(alloc, piece.len(), piece)?;
+    let Places { placed, rest } = places_in(alloc, kept, at, bytes.as_slice())?;
     let change = CutterChange::anew(alloc, at, behind(piece, rest))?;
     Ok(PlacedCut {
         bytes,
@@ -118,12 +107,7 @@ fn place_piece(alloc: Global, at: Stamp, piece: &[u8]) -> Result<PlacedCut, NoMe
 }
 
 /// The cut if a frame still waits for more than the piece.
-fn place_nothing(
-    alloc: Global,
-    kept: &[(Stamp, u8)],
-    at: Stamp,
-    piece: &[u8],
-) -> Result<PlacedCut, NoMemory>
+fn place_nothing(alloc: Global, kept: &Kept, at: Stamp, piece: &[u8]) -> Result<PlacedCut, NoMemory>
     requires some { 0 < length kept.now }
     requires pending { head_of (bytes_of kept.now ++ piece.now) ≡ Head.Pending }
     ensures { IfOk result (λ cut. IsCut kept.now at piece.now (map (placed_packet cut.bytes.items) cut.placed.items) cut.change) }
@@ -137,18 +121,13 @@ fn place_nothing(
 }
 
 /// The cut of the kept bytes and the piece as one list.
-fn place_joined(
-    alloc: Global,
-    kept: &[(Stamp, u8)],
-    at: Stamp,
-    piece: &[u8],
-) -> Result<PlacedCut, NoMemory>
+fn place_joined(alloc: Global, kept: &Kept, at: Stamp, piece: &[u8]) -> Result<PlacedCut, NoMemory>
     requires { 0 < length kept.now }
     ensures { IfOk result (λ cut. IsCut kept.now at piece.now (map (placed_packet cut.bytes.items) cut.placed.items) cut.change) }
 {
-    let bytes = joined(alloc, kept, piece)?;
+    let bytes = joined(alloc, kept.bytes(), piece)?;
     let Places { placed, rest } = places_in(alloc, kept, at, bytes.as_slice())?;
-    let gone = rest.min(kept.len());
+    let gone = rest.min(kept.bytes().len());
     let change = CutterChange::onward(alloc, gone, at, behind(piece, rest - gone))?;
     Ok(PlacedCut {
         bytes,
@@ -158,24 +137,22 @@ fn place_joined(
 }
 
 /// The kept bytes and those of the piece.
-fn joined(alloc: Global, kept: &[(Stamp, u8)], piece: &[u8]) -> Result<Vec<u8>, NoMemory>
-    ensures { IfOk result (λ all. all.items ≡ bytes_of kept.now ++ piece.now) }
+fn joined(alloc: Global, kept: &[u8], piece: &[u8]) -> Result<Vec<u8>, NoMemory>
+    ensures { IfOk result (λ all. all.items ≡ kept.now ++ piece.now) }
 {
     let mut all = Vec::with_capacity(alloc, kept.len().saturating_add(piece.len()))?;
-    'kept: for byte in kept {
-        all.push_reserved(byte.1);
-    }
+    all.extend_from_slice(kept)?;
     all.extend_from_slice(piece)?;
     Ok(all)
 }
 
 /// Whether the kept bytes begin a frame that the given number of further bytes does not end.
-fn is_waiting(kept: &[(Stamp, u8)], more: usize) -> bool
-    ensures { IsTrue result → (piece : List ℕ) → length piece ≡ more → head_of (bytes_of kept.now ++ piece) ≡ Head.Pending }
+fn is_waiting(kept: &[u8], more: usize) -> bool
+    ensures { IsTrue result → (piece : List ℕ) → length piece ≡ more → head_of (kept.now ++ piece) ≡ Head.Pending }
 {
     match kept {
-        [first, second, _, _, low, high, ..] if first.1 == 0xB5 && second.1 == 0x62 => {
-            let len = usize::from(low.1) + 256 * usize::from(high.1);
+        [first, second, _, _, low, high, ..] if *first == 0xB5 && *second == 0x62 => {
+            let len = usize::from(*low) + 256 * usize::from(*high);
             len <= 2048 && more < (len + 8).saturating_sub(kept.len())
         }
         _ => false,

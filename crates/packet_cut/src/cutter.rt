@@ -1,9 +1,10 @@
-ghost use Rattle.std.specs.Prelude.{◌≡◌, ◌+◌, ◌*◌, ◌≤◌, ◌<◌, ◌++◌, [], List, IfOk, OnOk, OnErr, length, drop, map, vec_len, vec_capacity};
+ghost use Rattle.std.specs.Prelude.{◌≡◌, ◌+◌, ◌*◌, ◌≤◌, ◌++◌, [], List, IfOk, OnOk, OnErr, length, map};
 ghost use Rattle.packet_cut.specs.Packets.{Stamped, most_pending, stamped, packets_of, rest_of, placed_packet};
 ghost use Rattle.packet_cut.specs.Standing.{StandsFor, Gains, IsCut, Fits, applied};
 
 use crate::change::CutterChange;
 use crate::cut::{PacketCut, cut_behind, place_behind};
+use crate::kept::Kept;
 use crate::placed::PlacedCut;
 use gps_fixed::{NoMemory, Stamp};
 use gps_report::Packet;
@@ -14,19 +15,18 @@ use std::marker::Model;
 #[derive(Drop)]
 pub struct Cutter {
     alloc: Global,
-    kept: Vec<(Stamp, u8)>,
+    kept: Kept,
 }
 
 impl Model for Cutter {
-    ghost use Rattle.std.specs.Prelude.{◌≤◌, ◌<◌, List, length, vec_capacity};
+    ghost use Rattle.std.specs.Prelude.{List, ◌≤◌, length};
     ghost use Rattle.packet_cut.specs.Packets.{Stamped, most_pending};
 
     ghost Value = { List Stamped };
 
-    ghost view = { λ c. c.kept.items };
+    ghost view = { λ c. c.kept };
 
-    // If bytes are kept, there is room for all that may ever be pending.
-    ghost invariant = { λ c. (length c.kept.items ≤ most_pending) × (0 < length c.kept.items → most_pending ≤ vec_capacity c.kept) };
+    ghost invariant = { λ c. length c.kept ≤ most_pending };
 }
 
 impl Cutter {
@@ -37,7 +37,7 @@ impl Cutter {
     {
         Cutter {
             alloc,
-            kept: Vec::new(alloc),
+            kept: Kept::new(alloc),
         }
     }
 
@@ -51,14 +51,14 @@ impl Cutter {
         ensures few { IfOk result (λ cut. 6 * length cut.packets.items ≤ length self.now + length piece.now) }
         ensures most { length self.now ≤ most_pending }
     {
-        cut_behind(self.alloc, self.kept.as_slice(), at, piece)
+        cut_behind(self.alloc, &self.kept, at, piece)
     }
 
     /// The packets that a piece completes, by their places, so that none is copied; and the change that `put` makes of it. The cutter stays as it is.
     pub fn place(&self, at: Stamp, piece: &[u8]) -> Result<PlacedCut, NoMemory>
         ensures { IfOk result (λ cut. IsCut self.now at piece.now (map (placed_packet cut.bytes.items) cut.placed.items) cut.change) }
     {
-        place_behind(self.alloc, self.kept.as_slice(), at, piece)
+        place_behind(self.alloc, &self.kept, at, piece)
     }
 
     /// Makes the change of a cut. Takes no memory. The cutter must be as it was at the cut.
@@ -66,12 +66,17 @@ impl Cutter {
         requires { Fits change self.old }
         ensures { self.new ≡ applied change self.old }
     {
-        let CutterChange { anew, gone, more } = change;
+        let CutterChange {
+            anew,
+            gone,
+            at,
+            more,
+            room,
+        } = change;
         if anew {
-            self.kept = more;
+            self.kept = Kept::of_piece(at, more, room);
         } else {
-            drop_front(&mut self.kept, gone);
-            append_within(&mut self.kept, more.as_slice());
+            self.kept.shift(gone, at, more.as_slice());
         }
     }
 
@@ -97,42 +102,17 @@ impl Cutter {
         ensures rest { (stream : List Stamped) → StandsFor self.now stream → result ≡ length (rest_of stream) }
         ensures most { result ≤ most_pending }
     {
-        self.kept.len() as u32
+        self.kept.bytes().len() as u32
     }
 
     /// A cutter that stands for the same bytes.
     pub fn copy(&self) -> Result<Cutter, NoMemory>
         ensures { IfOk result (λ copy. copy ≡ self.now) }
     {
-        let mut kept = Vec::with_capacity(self.alloc, self.kept.capacity())?;
-        kept.extend_from_slice(self.kept.as_slice())?;
+        let kept = self.kept.copy(self.alloc)?;
         Ok(Cutter {
             alloc: self.alloc,
             kept,
         })
     }
-}
-
-/// Lets the first bytes go.
-#[tactic(auto, using(crate::proofs::Fronts::none_gone, crate::proofs::Fronts::front_gone))]
-fn drop_front(kept: &mut Vec<(Stamp, u8)>, count: usize)
-    ensures items { kept.new.items ≡ drop count kept.old.items }
-    ensures room { vec_capacity kept.new ≡ vec_capacity kept.old }
-{
-    let len = kept.len();
-    let count = count.min(len);
-    if count == 0 {
-        return;
-    }
-    kept.copy_within(count..len, 0);
-    kept.truncate(len - count);
-}
-
-/// Adds bytes for which there is room.
-fn append_within(kept: &mut Vec<(Stamp, u8)>, more: &[(Stamp, u8)])
-    requires { vec_len kept.old + length more.now ≤ vec_capacity kept.old }
-    ensures items { kept.new.items ≡ kept.old.items ++ more.now }
-    ensures room { vec_capacity kept.old ≤ vec_capacity kept.new }
-{
-    let _added = kept.extend_from_slice(more);
 }

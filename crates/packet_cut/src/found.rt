@@ -5,6 +5,7 @@ use crate::next::{Next, next_from};
 use gps_fixed::NoMemory;
 use gps_report::PacketKind;
 use std::alloc::Global;
+use ubx_frame::FrameFinder;
 
 /// A packet by its place in a list of bytes.
 #[derive(Clone, Copy, Debug, PartialEq, Eq)]
@@ -22,9 +23,10 @@ pub fn cut_all(alloc: Global, bytes: &[u8]) -> Result<Vec<Found>, NoMemory>
     ensures { IfOk result (λ found. found.items ≡ found_of bytes.now) }
 {
     let mut found = Vec::new(alloc);
+    let mut frames = FrameFinder::new(bytes);
     let mut place = 0usize;
     'packets: loop {
-        match next_from(bytes, place) {
+        match next_from(&mut frames, bytes, place) {
             Next::Packet(packet) => {
                 found.push(packet)?;
                 place = packet.start + packet.len;

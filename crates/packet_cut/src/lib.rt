@@ -10,6 +10,7 @@ mod cut;
 mod cutter;
 mod found;
 mod head;
+mod kept;
 mod laws;
 mod next;
 mod placed;

@@ -15,10 +15,10 @@ pub record RowsAre (columns earlier done : List ℕ) : Type 0 where
   pub width_too : length earlier ≡ 16
 
 -- ---- byte by byte
-unfoldable pair : ℕ → ℕ → Sums
+unfoldable pub pair : ℕ → ℕ → Sums
 pair a b = record { a = a; b = b }
 
-pair_is : (a b x y : ℕ) → a ≡ x → b ≡ y → pair a b ≡ pair x y
+pub pair_is : (a b x y : ℕ) → a ≡ x → b ≡ y → pair a b ≡ pair x y
 unfolding pair
 pair_is a b x y p q = cc
 
@@ -32,7 +32,7 @@ b_step a b x n w =
     let times : n * (a + x) ≡ n * (256 * ((a + x) / 256) + (a + x) % 256) = ap (λ k. n * k) whole in
     omega arith
 
-plain : (a b : ℕ) (xs : List ℕ) → a < 256 → b < 256
+pub plain : (a b : ℕ) (xs : List ℕ) → a < 256 → b < 256
     → fold after_byte (pair a b) xs ≡ pair ((a + sum_l xs) % 256) ((b + length xs * a + weighted xs) % 256)
 unfolding pair
 plain a b [] ha hb = pair_is a b _ _ (omega arith) (omega arith)
@@ -40,7 +40,7 @@ plain a b (x ∷ xs) ha hb =
     plain ((a + x) % 256) ((b + (a + x) % 256) % 256) xs (omega arith) (omega arith)
     ∙ pair_is _ _ _ _ (a_step a x (sum_l xs)) (b_step a b x (length xs) (weighted xs))
 
-sums_are : (xs : List ℕ) → sums_of xs ≡ pair (sum_l xs % 256) (weighted xs % 256)
+pub sums_are : (xs : List ℕ) → sums_of xs ≡ pair (sum_l xs % 256) (weighted xs % 256)
 unfolding sums_of pair
 sums_are xs = plain 0 0 xs (omega arith) (omega arith) ∙ pair_is _ _ _ _ (from_zero (sum_l xs)) (from_zeros (length xs) (weighted xs))
   where

@@ -1,3 +1,4 @@
 pub mod Checksum
 pub mod Frame
 pub mod Scan
+pub mod Window

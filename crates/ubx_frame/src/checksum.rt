@@ -4,7 +4,7 @@
 //! columns are added side by side. A byte counts in the second sum once for each byte from it to the end, so sixteen times for each row
 //! after its own, and in its own row by its place.
 
-ghost use Rattle.std.specs.Prelude.{◌≡◌, ◌+◌, ◌*◌, ◌%◌, ◌≤◌, drop, fold, length, take};
+ghost use Rattle.std.specs.Prelude.{◌≡◌, ℕ, List, ◌+◌, ◌*◌, ◌%◌, ◌≤◌, drop, fold, length, take};
 ghost use Rattle.std.specs.Simd.Lanes.{sum_l, zip2};
 ghost use Rattle.ubx_frame.specs.Checksum.{after_byte, sums_of, weighted};
 ghost use Rattle.ubx_frame.specs.Scan.{is_right};
@@ -89,16 +89,57 @@ fn add_each(sums: Sums, bytes: &[u8]) -> Sums
     })
 }
 
+/// The sums after further bytes.
+pub(crate) fn sums_after(sums: Sums, more: &[u8]) -> Sums
+    ensures { result ≡ fold after_byte sums more.now }
+{
+    if more.len() < LANES {
+        return add_each(sums, more);
+    }
+    let own = sum_up(more);
+    Sums {
+        a: sums.a.wrapping_add(own.a),
+        b: sums
+            .b
+            .wrapping_add(times(more.len(), sums.a))
+            .wrapping_add(own.b),
+    }
+}
+
+/// The sums of the last bytes, this number of them, from the sums before them and those after them.
+pub(crate) fn sums_since(before: Sums, after: Sums, count: usize) -> Sums
+    ensures { (more : List ℕ) → length more ≡ count → after ≡ fold after_byte before more → result ≡ sums_of more }
+{
+    Sums {
+        a: after.a.wrapping_sub(before.a),
+        b: after
+            .b
+            .wrapping_sub(before.b)
+            .wrapping_sub(times(count, before.a)),
+    }
+}
+
+/// A product modulo 256.
+fn times(count: usize, byte: u8) -> u8
+    ensures { result ≡ count * byte % 256 }
+{
+    ((count % 256) as u8).wrapping_mul(byte)
+}
+
 /// Whether the bytes after a frame's payload begin with the sums of what they cover.
-#[tactic(auto, unfolding(crate::specs::Scan::is_right))]
 pub(crate) fn is_right(covered: &[u8], behind: &[u8]) -> bool
     ensures { result ≡ is_right covered.now behind.now }
 {
+    are_at(sum_up(covered), behind)
+}
+
+/// Whether a list begins with these sums.
+#[tactic(auto, unfolding(crate::specs::Scan::is_right))]
+pub(crate) fn are_at(sums: Sums, behind: &[u8]) -> bool
+    ensures { (covered : List ℕ) → sums ≡ sums_of covered → result ≡ is_right covered behind.now }
+{
     match behind {
-        [ck_a, ck_b, ..] => {
-            let sums = sum_up(covered);
-            sums.a == *ck_a && sums.b == *ck_b
-        }
+        [ck_a, ck_b, ..] => sums.a == *ck_a && sums.b == *ck_b,
         _ => false,
     }
 }

@@ -5,7 +5,7 @@ ghost use Rattle.ubx_frame.specs.Scan.{shape_of, shape_behind_sync, shape_of_len
 use crate::checksum::is_right;
 
 /// The most bytes of a payload.
-const LONGEST_PAYLOAD: usize = 2048;
+pub(crate) const LONGEST_PAYLOAD: usize = 2048;
 
 /// What a list of bytes begins with.
 #[derive(Clone, Copy, Debug, PartialEq, Eq)]

@@ -5,8 +5,11 @@
 #![tactic(auto)]
 
 mod checksum;
+mod finder;
 mod frame;
 mod laws;
+mod window;
 
+pub use finder::FrameFinder;
 pub use frame::{Shape, frame_at};
 pub use laws::{parts_are_read, shapes_are_stable};

@@ -1,4 +1,4 @@
-use Rattle.std.proofs.Common.{◌≡◌, fold, ◌+◌, ◌-◌, ◌≤◌, length, take, drop, length-drop, refl, ap, ◌∙◌, arith}
+use Rattle.std.proofs.Common.{fold, ◌+◌, ◌-◌, ◌≤◌, length, take, drop, length-drop, refl, ap, ◌∙◌, arith}
 use Rattle.std.proofs.lemmas.List.{take-append-drop, take_all}
 use Rattle.ubx_frame.specs.Checksum.{after_byte, sums_of}
 use Rattle.ubx_frame.proofs.Rows.{row_added, rows_end}
